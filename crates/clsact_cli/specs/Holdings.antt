@@ -1,0 +1,47 @@
+-- What the shelf holds under the names of a walk, and what follows from it.
+use Rattle.std.specs.Prelude.{◌≡◌, ℕ, ◌≤◌, List, length, Option, IfSome, Some}
+use Rattle.tc_base.specs.Outside.{Held}
+use Rattle.pcap_io.specs.declared.capture.Capture.{Capture}
+use Rattle.pcap_io.specs.Captures.{IsCapture}
+use Rattle.pcap_io.specs.Written.{capture_bytes}
+use Rattle.clsact_cli.specs.declared.filter.Filter.{Filter}
+use Rattle.clsact_cli.specs.declared.status.InputKind.{InputKind}
+use Rattle.clsact_cli.specs.Command.{Names}
+use Rattle.clsact_cli.specs.declared.batch.Plan.{Plan}
+use Rattle.clsact_cli.specs.declared.batch.Plan.TheVariants.{Built}
+use Rattle.clsact_cli.specs.Batch.{plan_of}
+use Rattle.clsact_cli.specs.Broken.{IsBroken, most_packets}
+use Rattle.clsact_cli.specs.Walk.{output_of}
+use Rattle.clsact_cli.specs.Texts.{walk_text}
+
+-- these bytes stand under the name, where the shelf tells what it holds
+abbrev pub Holds : Option Held → List ℕ → List ℕ → Type 0
+Holds told name bytes = IfSome told (λ held. held name ≡ Some bytes)
+
+-- the batch under the name has this plan
+pub record HasPlan (told : Option Held) (name : List ℕ) (plan : Plan) : Type 0 where
+  pub bytes : List ℕ
+  pub held : Holds told name bytes
+  pub says : plan_of bytes ≡ plan
+
+-- the capture under the name is this one, within the limit of packets
+pub record HasCapture (told : Option Held) (name : List ℕ) (capture : Capture) : Type 0 where
+  pub bytes : List ℕ
+  pub held : Holds told name bytes
+  pub is : IsCapture bytes capture
+  pub few : length capture.packets ≤ most_packets
+
+-- the capture under the name breaks its form, first at this place
+pub record HasBreak (told : Option Held) (name : List ℕ) (at : ℕ) (what : InputKind) : Type 0 where
+  pub bytes : List ℕ
+  pub held : Holds told name bytes
+  pub is : IsBroken bytes at what
+
+-- what is held gives these output bytes and this text
+pub record Gives (told : Option Held) (names : Names) (output text : List ℕ) : Type 0 where
+  pub filter : Option Filter
+  pub capture : Capture
+  pub batch : HasPlan told names.batch (Built filter)
+  pub packets : HasCapture told names.capture capture
+  pub output_is : output ≡ capture_bytes (output_of filter capture)
+  pub text_is : text ≡ walk_text filter capture.packets

@@ -1,0 +1,12 @@
+pub mod Command
+pub mod Requests
+pub mod Filter
+pub mod Batch
+pub mod Stages
+pub mod Walk
+pub mod Texts
+pub mod Broken
+pub mod Ends
+pub mod Holdings
+pub mod Causes
+pub mod Answers

@@ -1,0 +1,70 @@
+ghost use Rattle.std.specs.Prelude.{◌≡◌, ◌≤◌, ◌<◌, ◌^◌, ◌++◌, ◌∷◌, [], length, if◌then◌else◌, All, IfOk, OnOk};
+ghost use Rattle.pcap_io.specs.Places.{packet_of};
+ghost use Rattle.pcap_io.specs.Captures.{AreShort};
+ghost use Rattle.clsact_cli.specs.Walk.{outcome_of, outcomes_of, passed};
+
+use crate::filter::{Filter, drops, executes};
+use pcap_io::{PacketView, Packets};
+use std::alloc::{AllocError, Global};
+use tc_base::NoMemory;
+
+/// What a walk made of one packet.
+#[derive(Clone, Copy, Debug, PartialEq, Eq)]
+pub struct Outcome {
+    /// The frame's length at the end, in bytes.
+    pub length: usize,
+    /// Whether the filter's action ran on the frame.
+    pub executed: bool,
+    /// Whether the packet was dropped. Else it passed.
+    pub dropped: bool,
+}
+
+/// What a walk made of the packets of a capture.
+#[derive(Drop)]
+pub struct Walked {
+    /// One for each packet, in order.
+    pub outcomes: Vec<Outcome>,
+    /// The packets that passed, in order.
+    pub passed: Packets,
+}
+
+fn walk_frame(filter: &Option<Filter>, frame: &[u8]) -> Outcome
+    ensures { result ≡ outcome_of filter.now frame.now }
+{
+    let executed = executes(filter, frame);
+    Outcome {
+        length: frame.len(),
+        executed,
+        dropped: drops(filter, executed),
+    }
+}
+
+// Puts the packet behind those that passed, unless it was dropped.
+fn keep(passed: &mut Packets, outcome: Outcome, packet: PacketView<'_>) -> Result<(), NoMemory>
+    ensures { OnOk result (passed.new ≡ passed.old ++ (if outcome.dropped then [] else packet_of packet.entry ∷ [])) }
+{
+    if outcome.dropped {
+        return Ok(());
+    }
+    passed.push(packet)
+}
+
+/// Walks each packet on its own.
+pub fn walk_packets(
+    alloc: Global,
+    filter: &Option<Filter>,
+    packets: &Packets,
+) -> Result<Walked, NoMemory>
+    ensures outcomes { IfOk result (λ w. w.outcomes.items ≡ outcomes_of filter.now packets.now) }
+    ensures passed { IfOk result (λ w. w.passed ≡ passed filter.now packets.now) }
+{
+    let mut outcomes = Vec::with_capacity(alloc, packets.len())?;
+    let mut passed = Packets::with_room(alloc, packets.len(), packets.byte_count())?;
+    for index in 0..packets.len() {
+        let packet = packets.get(index);
+        let made = walk_frame(filter, packet.bytes);
+        outcomes.push(made)?;
+        keep(&mut passed, made, packet)?;
+    }
+    Ok(Walked { outcomes, passed })
+}

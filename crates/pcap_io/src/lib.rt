@@ -1,0 +1,36 @@
+//! Captures in the file format of libpcap, version 2.4, with Ethernet frames: `read` gives what some
+//! bytes say or their first fault, and `write` gives the bytes of a capture.
+//!
+//! The format is laid out by offsets, so that is how `specs/Captures.antt` states it: a header of 24
+//! bytes, and then records that stand one behind the other up to the end of the bytes. `one_reading`
+//! shows that bytes are one capture at most, that bytes with a fault are none, and that bytes have one
+//! first fault at most. So an answer of `read` is the only right one.
+//!
+//! A capture may have a million packets. `Packets` therefore keeps the bytes of all of them in one
+//! buffer beside a list of places: no memory is taken for a single packet, and a frame is lent, not
+//! copied. Contracts see none of this; for them it is a list of `Packet`.
+//!
+//! Every call takes plain values and keeps no state, so each may be called from any thread. A value
+//! of `Packets` belongs to one thread at a time, or is read by many.
+//!
+//! Not promised: that there is memory. `NoMemory` may be the answer to any call that returns it.
+#![tactic(auto)]
+
+mod capture;
+mod fault;
+mod law;
+mod layout;
+mod packet_iter;
+mod packets;
+mod reading;
+#[cfg(test)]
+mod tests;
+mod writing;
+
+pub use capture::{Capture, Packet, PacketView};
+pub use fault::CaptureFault;
+pub use law::one_reading;
+pub use packet_iter::PacketIter;
+pub use packets::Packets;
+pub use reading::read;
+pub use writing::write;

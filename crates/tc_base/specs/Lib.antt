@@ -1,0 +1,4 @@
+pub mod Outside
+pub mod Counts
+pub mod MemShelf
+pub mod MemSink

@@ -1,0 +1,125 @@
+ghost use Rattle.std.specs.Prelude.{◌≡◌, ◌≢◌, ◌≤◌, ◌↔◌, None, IfOk, IfErr, vec_len, string_bytes};
+ghost use Rattle.std.specs.IoError.{error_kind};
+ghost use Rattle.std.specs.Option.{option_map};
+ghost use Rattle.tc_base.specs.Counts.{count_after_fetch, name_after_fetch};
+
+use crate::faults::Faults;
+use crate::{Fetch, Put, Shelf};
+use std::fs::{self, OpenFile};
+use std::io::{self, ErrorKind, Read};
+use std::rt::Files;
+
+/// The longest file that is read, in bytes. A length then fits 32 bits, and a fetch ends.
+const MOST_BYTES: u64 = 4_294_967_295;
+
+/// The files of the system, by path.
+///
+/// It tells nothing of what they hold, so it never answers `Missing`. A file that is not there, a
+/// directory and a file of more than 4,294,967,295 bytes are all read faults. A put replaces a file
+/// in place: it may be cut short where the put fails, and is not forced to the disk.
+#[derive(Drop)]
+pub struct FileShelf<'a, R: Files + AllocGlobal> {
+    rt: &'a R,
+    faults: Faults,
+}
+
+impl<'a, R: Files + AllocGlobal> FileShelf<'a, R> {
+    /// A shelf whose counts are 0. No file is touched.
+    pub fn new(rt: &'a R) -> Self
+        ensures read_faults { ⟦<FileShelf<'a, R> as Shelf>⟧.read_faults result ≡ 0 }
+        ensures write_faults { ⟦<FileShelf<'a, R> as Shelf>⟧.write_faults result ≡ 0 }
+        ensures failed_name { ⟦<FileShelf<'a, R> as Shelf>⟧.failed_name result ≡ None }
+    {
+        FileShelf {
+            rt,
+            faults: Faults::new(),
+        }
+    }
+}
+
+impl<R: Files + AllocGlobal> Shelf for FileShelf<'_, R> {
+    ghost held = { λ _. None };
+
+    ghost read_faults = { λ s. s.faults.read };
+
+    ghost failed_name = { λ s. option_map string_bytes s.faults.failed };
+
+    ghost write_faults = { λ s. s.faults.write };
+
+    fn fetch(&mut self, name: &str) -> Result<Vec<u8>, Fetch> {
+        let copy = String::from_str(self.rt.alloc(), name)?;
+        answer(&mut self.faults, copy, read_file(self.rt, name))
+    }
+
+    fn put(&mut self, name: &str, bytes: &[u8]) -> Result<(), Put> {
+        match fs::write(self.rt, name, bytes) {
+            Ok(()) => Ok(()),
+            Err(_) => Err(self.faults.put_failed()),
+        }
+    }
+}
+
+// What a fetch of `name` answers after this read. Want of memory is no fault of the file.
+fn answer(faults: &mut Faults, name: String, read: io::Result<Vec<u8>>) -> Result<Vec<u8>, Fetch>
+    ensures bytes { IfOk result (λ bytes. read ≡ Ok bytes) }
+    ensures later { faults.old.read ≤ faults.new.read }
+    ensures read { faults.new.read ≡ count_after_fetch faults.old.read result }
+    ensures failed { faults.new.failed ≡ name_after_fetch faults.old.failed name result }
+    ensures write { faults.new.write ≡ faults.old.write }
+    ensures never_missing { result ≢ Err Fetch.Missing }
+    ensures memory { IfErr read (λ e. (result ≡ Err Fetch.NoMemory) ↔ (error_kind e ≡ ErrorKind.OutOfMemory)) }
+{
+    match read {
+        Ok(bytes) => Ok(bytes),
+        Err(e) if e.kind() == ErrorKind::OutOfMemory => Err(Fetch::NoMemory),
+        Err(_) => Err(faults.fetch_failed(name)),
+    }
+}
+
+// The bytes of a file. One that tells a greater length is refused before a byte is read, and one
+// that tells none is read up to the first byte too many. The length that it tells is reserved once,
+// with one byte more, so that the end is found in the room at hand.
+fn read_file<R: Files + AllocGlobal>(rt: &R, name: &str) -> io::Result<Vec<u8>>
+    ensures { IfOk result (λ bytes. vec_len bytes ≤ MOST_BYTES) }
+{
+    let file = fs::open(rt, name)?;
+    let told = file.metadata()?.len();
+    if told > MOST_BYTES {
+        return Err(io::Error::from(ErrorKind::FileTooLarge));
+    }
+    let mut bytes = Vec::with_capacity(rt.alloc(), told as usize + 1)?;
+    file.take(MOST_BYTES + 1).read_to_end(&mut bytes)?;
+    if bytes.len() as u64 > MOST_BYTES {
+        return Err(io::Error::from(ErrorKind::FileTooLarge));
+    }
+    Ok(bytes)
+}
+
+#[cfg(test)]
+mod tests {
+    use super::*;
+    use std::test::Fail;
+    use std::{env, process};
+
+    // No clause knows what the system's files hold, nor which of them are faults.
+    #[test]
+    fn reads_what_it_put_and_counts_faults(rt: HostRuntime) -> Result<(), Fail> {
+        let folder = env::temp_dir(&rt)?;
+        let name = format!(in rt.alloc(); "file-shelf-{}", process::id(rt.process()))?;
+        let path = folder.join(rt.alloc(), name.as_str())?;
+        let missing = folder.join(rt.alloc(), "no-such-file")?;
+        let mut shelf = FileShelf::new(&rt);
+        for bytes in [b"longer than the next".as_slice(), b"bytes".as_slice()] {
+            shelf.put(path.as_str(), bytes)?;
+            assert_eq!(rt; shelf.fetch(path.as_str())?.as_slice(), bytes);
+        }
+        fs::create(&rt, path.as_path())?.set_len(MOST_BYTES + 1)?;
+        for bad in [path.as_str(), missing.as_str(), folder.as_str()] {
+            assert_eq!(rt; shelf.fetch(bad).err(), Some(Fetch::Failed), "{bad}");
+        }
+        fs::remove_file(&rt, path.as_path())?;
+        assert_eq!(rt; shelf.put(folder.as_str(), b""), Err(Put::Failed));
+        assert_eq!(rt; (shelf.faults.read, shelf.faults.write), (3, 1));
+        Ok(())
+    }
+}

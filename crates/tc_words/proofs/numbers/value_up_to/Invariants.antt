@@ -1,0 +1,9 @@
+use Rattle.std.proofs.Common.{◌≡◌, ◌≤◌, take}
+use Rattle.tc_words.specs.Numbers.{digits_value}
+use Rattle.tc_words.proofs.numbers.value_up_to.Given as goal
+
+abbrev pub invariant-loop-digit : goal.invariant-loop-digit
+invariant-loop-digit l = record {
+  value : l.value ≡ digits_value (take l.digit-index l.word);
+  most : l.value ≤ l.most;
+}

@@ -1,0 +1,52 @@
+//! Where a byte string is to be cut.
+ghost use Rattle.std.specs.Prelude.{◌≡◌, ◌==◌, ◌+◌, List, ℕ, length, position, count_by, Option, take, drop};
+ghost use Rattle.std.specs.Option.{option_map};
+ghost use Rattle.std.specs.Borrow.{Bor};
+ghost use Rattle.tc_words.specs.Lines.{is_blank, uncommented, cut_once};
+
+// The place of the first such byte.
+pub(crate) fn place_of(bytes: &[u8], byte: u8) -> Option<usize>
+    ensures { result ≡ position (λ b. b == byte) bytes.now }
+{
+    bytes.iter().position(|b| *b == byte)
+}
+
+// What stands before the first such byte, and what behind it.
+pub(crate) fn cut_at(bytes: &[u8], byte: u8) -> Option<(&[u8], &[u8])>
+    ensures { option_map (λ (parts : Bor (List ℕ) × Bor (List ℕ)). (parts.0.now, parts.1.now)) result ≡ cut_once byte bytes.now }
+{
+    match place_of(bytes, byte) {
+        Some(at) => Some((&bytes[..at], &bytes[at + 1..])),
+        None => None,
+    }
+}
+
+fn is_blank(byte: u8) -> bool
+    ensures { result ≡ is_blank byte }
+{
+    byte == b' ' || byte == b'\t'
+}
+
+// The place of the first space or tab.
+pub(crate) fn blank_place(line: &[u8]) -> Option<usize>
+    ensures { result ≡ position is_blank line.now }
+{
+    line.iter().position(|b| is_blank(*b))
+}
+
+// How many spaces and tabs there are.
+pub(crate) fn blank_count(line: &[u8]) -> usize
+    ensures { result ≡ count_by is_blank line.now }
+{
+    line.iter().filter(|b| is_blank(**b)).count()
+}
+
+// A line up to its comment.
+pub(crate) fn without_comment(line: &[u8]) -> &[u8]
+    ensures { result.now ≡ uncommented line.now }
+{
+    match place_of(line, b'#') {
+        Some(end) => &line[..end],
+        None => line,
+    }
+}

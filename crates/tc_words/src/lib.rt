@@ -1,0 +1,29 @@
+//! Cuts a batch file into lines and a line into words, and reads the numbers and addresses that words spell.
+//!
+//! The file is bytes from outside, read as such: no text encoding is asked for, and only space and tab part words, so a
+//! word may hold any other byte. std's `split_whitespace` would cut at more. Each function answers by what the whole line
+//! or word is (`specs/`), and not by how it is gone over.
+//!
+//! A word is a place in its line, so a line costs one allocation, and its words cost none. The readers of words take no
+//! memory. The functions that do are passed the allocator, and answer `NoMemory` where it has none left; there is no other
+//! fault here. A word that is not of the form asked for is `None`.
+//!
+//! Nothing is kept between calls, so any thread may call any function.
+//!
+//! What the words mean, and which word of a line is the first bad one, is not told here.
+#![tactic(auto)]
+
+mod addresses;
+mod cuts;
+mod file_lines;
+mod numbers;
+mod places;
+#[cfg(test)]
+mod tests;
+mod texts;
+
+pub use addresses::read_ipv4;
+pub use file_lines::lines;
+pub use numbers::read_decimal;
+pub use places::{Word, Words, split, word_bytes};
+pub use texts::{are_texts, is_text};
