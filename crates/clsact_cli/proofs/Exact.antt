@@ -1,13 +1,11 @@
 -- At most one answer is due, and no other comes but for faults outside and want of memory.
-use Rattle.std.proofs.Common.{◌≡◌, ◌⊎◌, inl, inr, ◌∙◌, ◌<◌, ◌≤◌, ℕ, true, false, List, length, Option, Some, None, refl, sym, ap, subst, arith}
+use Rattle.std.proofs.Common.{◌≡◌, ◌⊎◌, inl, inr, ◌∙◌, ◌≤◌, ℕ, true, false, List, length, Option, Some, None, refl, sym, ap, subst, arith}
 use Rattle.std.specs.Prelude.{IsSome, IsSomeAnd}
 use Rattle.std.specs.Option.{option_map}
 use Rattle.tc_base.specs.Outside.{Held, Rose}
 use Rattle.pcap_io.specs.declared.capture.Capture.{Capture}
-use Rattle.pcap_io.specs.declared.fault.CaptureFault.{CaptureFault}
-use Rattle.pcap_io.specs.Captures.{IsCapture, IsFault}
+use Rattle.pcap_io.specs.Captures.{IsCapture}
 use Rattle.pcap_io.proofs.Unique.{one_capture, no_fault, one_fault}
-use Rattle.clsact_cli.specs.declared.filter.Filter.{Filter}
 use Rattle.clsact_cli.specs.declared.batch.Plan.{Plan}
 use Rattle.clsact_cli.specs.declared.batch.Plan.TheVariants as plans
 use Rattle.clsact_cli.specs.declared.status.Break.{Break}
@@ -18,7 +16,7 @@ use Rattle.clsact_cli.specs.Batch.{plan_of}
 use Rattle.clsact_cli.specs.Broken.{break_of, IsBroken, most_packets}
 use Rattle.clsact_cli.specs.Command.{Request, Names, request_of, names_in, names_of, verb_of}
 use Rattle.clsact_cli.specs.Holdings.{Holds, HasPlan, HasCapture, HasBreak}
-use Rattle.clsact_cli.specs.Causes.{ReadFails, InputFails, HasFilter, IsWalkable, IsUnbuiltCommand, IsDue, HasCause, Walked, WalkFails, WriteFails, FailedOutside, IsReady, IsNotBuilt}
+use Rattle.clsact_cli.specs.Causes.{ReadFails, InputFails, HasFilter, IsWalkable, IsUnbuiltCommand, IsDue, HasCause, Walked, WalkFails, FailedOutside, IsReady, IsNotBuilt}
 
 some_is : {A : Type 0} (x y : A) → Some x ≡ Some y → x ≡ y
 some_is x y e = cc

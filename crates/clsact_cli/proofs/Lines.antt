@@ -1,16 +1,13 @@
 -- The lines of a text, one more at a time.
-use Rattle.std.proofs.Common.{◌≡◌, ℕ, ◌+◌, ◌-◌, ◌<◌, ◌≤◌, List, [], ◌∷◌, ◌++◌, length, take, drop, get_or, Option, Some, None, refl, sym, ap, subst, ◌∙◌, append_assoc, arith}
+use Rattle.std.proofs.Common.{◌≡◌, ℕ, ◌+◌, ◌-◌, ◌<◌, ◌≤◌, List, [], ◌∷◌, ◌++◌, length, take, drop, get_or, sym, ap, ◌∙◌, append_assoc, arith}
 use Rattle.std.specs.List.{slice_range}
-use Rattle.std.proofs.lemmas.List.{take_more, length-take-le, drop_more, take-append-drop, append-nil}
+use Rattle.std.proofs.lemmas.List.{take_more, length-take-le, take-append-drop, append-nil}
 use Rattle.std.proofs.lemmas.List.Concat.{flat_map-cons}
 use Rattle.std.proofs.Math.Seq.{take-add}
 use Rattle.std.proofs.lemmas.List.Folds.{drop_split}
 use Rattle.std.proofs.lemmas.Grind.{flat_map-append}
-use Rattle.tc_base.specs.Outside.{Appended, AppendsUpTo}
-use Rattle.tc_base.proofs.Appends.{Appended-then, AppendsUpTo-then, AppendsUpTo-all}
 use Rattle.clsact_cli.specs.declared.walk.Outcome.{Outcome}
-use Rattle.clsact_cli.specs.declared.filter.Filter.{Filter}
-use Rattle.clsact_cli.specs.Texts.{joined, packet_line, packet_lines, counter_lines, summary_line, edit_count, dropped_count, closing_lines}
+use Rattle.clsact_cli.specs.Texts.{joined, packet_line, packet_lines}
 
 -- a text is what stands before a place, the piece from there, and what stands behind the piece
 pub text_split : (text : List ℕ) (start end : ℕ) → start ≤ end → text ≡ take start text ++ (slice_range text start end ++ drop end text)

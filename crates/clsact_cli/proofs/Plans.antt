@@ -1,18 +1,17 @@
 -- A batch read line by line.
-use Rattle.std.proofs.Common.{◌≡◌, ◌∙◌, ℕ, ◌+◌, ◌<◌, ◌≤◌, Bool, true, false, cond, List, [], ◌∷◌, length, get_or, drop, Option, Some, None, refl, sym, ap, eqb, arith}
+use Rattle.std.proofs.Common.{◌≡◌, ◌∙◌, ℕ, ◌+◌, ◌<◌, true, false, cond, List, [], ◌∷◌, length, get_or, drop, Option, Some, None, refl, sym, ap, eqb, arith}
 use Rattle.std.specs.Prelude.{map}
 use Rattle.std.specs.Option.{option_map}
 use Rattle.std.specs.Borrow.{Bor}
 use Rattle.std.proofs.Math.ListN.{get_or-map}
-use Rattle.std.proofs.lemmas.List.{drop_more, drop_all, length-map}
+use Rattle.std.proofs.lemmas.List.{drop_more, length-map}
 use Rattle.tc_words.specs.Lines.{words_of}
-use Rattle.clsact_cli.specs.declared.filter.Filter.{Filter}
 use Rattle.clsact_cli.specs.declared.batch.Plan.{Plan}
-use Rattle.clsact_cli.specs.declared.batch.Plan.TheVariants.{Built, NotBuilt}
+use Rattle.clsact_cli.specs.declared.batch.Plan.TheVariants.{NotBuilt}
 use Rattle.clsact_cli.specs.declared.batch.Stage.{Stage}
 use Rattle.clsact_cli.specs.declared.batch.Stage.TheVariants.{Start, Hooked, Filtered}
-use Rattle.clsact_cli.specs.Batch.{Line, commands_from, is_hook_line, filter_of, plan_with, plan_behind_hook, plan_behind_filter, plan_of_lines}
-use Rattle.clsact_cli.specs.Stages.{stage_after, stage_on, plan_at_end, plan_from}
+use Rattle.clsact_cli.specs.Batch.{Line, commands_from, is_hook_line, filter_of, plan_with, plan_behind_hook}
+use Rattle.clsact_cli.specs.Stages.{stage_after, stage_on, plan_from}
 
 -- what comes of a line whose stage is known
 abbrev pub goes_on : Option Stage → ℕ → ℕ → List Line → Plan

@@ -1,6 +1,6 @@
 -- A walk of packets, one packet more.
-use Rattle.std.proofs.Common.{◌≡◌, ℕ, ◌+◌, ◌*◌, ◌^◌, ◌<◌, ◌≤◌, Bool, true, false, cond, List, [], ◌∷◌, ◌++◌, length, take, Option, Some, refl, sym, ap, subst, ◌∙◌, arith}
-use Rattle.std.specs.Prelude.{filter, not}
+use Rattle.std.proofs.Common.{◌≡◌, ℕ, ◌+◌, ◌*◌, ◌^◌, ◌<◌, ◌≤◌, true, false, cond, List, [], ◌∷◌, ◌++◌, length, take, Option, Some, refl, sym, ap, subst, ◌∙◌, arith}
+use Rattle.std.specs.Prelude.{not}
 use Rattle.std.specs.List.{slice_get, AllByRecursion}
 use Rattle.std.proofs.lemmas.List.{take_more, map_push}
 use Rattle.std.proofs.lemmas.Option.{slice_get_within, get_or_from_slice_get}
@@ -17,6 +17,11 @@ use Rattle.clsact_cli.specs.Walk.{outcome_of, outcomes_of, passed}
 
 taken : (packets : List Packet) (i : ℕ) (p : Packet) → slice_get packets i ≡ Some p → take (i + 1) packets ≡ take i packets ++ p ∷ []
 taken packets i p at = take_more packets i p (slice_get_within packets i p at) ∙ ap (λ (q : Packet). take i packets ++ q ∷ []) (get_or_from_slice_get packets i p p at)
+
+-- a packet of a short list is short
+pub short_at : (packets : List Packet) (i : ℕ) (p : Packet) → AreShort packets → slice_get packets i ≡ Some p → length p.bytes ≤ 262144
+short_at packets i p short at =
+    subst (λ (q : Packet). length q.bytes ≤ 262144) (get_or_from_slice_get packets i p p at) (short i p (slice_get_within packets i p at))
 
 pub outcomes_more : (f : Option Filter) (packets : List Packet) (i : ℕ) (p : Packet) (made : Outcome) (old new : List Outcome)
     → slice_get packets i ≡ Some p → new ≡ old ++ made ∷ [] → made ≡ outcome_of f p.bytes → old ≡ outcomes_of f (take i packets) → new ≡ outcomes_of f (take (i + 1) packets)

@@ -1,15 +1,14 @@
 -- Why a run ends as it does, and what it put and wrote.
-use Rattle.std.specs.Prelude.{◌≡◌, ◌⊎◌, ℕ, ◌≤◌, List, length, Option, Some, None, IfSome, IsSomeAnd, IsNone}
+use Rattle.std.specs.Prelude.{◌≡◌, ◌⊎◌, ℕ, List, Option, Some, None, IsSomeAnd}
 use Rattle.std.specs.Option.{option_map}
 use Rattle.tc_base.specs.Outside.{Held, Rose, Appended, AppendsUpTo, OthersStay, Stands}
 use Rattle.pcap_io.specs.declared.capture.Capture.{Capture}
 use Rattle.clsact_cli.specs.declared.filter.Filter.{Filter}
-use Rattle.clsact_cli.specs.declared.status.InputKind.{InputKind}
 use Rattle.clsact_cli.specs.declared.status.Status.{Status}
 use Rattle.clsact_cli.specs.declared.status.Status.TheVariants as statuses
 use Rattle.clsact_cli.specs.Command.{Request, Names, request_of, names_in, names_of, verb_of}
 use Rattle.clsact_cli.specs.declared.batch.Plan.TheVariants.{Built, NotBuilt}
-use Rattle.clsact_cli.specs.Holdings.{Holds, HasPlan, HasCapture, HasBreak, Gives}
+use Rattle.clsact_cli.specs.Holdings.{HasPlan, HasCapture, HasBreak, Gives}
 
 -- a file was not read: the shelf tells that nothing stands under its name, or reads failed in this call, the last of them at this name
 abbrev pub ReadFails : {S : Type 0} → (S → Option Held) → (S → ℕ) → (S → Option (List ℕ)) → S → S → List ℕ → Type 0

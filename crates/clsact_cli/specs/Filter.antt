@@ -3,9 +3,9 @@ use Rattle.std.specs.Prelude.{ℕ, Bool, false, ◌&&◌, ◌==◌, bit_and, Lis
 use Rattle.flow_dissect.specs.Headers.{ether_type_of, dst_ip_of}
 use Rattle.clsact_cli.specs.declared.filter.Filter.{Filter}
 
--- the frame's EtherType is IPv4's, and its destination under the mask is the filter's address
+-- the frame's EtherType is IPv4's, and its destination and the filter's address are equal under the mask
 abbrev pub is_match : Filter → List ℕ → Bool
-is_match f frame = ether_type_of frame == 0x0800 && bit_and (dst_ip_of frame) f.mask == f.address
+is_match f frame = ether_type_of frame == 0x0800 && bit_and (dst_ip_of frame) f.mask == bit_and f.address f.mask
 
 -- whether the filter's action runs on the frame
 abbrev pub is_executed : Option Filter → List ℕ → Bool

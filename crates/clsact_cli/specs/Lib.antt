@@ -1,6 +1,8 @@
 pub mod Command
 pub mod Requests
 pub mod Filter
+pub mod Addresses
+pub mod Matchers
 pub mod Batch
 pub mod Stages
 pub mod Walk

@@ -1,5 +1,4 @@
 -- A command, as what it asks for.
-use Rattle.tc_base.specs.declared.hook.Hook.{Hook}
 use Rattle.clsact_cli.specs.declared.command.Command.{Command}
 use Rattle.clsact_cli.specs.declared.command.Command.TheVariants as commands
 use Rattle.clsact_cli.specs.declared.command.WalkNames.{WalkNames}

@@ -1,7 +1,6 @@
 -- A batch that has been read up to some line, and what its further lines would make of it.
-use Rattle.std.specs.Prelude.{ℕ, ◌+◌, ◌==◌, List, [], ◌∷◌, length, Option, Some, None, if◌then◌else◌}
+use Rattle.std.specs.Prelude.{ℕ, ◌+◌, ◌==◌, List, length, Option, Some, None, if◌then◌else◌}
 use Rattle.std.specs.Option.{option_map}
-use Rattle.clsact_cli.specs.declared.filter.Filter.{Filter}
 use Rattle.clsact_cli.specs.declared.batch.Plan.{Plan}
 use Rattle.clsact_cli.specs.declared.batch.Plan.TheVariants.{Built, NotBuilt}
 use Rattle.clsact_cli.specs.declared.batch.Stage.{Stage}

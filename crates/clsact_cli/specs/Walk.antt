@@ -1,5 +1,5 @@
 -- What a walk makes of each packet, and of a capture.
-use Rattle.std.specs.Prelude.{ℕ, Bool, not, List, length, map, filter, Option}
+use Rattle.std.specs.Prelude.{ℕ, not, List, length, map, filter, Option}
 use Rattle.pcap_io.specs.declared.capture.Packet.{Packet}
 use Rattle.pcap_io.specs.declared.capture.Capture.{Capture}
 use Rattle.clsact_cli.specs.declared.filter.Filter.{Filter}

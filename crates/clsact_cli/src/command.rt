@@ -1,4 +1,4 @@
-ghost use Rattle.std.specs.Prelude.{◌≡◌, IsTrue};
+ghost use Rattle.std.specs.Prelude.{◌≡◌};
 ghost use Rattle.std.specs.List.{list_all};
 ghost use Rattle.std.specs.Option.{option_map};
 ghost use Rattle.clsact_cli.specs.Command.{texts, hook_of, is_name_byte, is_front, count_of, gen_request, request_of_one, request_of_two, request_of_four, request_of, verb_of, runs_job, asks_for_job, built_names};

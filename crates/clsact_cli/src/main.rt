@@ -5,7 +5,7 @@
 //! in `specs/` give. `plain` is the part that runs no job, and always returns.
 //!
 //! From the words to the lines: `command` reads the words; `input` fetches and reads the files in their order, where the
-//! first fault ends the run; `batch` reads a batch, `filter` and `walk` decide on packets, `text` writes the lines; `tool`
+//! first fault ends the run; `batch` reads a batch, `matcher` and `walk` decide on packets, `text` writes the lines; `tool`
 //! puts these together. `main` adds the process around it: files, standard output, the text of a status, the exit number.
 //!
 //! One thread calls all of this. Only `tool` may start others, for a job, and while no job is built it starts none.
@@ -17,6 +17,7 @@ mod batch;
 mod command;
 mod filter;
 mod input;
+mod matcher;
 mod messages;
 mod status;
 #[cfg(test)]

@@ -97,23 +97,32 @@ fn walk<R: AllocGlobal + Threads + Wait + Sync>(
     Ok((status, held, out))
 }
 
+// Packet 2 as it stands in a capture.
+fn second(alloc: Global, big: bool) -> Result<Vec<u8>, AllocError> {
+    let mut bytes = Vec::new(alloc);
+    add(&mut bytes, big, 2)?;
+    Ok(bytes)
+}
+
 #[test]
 fn walks_write_text_and_capture(rt: HostRuntime) -> Result<(), Fail> {
     let none = "summary edits 1 refused 0 packets 0 passed 0 dropped 0\nend\n";
     let small = two_packets(rt.alloc(), false)?;
     let big = two_packets(rt.alloc(), true)?;
-    let rows: [(&str, &[u8], &str, &[u8]); 3] = [
-        (HOOK, &EMPTY, none, &EMPTY),
-        (DROP, &small, TWO, &small[100..]),
-        (DROP, &big, TWO, &big[100..]),
+    let small_second = second(rt.alloc(), false)?;
+    let big_second = second(rt.alloc(), true)?;
+    let rows: [(&str, &[u8], &str, &[u8], &[u8]); 3] = [
+        (HOOK, &EMPTY, none, &EMPTY, &[]),
+        (DROP, &small, TWO, &EMPTY, &small_second),
+        (DROP, &big, TWO, &BIG, &big_second),
     ];
-    for (batch, capture, text, packets) in rows {
+    for (batch, capture, text, header, packets) in rows {
         let (status, held, out) = walk(&rt, batch, capture)?;
         assert_eq!(rt; status.as_str(), "0 ");
         assert_eq!(rt; out.bytes(), text.as_bytes());
         let output = held.get("output").ok_or("no output")?;
-        assert!(rt; output.starts_with(&capture[..24]) && output.ends_with(packets));
-        assert!(rt; output.len() == 24 || output.len() == 24 + packets.len());
+        assert!(rt; output.starts_with(header) && output.ends_with(packets));
+        assert_eq!(rt; output.len(), header.len().saturating_add(packets.len()));
     }
     Ok(())
 }

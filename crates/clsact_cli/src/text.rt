@@ -1,4 +1,4 @@
-ghost use Rattle.std.specs.Prelude.{◌≡◌, ◌+◌, ◌-◌, ◌<◌, ◌≤◌, ◌^◌, ◌++◌, ◌∷◌, [], length, decimal, IfOk, OnOk, IsErrOf};
+ghost use Rattle.std.specs.Prelude.{◌≡◌, ◌+◌, ◌-◌, ◌<◌, ◌≤◌, ◌^◌, ◌++◌, length, decimal, IfOk, OnOk, IsErrOf};
 ghost use Rattle.tc_base.specs.Outside.{Rose, Appended, AppendsUpTo};
 ghost use Rattle.clsact_cli.specs.Texts.{joined, counted, verdict_of, packet_line, packet_lines, executed_count, executed_bytes, dropped_count, counter_line, counter_lines, verdict_counts, summary_line, edit_count, closing_lines};
 

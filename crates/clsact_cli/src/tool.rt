@@ -1,4 +1,4 @@
-ghost use Rattle.std.specs.Prelude.{◌≡◌, ◌⊎◌, ◌↔◌, ◌≤◌, ◌<◌, ◌^◌, ◌++◌, length, true, false, IsSome, IsSomeAnd, IfOk, IfErr, IfSome, OnOk, IsErrOf};
+ghost use Rattle.std.specs.Prelude.{◌≡◌, ◌⊎◌, ◌↔◌, ◌≤◌, length, true, false, IsSome, IsSomeAnd, IfOk, IfErr, IfSome, OnOk, IsErrOf};
 ghost use Rattle.std.specs.Prelude.{None};
 ghost use Rattle.tc_base.specs.Outside.{Rose, Appended, AppendsUpTo, OthersStay, Stands};
 ghost use Rattle.pcap_io.specs.Captures.{AreShort};
@@ -7,15 +7,17 @@ ghost use Rattle.clsact_cli.specs.declared.status.Status.{Status};
 ghost use Rattle.clsact_cli.specs.Command.{texts, request_of, names_of, asks_for_job};
 ghost use Rattle.clsact_cli.specs.Requests.{names_seen};
 ghost use Rattle.clsact_cli.specs.Broken.{most_packets};
-ghost use Rattle.clsact_cli.specs.Walk.{outcomes_of, output_of};
-ghost use Rattle.clsact_cli.specs.Texts.{joined, packet_lines, executed_bytes, closing_lines, walk_text};
+ghost use Rattle.clsact_cli.specs.Matchers.{filter_in};
+ghost use Rattle.clsact_cli.specs.Walk.{output_of};
+ghost use Rattle.clsact_cli.specs.Texts.{walk_text};
 ghost use Rattle.clsact_cli.specs.Holdings.{Gives};
 ghost use Rattle.clsact_cli.specs.Answers.{text_of};
-ghost use Rattle.clsact_cli.specs.Causes.{InputFails, DeliveryFails, WalkFails, Walked, HasCause, IsDue, FailedOutside, IsReady, IsNotBuilt, LeavesAll, LeavesAllUnlessRun, CameSoFar, CameSoFarIn, IsJobRefused};
+ghost use Rattle.clsact_cli.specs.Causes.{InputFails, DeliveryFails, WalkFails, Walked, HasCause, IsDue, FailedOutside, IsReady, IsNotBuilt, LeavesAllUnlessRun, CameSoFar, CameSoFarIn, IsJobRefused};
 
 use crate::command::{WalkNames, asks_for_job, command_of};
 use crate::filter::Filter;
 use crate::input::{load_batch, load_capture, not_built};
+use crate::matcher::Matcher;
 use crate::status::Status;
 use crate::text::{closing_text, write_packets, write_text};
 use crate::walk::{Outcome, walk_packets};
@@ -36,6 +38,15 @@ pub struct Answer {
     pub closing: Vec<u8>,
 }
 
+fn matcher_of(filter: &Option<Filter>) -> Option<Matcher>
+    ensures { filter_in result ≡ filter.now }
+{
+    match filter {
+        None => None,
+        Some(filter) => Some(Matcher::new(*filter)),
+    }
+}
+
 fn answer_to(alloc: Global, filter: &Option<Filter>, capture: Capture) -> Result<Answer, NoMemory>
     requires few { length capture.packets ≤ most_packets }
     requires short { AreShort capture.packets }
@@ -47,7 +58,7 @@ fn answer_to(alloc: Global, filter: &Option<Filter>, capture: Capture) -> Result
         nanos,
         packets,
     } = capture;
-    let walked = walk_packets(alloc, filter, &packets)?;
+    let walked = walk_packets(alloc, &matcher_of(filter), &packets)?;
     // The input's packets are let go before the output's bytes are made.
     drop(packets);
     let closing = closing_text(alloc, filter, &walked.outcomes)?;

@@ -1,9 +1,12 @@
-ghost use Rattle.std.specs.Prelude.{◌≡◌, ◌≤◌, ◌<◌, ◌^◌, ◌++◌, ◌∷◌, [], length, if◌then◌else◌, All, IfOk, OnOk};
+ghost use Rattle.std.specs.Prelude.{◌≡◌, ◌++◌, ◌∷◌, [], length, if◌then◌else◌, IfOk, OnOk};
 ghost use Rattle.pcap_io.specs.Places.{packet_of};
 ghost use Rattle.pcap_io.specs.Captures.{AreShort};
+ghost use Rattle.clsact_cli.specs.Filter.{is_executed, drops_executed};
+ghost use Rattle.clsact_cli.specs.Matchers.{filter_in};
 ghost use Rattle.clsact_cli.specs.Walk.{outcome_of, outcomes_of, passed};
 
-use crate::filter::{Filter, drops, executes};
+use crate::matcher::Matcher;
+use frame_edit::Frame;
 use pcap_io::{PacketView, Packets};
 use std::alloc::{AllocError, Global};
 use tc_base::NoMemory;
@@ -28,14 +31,32 @@ pub struct Walked {
     pub passed: Packets,
 }
 
-fn walk_frame(filter: &Option<Filter>, frame: &[u8]) -> Outcome
-    ensures { result ≡ outcome_of filter.now frame.now }
+fn executes(matcher: &Option<Matcher>, frame: &Frame) -> bool
+    ensures { result ≡ is_executed (filter_in matcher.now) frame.now.bytes }
 {
-    let executed = executes(filter, frame);
+    match matcher {
+        None => false,
+        Some(matcher) => matcher.matches(frame),
+    }
+}
+
+fn drops(matcher: &Option<Matcher>, executed: bool) -> bool
+    ensures { result ≡ drops_executed (filter_in matcher.now) executed }
+{
+    match matcher {
+        None => false,
+        Some(matcher) => matcher.drops() && executed,
+    }
+}
+
+fn walk_frame(matcher: &Option<Matcher>, frame: &Frame) -> Outcome
+    ensures { result ≡ outcome_of (filter_in matcher.now) frame.now.bytes }
+{
+    let executed = executes(matcher, frame);
     Outcome {
-        length: frame.len(),
+        length: frame.bytes().len(),
         executed,
-        dropped: drops(filter, executed),
+        dropped: drops(matcher, executed),
     }
 }
 
@@ -52,17 +73,20 @@ fn keep(passed: &mut Packets, outcome: Outcome, packet: PacketView<'_>) -> Resul
 /// Walks each packet on its own.
 pub fn walk_packets(
     alloc: Global,
-    filter: &Option<Filter>,
+    matcher: &Option<Matcher>,
     packets: &Packets,
 ) -> Result<Walked, NoMemory>
-    ensures outcomes { IfOk result (λ w. w.outcomes.items ≡ outcomes_of filter.now packets.now) }
-    ensures passed { IfOk result (λ w. w.passed ≡ passed filter.now packets.now) }
+    requires { AreShort packets.now }
+    ensures outcomes { IfOk result (λ w. w.outcomes.items ≡ outcomes_of (filter_in matcher.now) packets.now) }
+    ensures passed { IfOk result (λ w. w.passed ≡ passed (filter_in matcher.now) packets.now) }
 {
+    let mut frame = Frame::with_room(alloc)?;
     let mut outcomes = Vec::with_capacity(alloc, packets.len())?;
     let mut passed = Packets::with_room(alloc, packets.len(), packets.byte_count())?;
     for index in 0..packets.len() {
         let packet = packets.get(index);
-        let made = walk_frame(filter, packet.bytes);
+        frame.load(packet.bytes);
+        let made = walk_frame(matcher, &frame);
         outcomes.push(made)?;
         keep(&mut passed, made, packet)?;
     }

@@ -1,93 +1,69 @@
 //! The header fields of an Ethernet frame.
 //!
-//! A frame comes from outside, so each header counts only where all of it lies in the bytes: a field of a header that is
-//! cut off, or that is not there, is 0. The headers are read once each, from left to right: the two addresses with the
-//! EtherType behind them, up to two VLAN tags, and the network header.
+//! A frame comes from outside and may end anywhere, so a field of a header that is not there, or that is cut off, is 0. Of
+//! IPv4 the 20 bytes before the options must be there, of a transport header the 4 bytes of the ports, and 14 for the flags.
 //!
-//! `specs/Headers.antt` says which headers a frame has and where they stand, as tests of the whole frame. The code asks
-//! less: it stops at the first header that is not there.
+//! The headers are read once each, from left to right, one file a layer: `link` has the two addresses with the EtherType
+//! behind them and up to two VLAN tags, `network` has IPv4 and IPv6, and `transport` has TCP and UDP. Each puts its fields
+//! into a key that starts empty, and reading ends at the first layer that is not there.
+//!
+//! `specs/Fields.antt` says what the fields of a frame are, each by its own condition on the whole frame and its own place.
+//! The code asks less than these conditions, since a header that is not there has none behind it; `key_of` is proved to
+//! give those very values.
 //!
 //! The functions take no memory, keep nothing, and answer on every input, so any thread may call them. Checksums, lengths
-//! and the version told inside of a header are not looked at.
+//! and the version told inside of a header are not looked at, extension headers of IPv6 are not walked, and a fragment of
+//! an IPv4 packet has no ports.
 #![tactic(auto)]
 
-ghost use Rattle.std.specs.Prelude.{◌≡◌, ◌+◌, ◌-◌, ◌≤◌, length};
-ghost use Rattle.flow_dissect.specs.Headers.{two_at, four_at, ether_type_of, is_tag_type, network_at, network_type, is_ipv4_at, dst_ip_of};
+ghost use Rattle.std.specs.Prelude.{◌≡◌};
+ghost use Rattle.flow_fields.specs.Values.{values_of, IsTidy};
+ghost use Rattle.flow_dissect.specs.Fields.{frame_values};
+ghost use Rattle.flow_dissect.specs.Headers.{ether_type_of, dst_ip_of};
 
+mod link;
+mod network;
+mod numbers;
 #[cfg(test)]
 mod tests;
+mod transport;
 
-use byteorder::{BigEndian, ByteOrder};
+use flow_fields::Key;
+use frame_edit::Frame;
+use link::{network_place, put_addresses, put_tags};
+use network::{has_ipv4, put_packet};
+use numbers::{u16_at, u32_at};
 
-/// The EtherType of a customer VLAN tag (IEEE 802.1Q).
-const CUSTOMER_TAG: u16 = 0x8100;
-
-/// The EtherType of a service VLAN tag (IEEE 802.1Q).
-const SERVICE_TAG: u16 = 0x88a8;
-
-/// The EtherType of IPv4 (RFC 894).
-const IPV4: u16 = 0x0800;
-
-/// Where the network header of a frame starts, and the EtherType just before it.
-#[derive(Clone, Copy)]
-struct NetworkPlace {
-    ether_type: u16,
-    start: usize,
-}
-
-fn u16_at(bytes: &[u8], at: usize) -> u16
-    requires { at + 2 ≤ length bytes.now }
-    ensures { result ≡ two_at bytes.now at }
+/// The key of a frame: the value of each field that its headers have, and 0 for each other.
+///
+/// No stray bit of the key is set, so keys of frames with equal fields have equal words.
+#[inline]
+pub fn key_of(bytes: &[u8]) -> Key<14>
+    ensures values { values_of result.words ≡ frame_values bytes.now }
+    ensures tidy { IsTidy result.words }
 {
-    BigEndian::read_u16(&bytes[at..])
-}
-
-fn u32_at(bytes: &[u8], at: usize) -> u32
-    requires { at + 4 ≤ length bytes.now }
-    ensures { result ≡ four_at bytes.now at }
-{
-    BigEndian::read_u32(&bytes[at..])
-}
-
-fn is_tag(ether_type: u16) -> bool
-    ensures { result ≡ is_tag_type ether_type }
-{
-    ether_type == CUSTOMER_TAG || ether_type == SERVICE_TAG
-}
-
-fn network_place(bytes: &[u8]) -> NetworkPlace
-    requires { 14 ≤ length bytes.now }
-    ensures ether_type { result.ether_type ≡ network_type bytes.now }
-    ensures start { result.start ≡ network_at bytes.now }
-{
-    let outer = u16_at(bytes, 12);
-    if !is_tag(outer) || bytes.len() < 18 {
-        return NetworkPlace {
-            ether_type: outer,
-            start: 14,
-        };
+    let mut key = Key::new();
+    if bytes.len() < 14 {
+        return key;
     }
-    let inner = u16_at(bytes, 16);
-    if !is_tag(inner) || bytes.len() < 22 {
-        return NetworkPlace {
-            ether_type: inner,
-            start: 18,
-        };
-    }
-    NetworkPlace {
-        ether_type: u16_at(bytes, 20),
-        start: 22,
-    }
+    put_addresses(&mut key, bytes);
+    let network = network_place(bytes);
+    put_tags(&mut key, bytes, network.start);
+    put_packet(&mut key, bytes, network);
+    key
 }
 
-fn has_ipv4_header(bytes: &[u8], start: usize) -> bool
-    requires { start ≤ 22 }
-    ensures { result ≡ is_ipv4_at bytes.now start }
+/// The key of a frame that is being edited, as its bytes are now.
+#[inline]
+pub fn dissect(frame: &Frame) -> Key<14>
+    ensures values { values_of result.words ≡ frame_values frame.now.bytes }
+    ensures tidy { IsTidy result.words }
 {
-    bytes.len() >= start + 20 && bytes[start] % 16 >= 5
+    key_of(frame.bytes())
 }
 
 /// The EtherType behind the two addresses of a frame, or 0 where the frame has no 14 bytes.
+#[inline]
 pub fn ether_type(bytes: &[u8]) -> u16
     ensures { result ≡ ether_type_of bytes.now }
 {
@@ -107,7 +83,7 @@ pub fn dst_ip(bytes: &[u8]) -> u32
         return 0;
     }
     let network = network_place(bytes);
-    if network.ether_type == IPV4 && has_ipv4_header(bytes, network.start) {
+    if has_ipv4(bytes, network) {
         u32_at(bytes, network.start + 16)
     } else {
         0

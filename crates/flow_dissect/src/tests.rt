@@ -1,48 +1,189 @@
-use crate::{dst_ip, ether_type};
+use crate::{dst_ip, ether_type, key_of};
 use std::alloc::AllocError;
 
-// 46 bytes of a UDP packet from 10.0.0.254, port 5000, to 10.0.0.1, port 53.
-const PACKET: &[u8] =
+// Two addresses.
+const ADDRESSES: &[u8] = b"\x02\0\0\0\0\x01\x02\0\0\0\0\x02";
+
+// 46 bytes of a UDP packet from 10.0.0.254, port 5000, to 10.0.0.1, port 53, with time to live 64.
+const UDP: &[u8] =
     b"\x45\x00\x00\x2e\x00\x00\x00\x00\x40\x11\x00\x00\x0a\x00\x00\xfe\x0a\x00\x00\x01\
     \x13\x88\x00\x35\x00\x1a\x00\x00\0\0\0\0\0\0\0\0\0\0\0\0\0\0\0\0\0\0";
 
-// A packet behind the two addresses, its tags and the EtherType.
-fn frame(rt: &HostRuntime, link: &[u8], packet: &[u8]) -> Result<Vec<u8>, AllocError> {
-    let mut bytes = Vec::from_slice(rt.alloc(), b"\x02\0\0\0\0\x01\x02\0\0\0\0\x02")?;
-    bytes.extend_from_slice(link)?;
-    bytes.extend_from_slice(packet)?;
+// The same by TCP, with flags 0x012 (SYN and ACK).
+const TCP: &[u8] =
+    b"\x45\x00\x00\x28\x00\x00\x00\x00\x40\x06\x00\x00\x0a\x00\x00\xfe\x0a\x00\x00\x01\
+    \x13\x88\x00\x35\0\0\0\0\0\0\0\0\x50\x12\0\0\0\0\0\0\0\0\0\0\0\0";
+
+// A UDP packet from 2001:db8::fe to 2001:db8::1 behind its first two bytes, with hop limit 64.
+const UDP6: &[u8] = b"\x00\x00\x00\x08\x11\x40\x20\x01\x0d\xb8\0\0\0\0\0\0\0\0\0\0\0\xfe\
+    \x20\x01\x0d\xb8\0\0\0\0\0\0\0\0\0\0\0\x01\x13\x88\x00\x35\x00\x08\x00\x00";
+
+// What fills a header up to 60 bytes behind the 46 of a packet, and then the ports.
+const BEHIND: &[u8] = b"\0\0\0\0\0\0\0\0\0\0\0\0\0\0\x13\x88\x00\x35";
+
+// Protocol, source, destination, and in one word time to live and type of service; the IPv6 source and destination in halves.
+const IPV4: [u64; 4] = [17, 0x0a0000fe, 0x0a000001, 0x4000];
+
+const IPV6: [u64; 4] = [0x2001_0db8_0000_0000, 0xfe, 0x2001_0db8_0000_0000, 1];
+
+const NO_IP: [u64; 4] = [0; 4];
+
+// Ports 5000 and 53 in one word.
+const PORTS: u64 = 0x0035_1388;
+
+fn joined(rt: &HostRuntime, parts: [&[u8]; 4]) -> Result<Vec<u8>, AllocError> {
+    let mut bytes = Vec::new(rt.alloc());
+    for part in parts {
+        bytes.extend_from_slice(part)?;
+    }
     Ok(bytes)
 }
 
+// The EtherTypes and tags, two parts of a packet; then the words of the two tags, of IP, of the ports and of IPv6.
 #[test]
-fn headers_of_frames(rt: HostRuntime) -> Result<(), AllocError> {
-    let short_header =
-        b"\x44\x00\x00\x2e\x00\x00\x00\x00\x40\x11\x00\x00\x0a\x00\x00\xfe\x0a\x00\x00\x01";
-    let frames: [(&[u8], &[u8], u16, u32); 9] = [
-        (b"\x08\x00", PACKET, 0x0800, 0x0a000001),
-        (b"\x81\x00\x00\x05\x08\x00", PACKET, 0x8100, 0x0a000001),
-        (b"\x88\xa8\x00\x05\x08\x00", PACKET, 0x88a8, 0x0a000001),
+fn fields_of_frames(rt: HostRuntime) -> Result<(), AllocError> {
+    let frames: [(&[u8], &[u8], &[u8], [u64; 2], [u64; 4], u64, [u64; 4]); 16] = [
+        (b"\x08\x00", UDP, b"", [0, 0], IPV4, PORTS, NO_IP),
         (
-            b"\x88\xa8\x00\x07\x81\x00\x00\x05\x08\x00",
-            PACKET,
-            0x88a8,
-            0x0a000001,
+            b"\x86\xdd\x60\x00",
+            UDP6,
+            b"",
+            [0, 0],
+            [17, 0, 0, 0x4000],
+            PORTS,
+            IPV6,
         ),
+        // Traffic class 0xb9.
         (
-            b"\x81\x00\x00\x07\x81\x00\x00\x06\x81\x00\x00\x05\x08\x00",
-            PACKET,
-            0x8100,
+            b"\x86\xdd\x6b\x90",
+            UDP6,
+            b"",
+            [0, 0],
+            [17, 0, 0, 0x40b9],
+            PORTS,
+            IPV6,
+        ),
+        // One byte less than the header of IPv6.
+        (
+            b"\x86\xdd\x60\x00",
+            &UDP6[..37],
+            b"",
+            [0, 0],
+            NO_IP,
             0,
+            NO_IP,
         ),
-        (b"\x08\x00", &PACKET[..19], 0x0800, 0),
-        (b"\x08\x00", short_header, 0x0800, 0),
-        (b"\x08\x06", PACKET, 0x0806, 0),
-        (b"\x08", b"", 0, 0),
+        // VLAN 5 with VLAN 6 inside, and a third tag that is none.
+        (
+            b"\x81\0\0\x05\x81\0\0\x06\x08\0",
+            UDP,
+            b"",
+            [0x8100_0000_0005, 0x0800_0000_0006],
+            IPV4,
+            PORTS,
+            NO_IP,
+        ),
+        (
+            b"\x81\0\0\x05\x81\0\0\x06\x81\0\0\x07\x08\0",
+            UDP,
+            b"",
+            [0x8100_0000_0005, 0x8100_0000_0006],
+            NO_IP,
+            0,
+            NO_IP,
+        ),
+        // Priority 7, VLAN 0x123, and the bit between them.
+        (
+            b"\x88\xa8\xf1\x23\x08\x00",
+            UDP,
+            b"",
+            [0x0800_0007_0123, 0],
+            IPV4,
+            PORTS,
+            NO_IP,
+        ),
+        (b"\x08\x06", UDP, b"", [0, 0], NO_IP, 0, NO_IP),
+        // The first fragment, a later one, and a packet that only must not be cut.
+        (
+            b"\x08\x00\x45\0\0\x2e\0\0\x20\0",
+            &UDP[8..],
+            b"",
+            [0, 0],
+            IPV4,
+            0,
+            NO_IP,
+        ),
+        (
+            b"\x08\x00\x45\0\0\x2e\0\0\0\x01",
+            &UDP[8..],
+            b"",
+            [0, 0],
+            IPV4,
+            0,
+            NO_IP,
+        ),
+        (
+            b"\x08\x00\x45\0\0\x2e\0\0\x40\0",
+            &UDP[8..],
+            b"",
+            [0, 0],
+            IPV4,
+            PORTS,
+            NO_IP,
+        ),
+        // Headers of 16, 24 and 60 bytes; the last without and with the ports.
+        (b"\x08\x00\x44", &UDP[1..], b"", [0, 0], NO_IP, 0, NO_IP),
+        (b"\x08\x00\x46", &UDP[1..], b"", [0, 0], IPV4, 0x001a, NO_IP),
+        (b"\x08\x00\x4f", &UDP[1..], b"", [0, 0], IPV4, 0, NO_IP),
+        (
+            b"\x08\x00\x4f",
+            &UDP[1..],
+            BEHIND,
+            [0, 0],
+            IPV4,
+            PORTS,
+            NO_IP,
+        ),
+        // SCTP, with type of service 0x2a and time to live 1: its ports are not looked for.
+        (
+            b"\x08\x00\x45\x2a\0\0\0\0\0\0\x01\x84",
+            &UDP[10..],
+            b"",
+            [0, 0],
+            [0x84, 0x0a0000fe, 0x0a000001, 0x012a],
+            0,
+            NO_IP,
+        ),
     ];
-    for (link, packet, kind, address) in frames {
-        let bytes = frame(&rt, link, packet)?;
-        assert_eq!(rt; ether_type(&bytes), kind);
-        assert_eq!(rt; dst_ip(&bytes), address);
+    for (link, packet, more, tags, ip, ports, ipv6) in frames {
+        let bytes = joined(&rt, [ADDRESSES, link, packet, more])?;
+        let words = key_of(&bytes).words;
+        assert_eq!(rt; [words[0], words[1]], [0x0200_0000_0001, 0x0200_0000_0002]);
+        assert_eq!(rt; [words[2], words[8]], tags);
+        assert_eq!(rt; [words[3], words[4], words[5], words[9]], ip);
+        assert_eq!(rt; [words[6], words[7]], [ports, 0]);
+        assert_eq!(rt; [words[10], words[11], words[12], words[13]], ipv6);
+        assert_eq!(rt; dst_ip(&bytes) as u64, words[5]);
+    }
+    Ok(())
+}
+
+// Fields come with the last byte of their header: 14 bytes for the addresses, 34 for IPv4, 38 for the ports, 48 for the
+// flags.
+#[test]
+fn cut_frames(rt: HostRuntime) -> Result<(), AllocError> {
+    let bytes = joined(&rt, [ADDRESSES, b"\x08\x00", TCP, b""])?;
+    for (length, _) in bytes.iter().enumerate() {
+        let cut = &bytes[..length];
+        let key = key_of(cut);
+        let from = |least: usize, word: u64| if length < least { 0 } else { word };
+        assert_eq!(rt; ether_type(cut) as u64, from(14, 0x0800));
+        assert_eq!(rt; key.words[0], from(14, 0x0200_0000_0001));
+        assert_eq!(rt; key.words[3], from(34, 6));
+        assert_eq!(rt; key.words[5], from(34, 0x0a000001));
+        assert_eq!(rt; key.words[9], from(34, 0x4000));
+        assert_eq!(rt; key.words[6], from(38, 0x0035_1388));
+        assert_eq!(rt; key.words[7], from(48, 0x012));
     }
     Ok(())
 }

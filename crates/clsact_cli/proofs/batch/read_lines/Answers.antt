@@ -1,7 +1,3 @@
-use Rattle.std.proofs.Common.{◌≡◌, ◌∙◌, List, ap, sym}
-use Rattle.std.specs.Prelude.{map}
-use Rattle.tc_words.specs.declared.places.Word.{Word}
-use Rattle.tc_words.specs.Places.{bytes_at}
 use Rattle.clsact_cli.proofs.Plans.{line_read}
 use Rattle.clsact_cli.proofs.batch.read_lines.Goals as goal
 

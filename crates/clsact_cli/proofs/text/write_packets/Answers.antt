@@ -1,9 +1,9 @@
-use Rattle.std.proofs.Common.{◌≡◌, ◌+◌, ◌∙◌, ℕ, false, List, [], length, take, drop, ap, subst, sym, arith}
+use Rattle.std.proofs.Common.{ℕ, false, List, ap, subst, arith}
 use Rattle.std.proofs.lemmas.List.{take_all}
-use Rattle.tc_base.specs.Outside.{Appended, AppendsUpTo}
-use Rattle.tc_base.proofs.Appends.{Appended-then, AppendsUpTo-then, AppendsUpTo-all, AppendsUpTo-front}
+use Rattle.tc_base.specs.Outside.{AppendsUpTo}
+use Rattle.tc_base.proofs.Appends.{Appended-then, AppendsUpTo-then, AppendsUpTo-all}
 use Rattle.clsact_cli.specs.declared.walk.Outcome.{Outcome}
-use Rattle.clsact_cli.specs.Texts.{joined, packet_line, packet_lines}
+use Rattle.clsact_cli.specs.Texts.{joined, packet_lines}
 use Rattle.clsact_cli.proofs.Lines.{packets_more, packets_rest}
 use Rattle.clsact_cli.proofs.text.write_packets.Goals as goal
 

@@ -1,6 +1,5 @@
-use Rattle.std.proofs.Common.{◌≡◌, ◌≤◌, ◌∙◌, ℕ, List, [], take, drop, ap, subst, sym, arith}
+use Rattle.std.proofs.Common.{take, drop, arith}
 use Rattle.std.specs.List.{slice_range}
-use Rattle.tc_base.specs.Outside.{Appended, AppendsUpTo}
 use Rattle.tc_base.proofs.Appends.{Appended-then, AppendsUpTo-then}
 use Rattle.clsact_cli.proofs.Lines.{text_split, text_more}
 use Rattle.clsact_cli.proofs.text.write_text.Goals as goal

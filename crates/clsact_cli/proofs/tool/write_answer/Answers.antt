@@ -1,7 +1,4 @@
-use Rattle.std.proofs.Common.{ℕ, List, subst, ap}
-use Rattle.tc_base.specs.Outside.{AppendsUpTo}
 use Rattle.tc_base.proofs.Appends.{AppendsUpTo-more, AppendsUpTo-last}
-use Rattle.clsact_cli.specs.Texts.{joined, packet_lines}
 use Rattle.clsact_cli.proofs.tool.write_answer.Goals as goal
 
 pub returns-in_err-write_packets-clause-up_to : goal.returns-in_err-write_packets-clause-up_to
