@@ -78,7 +78,7 @@ fn all_name_bytes(word: &[u8]) -> bool
 fn may_begin_names(word: &str) -> bool
     ensures { result ≡ is_front word.now }
 {
-    if word.len() < 1 || word.len() > 200 {
+    if word.is_empty() || word.len() > 200 {
         return false;
     }
     all_name_bytes(word.as_bytes())

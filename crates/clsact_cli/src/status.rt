@@ -2,7 +2,6 @@ ghost use Rattle.std.specs.Prelude.{◌≡◌};
 ghost use Rattle.clsact_cli.specs.declared.status.Status.TheVariants as statuses;
 
 use std::alloc::{AllocError, AllocFailed};
-use std::fmt;
 use tc_base::{Bytes, NoMemory, Put};
 
 /// What is wrong at a place of an input file.

@@ -1,5 +1,4 @@
-ghost use Rattle.std.specs.Prelude.{◌≡◌, ◌⊎◌, ◌↔◌, ◌≤◌, length, true, false, IsSome, IsSomeAnd, IfOk, IfErr, IfSome, OnOk, IsErrOf};
-ghost use Rattle.std.specs.Prelude.{None};
+ghost use Rattle.std.specs.Prelude.{◌≡◌, ◌⊎◌, ◌↔◌, ◌≤◌, length, true, false, None, IsSome, IsSomeAnd, IfOk, IfErr, IfSome, OnOk, IsErrOf};
 ghost use Rattle.tc_base.specs.Outside.{Rose, Appended, AppendsUpTo, OthersStay, Stands};
 ghost use Rattle.pcap_io.specs.Captures.{AreShort};
 ghost use Rattle.pcap_io.specs.Written.{capture_bytes};

@@ -8,7 +8,7 @@ ghost use Rattle.clsact_cli.specs.Walk.{outcome_of, outcomes_of, passed};
 use crate::matcher::Matcher;
 use frame_edit::Frame;
 use pcap_io::{PacketView, Packets};
-use std::alloc::{AllocError, Global};
+use std::alloc::Global;
 use tc_base::NoMemory;
 
 /// What a walk made of one packet.

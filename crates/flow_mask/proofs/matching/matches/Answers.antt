@@ -1,4 +1,4 @@
-use Rattle.std.proofs.Common.{◌≡◌, arith}
+use Rattle.std.proofs.Common.{arith}
 use Rattle.flow_mask.proofs.FieldsAndWords.{words_are_fields}
 use Rattle.flow_mask.proofs.matching.matches.Goals as goal
 
