@@ -74,8 +74,13 @@ pub enum Status {
 }
 
 impl Status {
+    ghost use Rattle.std.specs.Prelude.{◌≡◌};
+    ghost use Rattle.clsact_cli.specs.Ends.{exit_of};
+
     /// The number with which the program ends.
-    pub fn exit_number(&self) -> u8 {
+    pub fn exit_number(&self) -> u8
+        ensures { result ≡ exit_of self.now }
+    {
         match self {
             Status::Done => 0,
             Status::LinesRefused { .. } => 1,

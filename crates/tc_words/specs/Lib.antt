@@ -1,5 +1,9 @@
 pub mod Lines
 pub mod Places
 pub mod Texts
+pub mod Hexadecimal
 pub mod Numbers
+pub mod Groups
+pub mod MacAddresses
+pub mod Ipv6Addresses
 pub mod Addresses

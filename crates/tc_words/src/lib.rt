@@ -16,6 +16,10 @@
 mod addresses;
 mod cuts;
 mod file_lines;
+mod groups;
+mod hexadecimal;
+mod ipv6_addresses;
+mod mac_addresses;
 mod numbers;
 mod places;
 #[cfg(test)]
@@ -24,6 +28,9 @@ mod texts;
 
 pub use addresses::read_ipv4;
 pub use file_lines::lines;
-pub use numbers::read_decimal;
+pub use hexadecimal::read_hex;
+pub use ipv6_addresses::{Ipv6Word, read_ipv6};
+pub use mac_addresses::read_mac;
+pub use numbers::{read_decimal, read_number};
 pub use places::{Word, Words, split, word_bytes};
 pub use texts::{are_texts, is_text};

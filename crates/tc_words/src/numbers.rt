@@ -1,8 +1,11 @@
-//! Numbers in decimal digits.
+//! Numbers in decimal digits, and those that may be in hexadecimal digits.
 ghost use Rattle.std.specs.Prelude.{◌≡◌, ◌≤◌, IfSome, nat_le, if◌then◌else◌, Some, None, IsTrue};
 ghost use Rattle.std.specs.List.{list_all};
 ghost use Rattle.std.specs.Char.{is_ascii_digit};
-ghost use Rattle.tc_words.specs.Numbers.{digits_value, is_decimal, decimal_of};
+ghost use Rattle.tc_words.specs.Hexadecimal.{hex_of};
+ghost use Rattle.tc_words.specs.Numbers.{digits_value, is_decimal, decimal_of, up_to, number_of};
+
+use crate::hexadecimal::read_digits;
 
 fn are_digits(word: &[u8]) -> bool
     ensures { result ≡ list_all is_ascii_digit word.now }
@@ -49,4 +52,30 @@ pub fn read_decimal(word: &[u8], most: u32) -> Option<u32>
         return None;
     }
     value_up_to(word, most)
+}
+
+fn hex_up_to(digits: &[u8], most: u32) -> Option<u32>
+    ensures value { result ≡ up_to most (hex_of digits.now 8) }
+    ensures at_most { IfSome result (λ number. number ≤ most) }
+{
+    let number = read_digits(digits, 8)?;
+    if number > u64::from(most) {
+        return None;
+    }
+    Some(number as u32)
+}
+
+/// The number that a word spells in decimal digits, without a needless 0 in front, or in 1 to 8 hexadecimal digits of either
+/// case behind `0x` or `0X`, where it is at most `most`.
+///
+/// `None` for any other word, the empty one too.
+#[tactic(auto, unfolding(crate::specs::Numbers::number_of))]
+pub fn read_number(word: &[u8], most: u32) -> Option<u32>
+    ensures value { result ≡ number_of word.now most }
+    ensures at_most { IfSome result (λ number. number ≤ most) }
+{
+    match word {
+        [b'0', b'x' | b'X', digits @ ..] => hex_up_to(digits, most),
+        _ => read_decimal(word, most),
+    }
 }
