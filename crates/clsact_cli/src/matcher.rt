@@ -5,21 +5,20 @@ ghost use Rattle.clsact_cli.specs.Addresses.{only_address};
 use crate::filter::Filter;
 use flow_dissect::dissect;
 use flow_fields::{Key, field, set};
-use flow_mask::{masked, matches};
+use flow_mask::MaskedKey;
 use frame_edit::Frame;
 
 const IPV4: u16 = 0x0800;
 
 /// A filter with its mask and its key as words, made once for all packets.
-#[derive(Clone, Copy)]
+#[derive(Drop)]
 pub struct Matcher {
     filter: Filter,
-    mask: Key<14>,
-    key: Key<14>,
-    ghost mask_values: { values_of mask.words ≡ only_address filter.mask },
-    ghost mask_tidy: { IsTidy mask.words },
-    ghost key_values: { values_of key.words ≡ only_address (bit_and filter.address filter.mask) },
-    ghost key_tidy: { IsTidy key.words },
+    masked: MaskedKey,
+    ghost mask_values: { values_of masked.mask ≡ only_address filter.mask },
+    ghost mask_tidy: { IsTidy masked.mask },
+    ghost key_values: { values_of masked.key ≡ only_address (bit_and filter.address filter.mask) },
+    ghost key_tidy: { IsTidy masked.key },
 }
 
 // The key in which only the destination address isn't 0.
@@ -41,18 +40,14 @@ impl Matcher {
     pub fn new(filter: Filter) -> Self
         ensures { result.filter ≡ filter }
     {
-        let mask = address_key(filter.mask);
-        Matcher {
-            filter,
-            mask,
-            key: masked(&address_key(filter.address), &mask),
-        }
+        let masked = MaskedKey::new(&address_key(filter.address), &address_key(filter.mask));
+        Matcher { filter, masked }
     }
 
     fn matches_address(&self, frame: &Frame) -> bool
         ensures { result ≡ (bit_and (dst_ip_of frame.now.bytes) self.now.filter.mask == bit_and self.now.filter.address self.now.filter.mask) }
     {
-        matches(&dissect(frame), &self.mask, &self.key)
+        self.masked.matches(&dissect(frame))
     }
 
     /// Whether the filter matches the frame.

@@ -1,3 +1,4 @@
 pub mod Ands
 pub mod FieldsAndWords
+pub mod Places
 pub mod SizeFacts

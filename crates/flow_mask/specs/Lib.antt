@@ -1,3 +1,4 @@
 pub mod Masks
 pub mod Hashes
 pub mod Sizes
+pub mod Places

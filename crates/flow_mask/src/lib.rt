@@ -11,8 +11,8 @@
 //! The hash is fixed, and no secret: who chooses filters can put many into one bucket. It answers the same on every machine
 //! and at every time, which a repeated run relies on.
 //!
-//! The calls go over all words of a key, though a mask mostly has few words that are not 0. A caller that looks up often may
-//! keep a list of the places of those beside each mask, made once when the mask is, and compare at these places alone: in
+//! Those calls go over all words of a key, though a mask mostly has few words that are not 0. A caller that compares often
+//! keeps a `MaskedKey`, which finds the places of those once, when it is made, and then compares at these places alone: in
 //! every other word both sides are 0, as the filter's key lies under its mask. The hash takes in each word, the zeros too, so
 //! a hash over the places alone would be another function, with other buckets.
 //!
@@ -20,11 +20,13 @@
 #![tactic(auto)]
 
 mod hashing;
+mod masked_key;
 mod matching;
 mod sizes;
 #[cfg(test)]
 mod tests;
 
 pub use hashing::hash;
+pub use masked_key::MaskedKey;
 pub use matching::{masked, matches, words_are_fields};
 pub use sizes::size_for;
