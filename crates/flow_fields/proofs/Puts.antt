@@ -8,17 +8,12 @@ use Rattle.std.proofs.lemmas.Bool.Decides.{nat_tests}
 use Rattle.std.proofs.lemmas.List.{get_or-set_same, get_or-set_other, get_or-map, same_lists, length-set, length-map}
 use Rattle.std.proofs.lemmas.List.Recursion.{or_at}
 use Rattle.flow_fields.specs.Table.{Field, fields, no_field, field_at, has_bit}
-use Rattle.flow_fields.specs.Values.{with_bits, bits_of, value_in, values_of, zeros, IsTidy, SameStrays}
+use Rattle.flow_fields.specs.Values.{with_bits, with_value, bits_of, value_in, values_of, zeros, IsTidy, SameStrays}
 use Rattle.flow_fields.proofs.Bits.{put_same, put_other}
 use Rattle.flow_fields.proofs.Places.{fields_count, apart}
 
--- the words after a value was put into a field
-abbrev pub with_field : List ℕ → ℕ → ℕ → List ℕ
-with_field words i value =
-    slice_set words (field_at i).word (with_bits (get_or words (field_at i).word 0) (field_at i).shift (field_at i).width value)
-
 value_same : (words : List ℕ) (i value : ℕ) → (field_at i).word < length words → value < 2 ^ (field_at i).width →
-    value_in (field_at i) (with_field words i value) ≡ value
+    value_in (field_at i) (with_value words i value) ≡ value
 value_same words i value within fits =
     rw (get_or-set_same words (field_at i).word (with_bits (get_or words (field_at i).word 0) (field_at i).shift (field_at i).width value) 0 within)
     (put_same (get_or words (field_at i).word 0) (field_at i).shift (field_at i).width value fits)
@@ -26,11 +21,11 @@ value_same words i value within fits =
 -- other bits stay
 bits_other : (words : List ℕ) (i value word at count : ℕ) → (field_at i).word < length words → value < 2 ^ (field_at i).width →
     (word ≡ (field_at i).word → (at + count ≤ (field_at i).shift) ⊎ ((field_at i).shift + (field_at i).width ≤ at)) →
-    bits_of (get_or (with_field words i value) word 0) at count ≡ bits_of (get_or words word 0) at count
+    bits_of (get_or (with_value words i value) word 0) at count ≡ bits_of (get_or words word 0) at count
 bits_other words i value word at count within fits apart_if =
     elim (cases_eq word (field_at i).word) [
       | inl same ↦
-          let P : ℕ → Type 0 = λ w. bits_of (get_or (with_field words i value) w 0) at count ≡ bits_of (get_or words w 0) at count in
+          let P : ℕ → Type 0 = λ w. bits_of (get_or (with_value words i value) w 0) at count ≡ bits_of (get_or words w 0) at count in
           subst P (sym same)
           (rw (get_or-set_same words (field_at i).word (with_bits (get_or words (field_at i).word 0) (field_at i).shift (field_at i).width value) 0 within)
           (put_other (get_or words (field_at i).word 0) (field_at i).shift (field_at i).width value at count fits (apart_if same)))
@@ -40,7 +35,7 @@ bits_other words i value word at count within fits apart_if =
     ]
 
 value_other : (words : List ℕ) (i k value : ℕ) → i < 20 → k < 20 → k ≢ i → (field_at i).word < length words → value < 2 ^ (field_at i).width →
-    value_in (field_at k) (with_field words i value) ≡ value_in (field_at k) words
+    value_in (field_at k) (with_value words i value) ≡ value_in (field_at k) words
 value_other words i k value here there other within fits =
     bits_other words i value (field_at k).word (field_at k).shift (field_at k).width within fits (apart i k here there other)
 
@@ -53,25 +48,25 @@ values_count words = length-map fields (λ (f : Field). value_in f words) ∙ fi
 
 values_put_at : (words : List ℕ) (i value : ℕ) → i < 20 → (field_at i).word < length words → value < 2 ^ (field_at i).width →
     (k d : ℕ) → k < 20 →
-    get_or (values_of (with_field words i value)) k d ≡ get_or (slice_set (values_of words) i value) k d
+    get_or (values_of (with_value words i value)) k d ≡ get_or (slice_set (values_of words) i value) k d
 values_put_at words i value here within fits k d there =
     elim (cases_eq k i) [
       | inl same ↦
-          let P : ℕ → Type 0 = λ k. get_or (values_of (with_field words i value)) k d ≡ get_or (slice_set (values_of words) i value) k d in
+          let P : ℕ → Type 0 = λ k. get_or (values_of (with_value words i value)) k d ≡ get_or (slice_set (values_of words) i value) k d in
           let room : i < length (values_of words) = rw values_count here in
           subst P (sym same)
-          (value_at (with_field words i value) i d here ∙ value_same words i value within fits
+          (value_at (with_value words i value) i d here ∙ value_same words i value within fits
           ∙ sym (get_or-set_same (values_of words) i value d room))
       | inr other ↦
-          value_at (with_field words i value) k d there ∙ value_other words i k value here there other within fits
+          value_at (with_value words i value) k d there ∙ value_other words i k value here there other within fits
           ∙ sym (value_at words k d there) ∙ sym (get_or-set_other (values_of words) i k value d other)
     ]
 
 pub values_put : (words : List ℕ) (i value : ℕ) → i < 20 → (field_at i).word < length words → value < 2 ^ (field_at i).width →
-    values_of (with_field words i value) ≡ slice_set (values_of words) i value
+    values_of (with_value words i value) ≡ slice_set (values_of words) i value
 values_put words i value here within fits =
     same_lists _ _
-    (values_count (with_field words i value) ∙ sym (values_count words) ∙ sym (length-set (values_of words) i value))
+    (values_count (with_value words i value) ∙ sym (values_count words) ∙ sym (length-set (values_of words) i value))
     (λ k d there. values_put_at words i value here within fits k d (rw values_count at there))
 
 none_at : (p : Field → Bool) (fs : List Field) (i : ℕ) → i < length fs → list_any p fs ≡ false → p (get_or fs i no_field) ≡ false
@@ -86,7 +81,7 @@ outside : (field : Field) (word bit : ℕ) → has_bit word bit field ≡ false 
 outside field word bit test same = grind (arith, nat_tests)
 
 pub strays_put : (words : List ℕ) (i value : ℕ) → i < 20 → (field_at i).word < length words → value < 2 ^ (field_at i).width →
-    SameStrays words (with_field words i value)
+    SameStrays words (with_value words i value)
 strays_put words i value here within fits = λ word bit free.
     bits_other words i value word bit 1 within fits
     (outside (field_at i) word bit (none_at (has_bit word bit) fields i (rw fields_count here) free))

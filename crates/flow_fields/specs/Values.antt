@@ -1,8 +1,8 @@
 -- The values of the fields in the words of a key.
-use Rattle.std.specs.Prelude.{◌≡◌, ℕ, Bool, false, ◌+◌, ◌*◌, ◌/◌, ◌%◌, ◌^◌, List, [], ◌∷◌, map, slice_index}
+use Rattle.std.specs.Prelude.{◌≡◌, ℕ, Bool, false, ◌+◌, ◌*◌, ◌/◌, ◌%◌, ◌^◌, List, [], ◌∷◌, map, slice_index, slice_set}
 use Rattle.std.specs.Int.{bit_at}
 use Rattle.std.specs.List.{list_any}
-use Rattle.flow_fields.specs.Table.{Field, fields, has_bit}
+use Rattle.flow_fields.specs.Table.{Field, fields, field_at, has_bit}
 
 -- some bits of a number
 abbrev pub bits_of : ℕ → ℕ → ℕ → ℕ
@@ -15,6 +15,11 @@ with_bits number shift width value = (number / 2 ^ shift / 2 ^ width * 2 ^ width
 -- the value of a field in a key
 abbrev pub value_in : Field → List ℕ → ℕ
 value_in field words = bits_of (slice_index words field.word) field.shift field.width
+
+-- the words with another value in a field
+abbrev pub with_value : List ℕ → ℕ → ℕ → List ℕ
+with_value words i value =
+    slice_set words (field_at i).word (with_bits (slice_index words (field_at i).word) (field_at i).shift (field_at i).width value)
 
 -- the values of all fields, in order
 abbrev pub values_of : List ℕ → List ℕ

@@ -1,7 +1,7 @@
 //! Reads and writes the fields of a key.
 ghost use Rattle.std.specs.Prelude.{◌≡◌, ◌+◌, ◌^◌, ◌<◌, ◌≤◌, slice_index, slice_set};
 ghost use Rattle.flow_fields.specs.Table.{field_at};
-ghost use Rattle.flow_fields.specs.Values.{value_in, values_of, bits_of, with_bits, IsTidy, SameStrays};
+ghost use Rattle.flow_fields.specs.Values.{value_in, values_of, bits_of, with_bits, with_value, IsTidy, SameStrays};
 
 use crate::key::Key;
 use crate::table::row;
@@ -59,6 +59,7 @@ pub fn set<const N: usize>(key: &mut Key<N>, field: u32, value: u64)
     requires field { field < 20 }
     requires word { (field_at field).word < N }
     requires fits { value < 2 ^ (field_at field).width }
+    ensures words { key.new.words ≡ with_value key.old.words field value }
     ensures values { values_of key.new.words ≡ slice_set (values_of key.old.words) field value }
     ensures strays { SameStrays key.old.words key.new.words }
     ensures tidy { IsTidy key.old.words → IsTidy key.new.words }

@@ -7,3 +7,4 @@ pub mod Dotted
 pub mod GroupLists
 pub mod MacParts
 pub mod Ipv6Parts
+pub mod SomeWord

@@ -4,7 +4,7 @@ ghost use Rattle.std.specs.List.{slice_split};
 ghost use Rattle.tc_words.specs.Groups.{group_of, followed_by, groups_of};
 
 use crate::cuts::cut_at;
-use crate::hexadecimal::read_digits;
+use crate::hexadecimal::read_hex_digits;
 
 fn read_group(text: &[u8], least: usize, most: u32) -> Option<u64>
     requires { most ≤ 16 }
@@ -14,7 +14,7 @@ fn read_group(text: &[u8], least: usize, most: u32) -> Option<u64>
     if text.len() < least {
         return None;
     }
-    read_digits(text, most)
+    read_hex_digits(text, most)
 }
 
 // The number with one group more behind it.

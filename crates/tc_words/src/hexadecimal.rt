@@ -45,9 +45,12 @@ fn has_hex_form(text: &[u8], most: u32) -> bool
     are_hex_digits(text)
 }
 
-// The number that a text of digits alone spells.
+/// The number that a text of 1 to `most` hexadecimal digits of either case spells, with no `0x` before them. So `17` is 23. At
+/// most 16 digits may be asked for.
+///
+/// `None` for any other text, the empty one too.
 #[tactic(auto, unfolding(crate::specs::Hexadecimal::hex_of))]
-pub(crate) fn read_digits(text: &[u8], most: u32) -> Option<u64>
+pub fn read_hex_digits(text: &[u8], most: u32) -> Option<u64>
     requires { most ≤ 16 }
     ensures value { result ≡ hex_of text.now most }
     ensures below { IfSome result (λ number. number < 16 ^ most) }
@@ -77,5 +80,5 @@ pub fn read_hex(word: &[u8], digits: u32) -> Option<u64>
     ensures value { result ≡ marked_hex_of word.now digits }
     ensures below { IfSome result (λ number. number < 16 ^ digits) }
 {
-    read_digits(without_hex_mark(word), digits)
+    read_hex_digits(without_hex_mark(word), digits)
 }

@@ -114,8 +114,8 @@ fn read_address(text: &[u8]) -> Option<u128>
     }
 }
 
-// The mask of a prefix of so many bits.
-fn length_mask(length: u32) -> u128
+/// The mask of an IPv6 prefix: its highest bits, as many as the length says, are 1 (RFC 4291, section 2.3).
+pub fn ipv6_mask(length: u32) -> u128
     requires { length ≤ 128 }
     ensures { result ≡ ipv6_mask length }
 {
@@ -142,7 +142,7 @@ fn prefix(address: Option<u128>, length: Option<u32>) -> Option<Ipv6Word>
 {
     let address = address?;
     let length = length?;
-    Some(halves(address & length_mask(length), length))
+    Some(halves(address & ipv6_mask(length), length))
 }
 
 // The length that stands alone behind the slash of a word.

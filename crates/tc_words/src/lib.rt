@@ -27,10 +27,11 @@ mod tests;
 mod texts;
 
 pub use addresses::read_ipv4;
+pub use cuts::cut_at;
 pub use file_lines::lines;
-pub use hexadecimal::read_hex;
-pub use ipv6_addresses::{Ipv6Word, read_ipv6};
+pub use hexadecimal::{read_hex, read_hex_digits};
+pub use ipv6_addresses::{Ipv6Word, ipv6_mask, read_ipv6};
 pub use mac_addresses::read_mac;
 pub use numbers::{read_decimal, read_number};
-pub use places::{Word, Words, split, word_bytes};
+pub use places::{Word, Words, has_words, split, word_bytes};
 pub use texts::{are_texts, is_text};

@@ -5,7 +5,7 @@ ghost use Rattle.std.specs.Char.{is_ascii_digit};
 ghost use Rattle.tc_words.specs.Hexadecimal.{hex_of};
 ghost use Rattle.tc_words.specs.Numbers.{digits_value, is_decimal, decimal_of, up_to, number_of};
 
-use crate::hexadecimal::read_digits;
+use crate::hexadecimal::read_hex_digits;
 
 fn are_digits(word: &[u8]) -> bool
     ensures { result ≡ list_all is_ascii_digit word.now }
@@ -58,7 +58,7 @@ fn hex_up_to(digits: &[u8], most: u32) -> Option<u32>
     ensures value { result ≡ up_to most (hex_of digits.now 8) }
     ensures at_most { IfSome result (λ number. number ≤ most) }
 {
-    let number = read_digits(digits, 8)?;
+    let number = read_hex_digits(digits, 8)?;
     if number > u64::from(most) {
         return None;
     }

@@ -1,9 +1,10 @@
 //! The words of a line, as places in it.
-ghost use Rattle.std.specs.Prelude.{◌≡◌, ◌==◌, ◌≤◌, List, ◌++◌, map, length, All, IfOk};
-ghost use Rattle.tc_words.specs.Lines.{parts_between_blanks, words_of};
+ghost use Rattle.std.specs.Prelude.{◌≡◌, ◌==◌, not, ◌≤◌, List, ◌++◌, map, length, All, IfOk};
+ghost use Rattle.std.specs.List.{list_any};
+ghost use Rattle.tc_words.specs.Lines.{is_blank, parts_between_blanks, words_of};
 ghost use Rattle.tc_words.specs.Places.{bytes_at, place_between, IsPlaceIn};
 
-use crate::cuts::{blank_count, blank_place, without_comment};
+use crate::cuts::{blank_count, blank_place, is_blank, without_comment};
 use std::alloc::{AllocError, Global};
 use std::marker::Model;
 use tc_base::NoMemory;
@@ -103,4 +104,17 @@ pub fn split(alloc: Global, bytes: &[u8]) -> Result<Words, NoMemory>
 {
     let words = cut_words(alloc, without_comment(bytes))?;
     Ok(Words::from_vec(words))
+}
+
+fn has_other(text: &[u8]) -> bool
+    ensures { result ≡ list_any (λ b. not (is_blank b)) text.now }
+{
+    text.iter().any(|b| !is_blank(*b))
+}
+
+/// Whether a line has a word: whether it is neither blank nor a comment.
+pub fn has_words(line: &[u8]) -> bool
+    ensures { result ≡ not (length (words_of line.now) == 0) }
+{
+    has_other(without_comment(line))
 }

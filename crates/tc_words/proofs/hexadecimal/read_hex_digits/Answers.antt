@@ -1,6 +1,6 @@
 use Rattle.std.proofs.Common.{length, sym}
 use Rattle.tc_words.proofs.HexDigits.{below_power, length-is_hex}
-use Rattle.tc_words.proofs.hexadecimal.read_digits.Goals as goal
+use Rattle.tc_words.proofs.hexadecimal.read_hex_digits.Goals as goal
 
 pub returns-clause-below : goal.returns-clause-below
 returns-clause-below c =

@@ -1,0 +1,14 @@
+pub mod Joins
+pub mod Clean
+pub mod Decimals
+pub mod Hexadecimal
+pub mod Handles
+pub mod EtherTypes
+pub mod IpProtocols
+pub mod Classes
+pub mod Masked
+pub mod MacTexts
+pub mod Lengths
+pub mod Ipv4Texts
+pub mod Colons
+pub mod Ipv6Texts

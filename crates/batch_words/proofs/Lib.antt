@@ -1,0 +1,4 @@
+pub mod Spelled
+pub mod WordParts
+pub mod Ranges
+pub mod AddressRanges

@@ -1,0 +1,11 @@
+pub mod Rules
+pub mod WordRanges
+pub mod Options
+pub mod ActionParts
+pub mod Actions
+pub mod FieldLists
+pub mod FieldSets
+pub mod FieldValues
+pub mod Keys
+pub mod Fields
+pub mod Lines

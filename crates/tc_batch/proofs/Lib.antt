@@ -1,0 +1,11 @@
+pub mod Languages
+pub mod Choices
+pub mod PairSteps
+pub mod LineSteps
+pub mod ControlSteps
+pub mod ActionSteps
+pub mod WordSteps
+pub mod Ends
+pub mod Alive
+pub mod Runs
+pub mod FieldValues

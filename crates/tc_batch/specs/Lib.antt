@@ -1,0 +1,10 @@
+pub mod Keywords
+pub mod ActionKeywords
+pub mod FieldNames
+pub mod Options
+pub mod Fields
+pub mod Actions
+pub mod States
+pub mod Grammar
+pub mod Machine
+pub mod FirstBad
