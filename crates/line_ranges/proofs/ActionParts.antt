@@ -10,7 +10,7 @@ use Rattle.act_kinds.specs.declared.params.Params.{Params}
 use Rattle.act_kinds.specs.declared.params.Params.TheVariants as params
 use Rattle.act_kinds.specs.Params.{with_control}
 use Rattle.act_kinds.specs.Ranges.{IsTpid, IsVlanId, IsVlanPriority, IsControl, AreParams}
-use Rattle.filter_lists.specs.Lines.{control_of, GoesToNoChain}
+use Rattle.filter_state.specs.Lines.{control_of, GoesToNoChain}
 use Rattle.tc_batch.specs.declared.action_keywords.Site.{Site}
 use Rattle.tc_batch.specs.declared.action_keywords.Site.TheVariants as sites
 use Rattle.tc_batch.specs.declared.action_keywords.ControlWord.{ControlWord}

@@ -8,8 +8,8 @@ use Rattle.act_kinds.specs.declared.params.VlanOp.TheVariants as ops
 use Rattle.act_kinds.specs.declared.params.Params.{Params}
 use Rattle.act_kinds.specs.declared.params.Params.TheVariants as params
 use Rattle.act_kinds.specs.Params.{with_control}
-use Rattle.filter_lists.specs.declared.action_line.ActionLine.{ActionLine}
-use Rattle.filter_lists.specs.Lines.{IsIndex, IsFilterAction, IsSharedAction}
+use Rattle.filter_state.specs.declared.action_line.ActionLine.{ActionLine}
+use Rattle.filter_state.specs.Lines.{IsIndex, IsFilterAction, IsSharedAction}
 use Rattle.tc_batch.specs.declared.action_keywords.Site.{Site}
 use Rattle.tc_batch.specs.declared.action_keywords.Site.TheVariants as sites
 use Rattle.tc_batch.specs.declared.action_keywords.ControlWord.{ControlWord}

@@ -3,7 +3,7 @@ use Rattle.std.proofs.Common.{◌≡◌, ◌∙◌, ℕ, ◌+◌, ◌<◌, Bool,
 use Rattle.std.specs.Prelude.{◌⊎◌, bit_and, slice_set}
 use Rattle.std.proofs.lemmas.Bool.{cases_eq}
 use Rattle.std.proofs.lemmas.List.{get_or-set_same, get_or-set_other, length-set}
-use Rattle.filter_lists.specs.Fields.{IsAllOrNone, IsPrefix, joined, HasPorts}
+use Rattle.filter_state.specs.Fields.{IsAllOrNone, IsPrefix, joined, HasPorts}
 
 -- what the mask of a field can be
 pub data MaskKind : Type 0 where

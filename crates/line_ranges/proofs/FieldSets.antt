@@ -2,7 +2,7 @@
 use Rattle.std.proofs.Common.{◌≡◌, ◌≢◌, ◌∙◌, ℕ, ◌+◌, ◌<◌, Bool, true, false, List, length, get_or, refl, sym, arith}
 use Rattle.std.specs.Prelude.{◌⊎◌, slice_set}
 use Rattle.std.proofs.lemmas.List.{get_or-set_same, get_or-set_other, length-set}
-use Rattle.filter_lists.specs.Fields.{IsPrefix, joined, HasPorts}
+use Rattle.filter_state.specs.Fields.{IsPrefix, joined, HasPorts}
 use Rattle.line_ranges.proofs.FieldLists.{IsMaskAt, IsUnder, IsEach, HeadersIn, AddressIn, each_set, same_headers, same_address, protocol_given, ports_given, flags_given, short_given, long_given}
 
 -- the fields that stood so far, by the names that were given, the values and the masks

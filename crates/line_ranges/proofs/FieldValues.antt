@@ -11,7 +11,7 @@ use Rattle.batch_words.proofs.Spelled.{number_at_most}
 use Rattle.batch_words.proofs.Ranges.{ether_type_range, ip_protocol_range, masked_hex_range, masked_octet_range}
 use Rattle.batch_words.proofs.AddressRanges.{mac_range, ipv4_range, ipv6_range}
 use Rattle.flow_fields.specs.Table.{fields, field_at}
-use Rattle.filter_lists.specs.Fields.{IsPrefix, joined}
+use Rattle.filter_state.specs.Fields.{IsPrefix, joined}
 use Rattle.tc_batch.specs.declared.field_name.FieldName.{FieldName}
 use Rattle.tc_batch.specs.declared.field_name.FieldName.TheVariants as names
 use Rattle.tc_batch.specs.FieldNames.{field_number, whole, field_value}

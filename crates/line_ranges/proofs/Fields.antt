@@ -6,7 +6,7 @@ use Rattle.tc_words.specs.Ipv6Addresses.{ipv6_of, ipv6_mask}
 use Rattle.flow_fields.specs.Table.{field_at}
 use Rattle.flow_fields.specs.Values.{values_of}
 use Rattle.flow_fields.proofs.Puts.{value_at}
-use Rattle.filter_lists.specs.Fields.{HasPorts}
+use Rattle.filter_state.specs.Fields.{HasPorts}
 use Rattle.tc_batch.specs.declared.field_name.FieldName.{FieldName}
 use Rattle.tc_batch.specs.declared.field_name.FieldName.TheVariants as names
 use Rattle.tc_batch.specs.declared.fields.Fields.{Fields}

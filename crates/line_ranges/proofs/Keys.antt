@@ -6,7 +6,7 @@ use Rattle.flow_fields.specs.Table.{field_at}
 use Rattle.flow_fields.specs.Values.{with_value, values_of, zeros, IsTidy}
 use Rattle.flow_fields.proofs.Places.{placed}
 use Rattle.flow_fields.proofs.Puts.{values_put, strays_put, zero_at, zero_values, zero_tidy}
-use Rattle.filter_lists.specs.Fields.{AreFields, AreKeys, IsPrefix}
+use Rattle.filter_state.specs.Fields.{AreFields, AreKeys, IsPrefix}
 use Rattle.tc_batch.specs.declared.fields.Fields.{Fields}
 use Rattle.tc_batch.specs.Fields.{no_names, no_fields}
 use Rattle.line_ranges.proofs.FieldLists.{MaskKind, all_or_none, prefix, any, mask_kinds, IsMaskOf, IsMaskAt, IsUnder, IsEach}

@@ -2,10 +2,10 @@
 use Rattle.std.proofs.Common.{◌≡◌, ℕ, zero, suc, ◌+◌, ◌≤◌, Bool, true, false, List, [], ◌∷◌, ◌++◌, length, length-append, Some, refl, sym, subst, arith, inl, inr}
 use Rattle.std.specs.Prelude.{codes, is_some, if◌then◌else◌}
 use Rattle.tc_base.specs.declared.hook.Hook.{Hook}
-use Rattle.filter_lists.specs.declared.action_line.ActionLine.{ActionLine}
-use Rattle.filter_lists.specs.declared.edit.Edit.{Edit}
-use Rattle.filter_lists.specs.declared.edit.Edit.TheVariants as edits
-use Rattle.filter_lists.specs.Lines.{IsFilterAction, AreFilterActions, IsFilter, IsLine}
+use Rattle.filter_state.specs.declared.action_line.ActionLine.{ActionLine}
+use Rattle.filter_state.specs.declared.edit.Edit.{Edit}
+use Rattle.filter_state.specs.declared.edit.Edit.TheVariants as edits
+use Rattle.filter_state.specs.Lines.{IsFilterAction, AreFilterActions, IsFilter, IsLine}
 use Rattle.tc_batch.specs.declared.keywords.LineKind.{LineKind}
 use Rattle.tc_batch.specs.declared.keywords.LineKind.TheVariants as lines
 use Rattle.tc_batch.specs.declared.keywords.FilterVerb.{FilterVerb}
@@ -15,7 +15,7 @@ use Rattle.tc_batch.specs.declared.keywords.ActionVerb.TheVariants as action_ver
 use Rattle.tc_batch.specs.declared.action_keywords.Site.TheVariants as sites
 use Rattle.tc_batch.specs.declared.field_name.FieldName.{FieldName}
 use Rattle.tc_batch.specs.declared.options.Options.{Options}
-use Rattle.tc_batch.specs.declared.state.Head.{Head}
+use Rattle.tc_batch.specs.declared.draft.Head.{Head}
 use Rattle.tc_batch.specs.Keywords.{line_kind, qdisc_verb, filter_verb, action_verb, hook_word}
 use Rattle.tc_batch.specs.ActionKeywords.{kind_word}
 use Rattle.tc_batch.specs.FieldNames.{field_name}

@@ -7,7 +7,7 @@ use Rattle.tc_base.specs.declared.hook.Hook.{Hook}
 use Rattle.tc_base.specs.declared.hook.Proto.{Proto}
 use Rattle.tc_base.specs.declared.hook.Proto.TheVariants.{All}
 use Rattle.act_kinds.specs.Ranges.{IsChain}
-use Rattle.filter_lists.specs.Lines.{IsPref, IsIndex, IsProtocol, IsLine}
+use Rattle.filter_state.specs.Lines.{IsPref, IsIndex, IsProtocol, IsLine}
 use Rattle.tc_batch.specs.declared.keywords.OptionName.{OptionName}
 use Rattle.tc_batch.specs.declared.keywords.OptionName.TheVariants as option_names
 use Rattle.tc_batch.specs.declared.keywords.QdiscVerb.{QdiscVerb}

@@ -5,7 +5,7 @@ use Rattle.tc_base.specs.declared.hook.Proto.TheVariants as protocols
 use Rattle.batch_words.specs.Forms.{number_between, tpid_of, protocol_of, class_of}
 use Rattle.batch_words.proofs.Ranges.{number_between_range, tpid_range, protocol_range, class_range}
 use Rattle.act_kinds.specs.Ranges.{IsChain, IsTpid, IsVlanId, IsVlanPriority}
-use Rattle.filter_lists.specs.Lines.{IsPref, IsIndex, IsProtocol}
+use Rattle.filter_state.specs.Lines.{IsPref, IsIndex, IsProtocol}
 use Rattle.tc_batch.specs.Options.{chain_number, index_number, pref_number}
 
 -- options and indices

@@ -9,8 +9,8 @@
 #![tactic(auto)]
 
 ghost use Rattle.std.specs.Prelude.{ℕ, List};
-ghost use Rattle.filter_lists.specs.declared.edit.Edit.{Edit};
-ghost use Rattle.filter_lists.specs.Lines.{IsLine};
+ghost use Rattle.filter_state.specs.declared.edit.Edit.{Edit};
+ghost use Rattle.filter_state.specs.Lines.{IsLine};
 ghost use Rattle.tc_batch.specs.Grammar.{Gives};
 
 /// The edit that a line gives is in the ranges of a line.

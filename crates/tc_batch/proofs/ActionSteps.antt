@@ -7,8 +7,8 @@ use Rattle.act_kinds.specs.declared.params.Kind.TheVariants as kinds
 use Rattle.act_kinds.specs.declared.params.Control.TheVariants as controls
 use Rattle.act_kinds.specs.declared.params.Params.{Params}
 use Rattle.act_kinds.specs.declared.params.Params.TheVariants as params
-use Rattle.filter_lists.specs.declared.action_line.ActionLine.{ActionLine}
-use Rattle.filter_lists.specs.declared.edit.Edit.{Edit}
+use Rattle.filter_state.specs.declared.action_line.ActionLine.{ActionLine}
+use Rattle.filter_state.specs.declared.edit.Edit.{Edit}
 use Rattle.tc_batch.specs.declared.action_keywords.VlanVerb.{VlanVerb}
 use Rattle.tc_batch.specs.declared.action_keywords.VlanVerb.TheVariants as vlan_verbs
 use Rattle.tc_batch.specs.declared.action_keywords.TagVerb.{TagVerb}

@@ -16,9 +16,9 @@ use Rattle.act_kinds.specs.declared.params.Control.TheVariants as controls
 use Rattle.act_kinds.specs.declared.params.Params.{Params}
 use Rattle.act_kinds.specs.declared.params.Params.TheVariants as params
 use Rattle.act_kinds.specs.Params.{with_control}
-use Rattle.filter_lists.specs.declared.action_line.ActionLine.{ActionLine}
-use Rattle.filter_lists.specs.declared.edit.Edit.{Edit}
-use Rattle.filter_lists.specs.declared.edit.Edit.TheVariants as edits
+use Rattle.filter_state.specs.declared.action_line.ActionLine.{ActionLine}
+use Rattle.filter_state.specs.declared.edit.Edit.{Edit}
+use Rattle.filter_state.specs.declared.edit.Edit.TheVariants as edits
 use Rattle.tc_batch.specs.declared.keywords.QdiscVerb.{QdiscVerb}
 use Rattle.tc_batch.specs.declared.keywords.QdiscVerb.TheVariants as qdisc_verbs
 use Rattle.tc_batch.specs.declared.keywords.FilterVerb.{FilterVerb}

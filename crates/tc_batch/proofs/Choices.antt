@@ -5,7 +5,7 @@ use Rattle.std.specs.Str.{bytes_eq}
 use Rattle.std.specs.Option.{option_map}
 use Rattle.std.proofs.lemmas.Bool.Decides.{nat_tests}
 use Rattle.std.proofs.lemmas.Slice.Eq.{bytes_eq-Decides}
-use Rattle.filter_lists.specs.declared.edit.Edit.{Edit}
+use Rattle.filter_state.specs.declared.edit.Edit.{Edit}
 use Rattle.tc_batch.specs.States.{State}
 use Rattle.tc_batch.specs.Grammar.{Then}
 use Rattle.tc_batch.specs.Machine.{on_text}

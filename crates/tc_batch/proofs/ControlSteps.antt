@@ -4,8 +4,8 @@ use Rattle.std.specs.Prelude.{codes, IsSomeAnd}
 use Rattle.std.specs.Str.{bytes_eq}
 use Rattle.act_kinds.specs.declared.params.Params.{Params}
 use Rattle.act_kinds.specs.Params.{with_control}
-use Rattle.filter_lists.specs.declared.action_line.ActionLine.{ActionLine}
-use Rattle.filter_lists.specs.declared.edit.Edit.{Edit}
+use Rattle.filter_state.specs.declared.action_line.ActionLine.{ActionLine}
+use Rattle.filter_state.specs.declared.edit.Edit.{Edit}
 use Rattle.tc_batch.specs.declared.action_keywords.Site.{Site}
 use Rattle.tc_batch.specs.declared.action_keywords.ControlWord.{ControlWord}
 use Rattle.tc_batch.specs.declared.action_keywords.ControlWord.TheVariants as control_words

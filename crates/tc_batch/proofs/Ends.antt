@@ -4,8 +4,8 @@ use Rattle.std.specs.Prelude.{is_some, if◌then◌else◌}
 use Rattle.act_kinds.specs.declared.params.Kind.{Kind}
 use Rattle.act_kinds.specs.declared.params.Kind.TheVariants as kinds
 use Rattle.act_kinds.specs.declared.params.Params.{Params}
-use Rattle.filter_lists.specs.declared.action_line.ActionLine.{ActionLine}
-use Rattle.filter_lists.specs.declared.edit.Edit.{Edit}
+use Rattle.filter_state.specs.declared.action_line.ActionLine.{ActionLine}
+use Rattle.filter_state.specs.declared.edit.Edit.{Edit}
 use Rattle.tc_batch.specs.declared.draft.Head.{Head}
 use Rattle.tc_batch.specs.States.{Context, State}
 use Rattle.tc_batch.specs.declared.stage.Place.{Place}

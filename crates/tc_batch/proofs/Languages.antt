@@ -3,9 +3,9 @@ use Rattle.std.proofs.Common.{ℕ, List, [], ◌∷◌, ◌++◌, Some}
 use Rattle.std.specs.Prelude.{codes}
 use Rattle.act_kinds.specs.declared.params.Control.TheVariants as controls
 use Rattle.act_kinds.specs.Params.{with_control}
-use Rattle.filter_lists.specs.declared.action_line.ActionLine.{ActionLine}
-use Rattle.filter_lists.specs.declared.edit.Edit.{Edit}
-use Rattle.filter_lists.specs.declared.edit.Edit.TheVariants as edits
+use Rattle.filter_state.specs.declared.action_line.ActionLine.{ActionLine}
+use Rattle.filter_state.specs.declared.edit.Edit.{Edit}
+use Rattle.filter_state.specs.declared.edit.Edit.TheVariants as edits
 use Rattle.tc_batch.specs.declared.keywords.LineKind.TheVariants as lines
 use Rattle.tc_batch.specs.declared.keywords.ActionVerb.TheVariants as action_verbs
 use Rattle.tc_batch.specs.States.{Context, State}

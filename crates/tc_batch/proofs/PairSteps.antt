@@ -1,7 +1,7 @@
 -- Names with values, for every kind of names.
 use Rattle.std.proofs.Common.{◌≡◌, ◌∙◌, ℕ, Bool, true, false, List, [], ◌∷◌, Option, Some, None, refl, sym, ap, subst, inl, inr}
 use Rattle.std.specs.Prelude.{if◌then◌else◌, IsSomeAnd}
-use Rattle.filter_lists.specs.declared.edit.Edit.{Edit}
+use Rattle.filter_state.specs.declared.edit.Edit.{Edit}
 use Rattle.tc_batch.specs.States.{State}
 use Rattle.tc_batch.specs.Options.{set_once}
 use Rattle.tc_batch.specs.Grammar.{Reads, Pairs}

@@ -8,7 +8,7 @@ use Rattle.tc_batch.specs.FirstBad.{Begins, IsFirstBad}
 use Rattle.std.proofs.lemmas.List.{length-map}
 use Rattle.tc_words.specs.Places.{bytes_at}
 use Rattle.tc_words.specs.declared.places.Word.{Word}
-use Rattle.filter_lists.specs.declared.edit.Edit.{Edit}
+use Rattle.filter_state.specs.declared.edit.Edit.{Edit}
 use Rattle.tc_batch.specs.States.{State}
 use Rattle.tc_batch.specs.Grammar.{Gives}
 use Rattle.tc_batch.specs.Machine.{next_state, edit_at, run}

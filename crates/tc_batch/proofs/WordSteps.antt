@@ -3,8 +3,8 @@ use Rattle.std.proofs.Common.{ℕ, List, ◌∷◌, Some}
 use Rattle.std.specs.Prelude.{codes}
 use Rattle.act_kinds.specs.declared.params.Control.TheVariants as controls
 use Rattle.act_kinds.specs.Params.{with_control}
-use Rattle.filter_lists.specs.declared.edit.Edit.{Edit}
-use Rattle.filter_lists.specs.declared.edit.Edit.TheVariants as edits
+use Rattle.filter_state.specs.declared.edit.Edit.{Edit}
+use Rattle.filter_state.specs.declared.edit.Edit.TheVariants as edits
 use Rattle.tc_batch.specs.declared.stage.Place.TheVariants as places
 use Rattle.tc_batch.specs.States.{State}
 use Rattle.tc_batch.specs.Keywords.{line_kind, qdisc_verb, filter_verb, action_verb, hook_word}

@@ -8,7 +8,7 @@ use Rattle.act_kinds.specs.declared.params.VlanOp.TheVariants as ops
 use Rattle.act_kinds.specs.declared.params.Params.{Params}
 use Rattle.act_kinds.specs.declared.params.Params.TheVariants as params
 use Rattle.act_kinds.specs.Params.{kind_of}
-use Rattle.filter_lists.specs.declared.action_line.ActionLine.{ActionLine}
+use Rattle.filter_state.specs.declared.action_line.ActionLine.{ActionLine}
 use Rattle.tc_batch.specs.declared.action_keywords.TagVerb.{TagVerb}
 use Rattle.tc_batch.specs.declared.action_keywords.TagVerb.TheVariants as tag_verbs
 use Rattle.tc_batch.specs.declared.action_keywords.TagName.{TagName}

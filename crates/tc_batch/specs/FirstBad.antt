@@ -1,6 +1,6 @@
 -- The first bad word of a list of words that is no line.
 use Rattle.std.specs.Prelude.{ℕ, ◌+◌, ◌<◌, ◌≤◌, List, ◌++◌, length, take}
-use Rattle.filter_lists.specs.declared.edit.Edit.{Edit}
+use Rattle.filter_state.specs.declared.edit.Edit.{Edit}
 use Rattle.tc_batch.specs.declared.fault.LineFault.{LineFault}
 use Rattle.tc_batch.specs.declared.fault.LineFault.TheVariants as faults
 use Rattle.tc_batch.specs.Grammar.{Gives}

@@ -10,9 +10,9 @@ use Rattle.act_kinds.specs.declared.params.VlanOp.TheVariants as ops
 use Rattle.act_kinds.specs.declared.params.Params.{Params}
 use Rattle.act_kinds.specs.declared.params.Params.TheVariants as params
 use Rattle.act_kinds.specs.Params.{with_control}
-use Rattle.filter_lists.specs.declared.action_line.ActionLine.{ActionLine}
-use Rattle.filter_lists.specs.declared.edit.Edit.{Edit}
-use Rattle.filter_lists.specs.declared.edit.Edit.TheVariants as edits
+use Rattle.filter_state.specs.declared.action_line.ActionLine.{ActionLine}
+use Rattle.filter_state.specs.declared.edit.Edit.{Edit}
+use Rattle.filter_state.specs.declared.edit.Edit.TheVariants as edits
 use Rattle.tc_batch.specs.declared.keywords.LineKind.{LineKind}
 use Rattle.tc_batch.specs.declared.keywords.LineKind.TheVariants as lines
 use Rattle.tc_batch.specs.declared.keywords.FilterVerb.{FilterVerb}

@@ -3,8 +3,8 @@ use Rattle.std.specs.Prelude.{ℕ, Bool, true, false, ◌&&◌, not, List, Optio
 use Rattle.std.specs.Option.{option_map, unwrap_or}
 use Rattle.batch_words.specs.Forms.{number_between, protocol_of}
 use Rattle.tc_base.specs.declared.hook.Hook.{Hook}
-use Rattle.filter_lists.specs.declared.edit.Edit.{Edit}
-use Rattle.filter_lists.specs.declared.edit.Edit.TheVariants as edits
+use Rattle.filter_state.specs.declared.edit.Edit.{Edit}
+use Rattle.filter_state.specs.declared.edit.Edit.TheVariants as edits
 use Rattle.tc_batch.specs.declared.keywords.QdiscVerb.{QdiscVerb}
 use Rattle.tc_batch.specs.declared.keywords.QdiscVerb.TheVariants as qdisc_verbs
 use Rattle.tc_batch.specs.declared.keywords.FilterVerb.{FilterVerb}

@@ -2,9 +2,9 @@
 use Rattle.std.specs.Prelude.{ℕ, List}
 use Rattle.tc_base.specs.declared.hook.Hook.{Hook}
 use Rattle.act_kinds.specs.declared.params.Kind.{Kind}
-use Rattle.filter_lists.specs.declared.action_line.ActionLine.{ActionLine}
-use Rattle.filter_lists.specs.declared.edit.Edit.{Edit}
-use Rattle.filter_lists.specs.declared.edit.Edit.TheVariants as edits
+use Rattle.filter_state.specs.declared.action_line.ActionLine.{ActionLine}
+use Rattle.filter_state.specs.declared.edit.Edit.{Edit}
+use Rattle.filter_state.specs.declared.edit.Edit.TheVariants as edits
 use Rattle.tc_batch.specs.declared.keywords.QdiscVerb.{QdiscVerb}
 use Rattle.tc_batch.specs.declared.keywords.FilterVerb.{FilterVerb}
 use Rattle.tc_batch.specs.declared.keywords.ActionVerb.{ActionVerb}

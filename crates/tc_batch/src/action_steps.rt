@@ -21,7 +21,7 @@ use crate::numbers::{read_chain, read_index};
 use crate::stage::{Ending, Place, Stage};
 use crate::tag::Tag;
 use act_kinds::{Control, Kind, Params, VlanOp};
-use filter_lists::ActionLine;
+use filter_state::ActionLine;
 use std::alloc::AllocError;
 use tc_words::is_text;
 

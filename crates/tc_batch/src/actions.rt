@@ -3,7 +3,7 @@ ghost use Rattle.std.specs.Prelude.{◌≡◌};
 ghost use Rattle.tc_batch.specs.Actions.{full_action, named_action};
 
 use act_kinds::{Kind, Params};
-use filter_lists::ActionLine;
+use filter_state::ActionLine;
 
 pub(crate) fn full_action(params: Params, index: Option<u32>) -> ActionLine
     ensures { result ≡ full_action params index }

@@ -4,7 +4,7 @@ ghost use Rattle.tc_batch.specs.Fields.{filter_head, filter_line, filter_edit};
 
 use crate::fields::Fields;
 use crate::options::Options;
-use filter_lists::{ActionLines, Edit, FilterLine};
+use filter_state::{ActionLines, Edit, FilterLine};
 use std::alloc::Global;
 use tc_base::{Hook, Proto};
 

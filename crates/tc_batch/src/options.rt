@@ -5,7 +5,7 @@ ghost use Rattle.tc_batch.specs.Options.{no_options, is_given, with_option, may_
 use crate::keywords::{FilterVerb, OptionName, QdiscVerb};
 use crate::numbers::{read_chain, read_index, read_pref};
 use batch_words::read_protocol;
-use filter_lists::Edit;
+use filter_state::Edit;
 use tc_base::{Hook, Proto};
 
 /// What stood between the hook and `flower` so far: `None` where the word didn't.

@@ -2,7 +2,7 @@
 ghost use Rattle.std.specs.Prelude.{◌≡◌, ◌==◌, not, ◌<◌, ◌-◌, ◌^◌, ℕ, List, length, map, All, IfOk, IfErr};
 ghost use Rattle.tc_words.specs.Lines.{words_of};
 ghost use Rattle.tc_words.specs.Places.{bytes_at, IsPlaceIn};
-ghost use Rattle.filter_lists.specs.declared.edit.Edit.{Edit};
+ghost use Rattle.filter_state.specs.declared.edit.Edit.{Edit};
 ghost use Rattle.tc_batch.specs.Grammar.{Gives};
 ghost use Rattle.tc_batch.specs.FirstBad.{HasFault, IsFirstBad};
 
@@ -10,7 +10,7 @@ use crate::draft::Draft;
 use crate::fault::LineFault;
 use crate::stage::Stage;
 use crate::steps::{end, step};
-use filter_lists::Edit;
+use filter_state::Edit;
 use std::alloc::Global;
 use tc_words::{Word, has_words, split, word_bytes};
 

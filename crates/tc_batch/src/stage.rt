@@ -6,7 +6,7 @@ use crate::keywords::{ActionVerb, FilterVerb, OptionName, QdiscVerb};
 use crate::marks::Marks;
 use crate::tag::Tag;
 use act_kinds::{Kind, Params};
-use filter_lists::ActionLine;
+use filter_state::ActionLine;
 
 /// How far an action has come. Parameters hold the control that stands if none follows.
 #[derive(Clone, Copy, Debug)]

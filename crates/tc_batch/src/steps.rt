@@ -16,7 +16,7 @@ use crate::line_steps::{
 use crate::options::qdisc_edit;
 use crate::stage::{Ending, Place, Stage};
 use act_kinds::Params;
-use filter_lists::Edit;
+use filter_state::Edit;
 use std::alloc::{AllocError, Global};
 
 // The stage after one word more. `None` where no line goes on so.

@@ -21,7 +21,7 @@ pub struct ActionLines {
 
 impl Model for ActionLines {
     ghost use Rattle.std.specs.Prelude.{List};
-    ghost use Rattle.filter_lists.specs.declared.action_line.ActionLine.{ActionLine};
+    ghost use Rattle.filter_state.specs.declared.action_line.ActionLine.{ActionLine};
 
     ghost Value = { List ActionLine };
 

@@ -11,6 +11,8 @@
 
 mod action_line;
 mod edit;
+mod refusal;
 
 pub use action_line::{ActionLine, ActionLines};
 pub use edit::{Edit, FilterLine};
+pub use refusal::{Done, Refusal};

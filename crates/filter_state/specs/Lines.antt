@@ -1,20 +1,18 @@
 -- Which edits a batch line can say. The ranges are this project's own where no source is given.
-use Rattle.std.specs.Prelude.{◌≡◌, ℕ, ◌<◌, ◌≤◌, ◌^◌, List, [], ◌∷◌, length, Option, Some, None, IfSome, IsSomeAnd, IsSome}
-use Rattle.std.specs.List.{All}
+use Rattle.std.specs.Prelude.{◌≡◌, ℕ, ◌<◌, ◌≤◌, List, [], ◌∷◌, length, Option, Some, None, IfSome, IsSomeAnd, IsSome}
 use Rattle.act_kinds.specs.declared.params.Control.{Control}
 use Rattle.act_kinds.specs.declared.params.Control.TheVariants as controls
-use Rattle.act_kinds.specs.declared.params.Kind.{Kind}
 use Rattle.act_kinds.specs.declared.params.Params.{Params}
 use Rattle.act_kinds.specs.declared.params.Params.TheVariants as params
 use Rattle.act_kinds.specs.Params.{kind_of}
 use Rattle.act_kinds.specs.Ranges.{IsChain, AreParams}
 use Rattle.tc_base.specs.declared.hook.Proto.{Proto}
 use Rattle.tc_base.specs.declared.hook.Proto.TheVariants as protocols
-use Rattle.filter_lists.specs.declared.action_line.ActionLine.{ActionLine}
-use Rattle.filter_lists.specs.declared.edit.FilterLine.{FilterLine}
-use Rattle.filter_lists.specs.declared.edit.Edit.{Edit}
-use Rattle.filter_lists.specs.declared.edit.Edit.TheVariants as edits
-use Rattle.filter_lists.specs.Fields.{AreKeys}
+use Rattle.filter_state.specs.declared.action_line.ActionLine.{ActionLine}
+use Rattle.filter_state.specs.declared.edit.FilterLine.{FilterLine}
+use Rattle.filter_state.specs.declared.edit.Edit.{Edit}
+use Rattle.filter_state.specs.declared.edit.Edit.TheVariants as edits
+use Rattle.filter_state.specs.Fields.{AreKeys}
 
 -- the kernel keeps a pref in 16 bits (TC_H_MIN of tcm_info, include/uapi/linux/rtnetlink.h)
 abbrev pub IsPref : ℕ → Type 0

@@ -1,0 +1,9 @@
+pub mod Fields
+pub mod Lines
+pub mod States
+pub mod Actions
+pub mod Tables
+pub mod Refusals
+pub mod Steps
+pub mod Sound
+pub mod Journals

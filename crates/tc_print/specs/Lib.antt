@@ -1,0 +1,4 @@
+pub mod ActionWords
+pub mod FieldWords
+pub mod EditWords
+pub mod Texts
