@@ -1,6 +1,7 @@
 -- Which frames a filter matches: tc-flower(8), `protocol ip` and `dst_ip`.
 use Rattle.std.specs.Prelude.{ℕ, Bool, false, ◌&&◌, ◌==◌, bit_and, List, Option, Some, None}
-use Rattle.flow_dissect.specs.Headers.{ether_type_of, dst_ip_of}
+use Rattle.frame_edit.specs.Tags.{ether_type_of}
+use Rattle.flow_dissect.specs.Headers.{dst_ip_of}
 use Rattle.clsact_cli.specs.declared.filter.Filter.{Filter}
 
 -- the frame's EtherType is IPv4's, and its destination and the filter's address are equal under the mask

@@ -3,7 +3,8 @@ use Rattle.std.proofs.Common.{◌≡◌, ℕ, ◌+◌, ◌/◌, ◌%◌, ◌*◌
 use Rattle.std.proofs.lemmas.Bool.{lt-leb, le-leb}
 use Rattle.flow_fields.specs.Values.{zeros}
 use Rattle.flow_dissect.specs.Fields.{frame_values}
-use Rattle.flow_dissect.specs.Headers.{two_at, four_at, six_at, eight_at, where_so, in_either, has_ethernet, has_first_tag, has_tag_at, has_ipv4, has_ipv6, has_ports, has_flags, has_ports_at, is_fragment_at, is_ipv4_at, is_ipv6_at, header_words, network_at, network_type, transport_at, protocol_of}
+use Rattle.frame_edit.specs.Tags.{two_at, has_ethernet}
+use Rattle.flow_dissect.specs.Headers.{four_at, six_at, eight_at, where_so, in_either, has_first_tag, has_tag_at, has_ipv4, has_ipv6, has_ports, has_flags, has_ports_at, is_fragment_at, is_ipv4_at, is_ipv6_at, header_words, network_at, network_type, transport_at, protocol_of}
 use Rattle.flow_dissect.specs.Steps.{with_addresses, with_tags, with_packet}
 
 -- a frame that is too short for an Ethernet header has no fields

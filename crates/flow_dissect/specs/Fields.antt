@@ -1,6 +1,7 @@
 -- The fields of a frame: each by its own condition and its own place, and 0 where the condition does not hold.
 use Rattle.std.specs.Prelude.{ℕ, ◌+◌, ◌/◌, ◌%◌, List, [], ◌∷◌, slice_index}
-use Rattle.flow_dissect.specs.Headers.{two_at, four_at, six_at, eight_at, where_so, in_either, has_ethernet, has_first_tag, has_second_tag, has_ipv4, has_ipv6, has_ports, has_flags, network_at, transport_at, protocol_of}
+use Rattle.frame_edit.specs.Tags.{two_at, has_ethernet}
+use Rattle.flow_dissect.specs.Headers.{four_at, six_at, eight_at, where_so, in_either, has_first_tag, has_second_tag, has_ipv4, has_ipv6, has_ports, has_flags, network_at, transport_at, protocol_of}
 
 -- The values of a frame's fields, in the order of the table of fields.
 -- IEEE 802.3, clause 3.2: the destination, and then the source.

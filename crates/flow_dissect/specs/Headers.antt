@@ -1,10 +1,7 @@
 -- The headers of an Ethernet frame, and where they stand. Bytes are counted from 0, and numbers are big-endian.
 use Rattle.std.specs.Prelude.{ℕ, ◌+◌, ◌-◌, ◌*◌, ◌%◌, Bool, not, ◌&&◌, ◌||◌, ◌==◌, nat_le, if◌then◌else◌, List, length, drop, slice_index}
 use Rattle.byteorder.specs.Endian.{big_number}
-
--- the number in the two bytes from a place on
-abbrev pub two_at : List ℕ → ℕ → ℕ
-two_at bytes at = big_number 2 (drop at bytes)
+use Rattle.frame_edit.specs.Tags.{two_at, has_ethernet, is_tag_type}
 
 -- the number in the four bytes from a place on
 abbrev pub four_at : List ℕ → ℕ → ℕ
@@ -21,18 +18,6 @@ eight_at bytes at = big_number 8 (drop at bytes)
 -- a number that counts only under a condition: 0 elsewhere
 abbrev pub where_so : Bool → ℕ → ℕ
 where_so condition number = if condition then number else 0
-
--- IEEE 802.3, clause 3.2: two addresses of six bytes, and then the EtherType
-abbrev pub has_ethernet : List ℕ → Bool
-has_ethernet bytes = nat_le 14 (length bytes)
-
--- the EtherType behind the two addresses, or 0 where there is none
-abbrev pub ether_type_of : List ℕ → ℕ
-ether_type_of bytes = if has_ethernet bytes then two_at bytes 12 else 0
-
--- IEEE 802.1Q, clause 9: the EtherTypes of a customer tag and of a service tag
-abbrev pub is_tag_type : ℕ → Bool
-is_tag_type number = number == 0x8100 || number == 0x88a8
 
 -- IEEE 802.1Q, clause 9 (tag format): a tag is its own EtherType and two bytes of control information. It counts as one only where the
 -- EtherType behind it is in the frame too, so a tag at a place takes six bytes from there on.

@@ -1,7 +1,8 @@
 -- What each header puts into a list of values. Only the contracts of private functions speak of these words: `key_of` promises the list of
 -- `Fields` and nothing of these.
 use Rattle.std.specs.Prelude.{ℕ, ◌+◌, ◌*◌, ◌/◌, ◌%◌, ◌==◌, nat_le, if◌then◌else◌, List, slice_index, slice_set}
-use Rattle.flow_dissect.specs.Headers.{two_at, four_at, six_at, eight_at, has_ipv4, has_ipv6, network_at, header_words, is_fragment_at, has_ports_at, has_flags_at}
+use Rattle.frame_edit.specs.Tags.{two_at}
+use Rattle.flow_dissect.specs.Headers.{four_at, six_at, eight_at, has_ipv4, has_ipv6, network_at, header_words, is_fragment_at, has_ports_at, has_flags_at}
 
 -- the two addresses
 abbrev pub with_addresses : List ℕ → List ℕ → List ℕ

@@ -19,7 +19,6 @@
 ghost use Rattle.std.specs.Prelude.{◌≡◌};
 ghost use Rattle.flow_fields.specs.Values.{values_of, IsTidy};
 ghost use Rattle.flow_dissect.specs.Fields.{frame_values};
-ghost use Rattle.flow_dissect.specs.Headers.{ether_type_of, dst_ip_of};
 
 mod link;
 mod network;
@@ -31,8 +30,7 @@ mod transport;
 use flow_fields::Key;
 use frame_edit::Frame;
 use link::{network_place, put_addresses, put_tags};
-use network::{has_ipv4, put_packet};
-use numbers::{u16_at, u32_at};
+use network::put_packet;
 
 /// The key of a frame: the value of each field that its headers have, and 0 for each other.
 ///
@@ -60,32 +58,4 @@ pub fn dissect(frame: &Frame) -> Key<14>
     ensures tidy { IsTidy result.words }
 {
     key_of(frame.bytes())
-}
-
-/// The EtherType behind the two addresses of a frame, or 0 where the frame has no 14 bytes.
-#[inline]
-pub fn ether_type(bytes: &[u8]) -> u16
-    ensures { result ≡ ether_type_of bytes.now }
-{
-    if bytes.len() < 14 {
-        0
-    } else {
-        u16_at(bytes, 12)
-    }
-}
-
-/// The IPv4 destination address of a frame, behind at most two VLAN tags, or 0 where the frame has none.
-#[tactic(auto, unfolding(crate::specs::Headers::has_ipv4, crate::specs::Headers::dst_ip_of))]
-pub fn dst_ip(bytes: &[u8]) -> u32
-    ensures { result ≡ dst_ip_of bytes.now }
-{
-    if bytes.len() < 14 {
-        return 0;
-    }
-    let network = network_place(bytes);
-    if has_ipv4(bytes, network) {
-        u32_at(bytes, network.start + 16)
-    } else {
-        0
-    }
 }

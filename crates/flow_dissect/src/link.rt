@@ -1,7 +1,8 @@
 //! The Ethernet header: the two addresses, the EtherType, and the VLAN tags.
 ghost use Rattle.std.specs.Prelude.{◌≡◌, ◌+◌, ◌≤◌, length};
 ghost use Rattle.flow_fields.specs.Values.{values_of, IsTidy};
-ghost use Rattle.flow_dissect.specs.Headers.{is_tag_type, network_at, network_type};
+ghost use Rattle.frame_edit.specs.Tags.{is_tag_type};
+ghost use Rattle.flow_dissect.specs.Headers.{network_at, network_type};
 ghost use Rattle.flow_dissect.specs.Steps.{with_addresses, with_first_tag, with_second_tag, with_tags};
 
 use crate::numbers::{u16_at, u48_at};

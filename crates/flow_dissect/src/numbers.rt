@@ -1,6 +1,7 @@
 //! Big-endian numbers in bytes.
 ghost use Rattle.std.specs.Prelude.{◌≡◌, ◌+◌, ◌<◌, ◌≤◌, ◌^◌, length};
-ghost use Rattle.flow_dissect.specs.Headers.{two_at, four_at, six_at, eight_at};
+ghost use Rattle.frame_edit.specs.Tags.{two_at};
+ghost use Rattle.flow_dissect.specs.Headers.{four_at, six_at, eight_at};
 
 use byteorder::{BigEndian, ByteOrder};
 

@@ -1,4 +1,4 @@
-use crate::{dst_ip, ether_type, key_of};
+use crate::key_of;
 use std::alloc::AllocError;
 
 // Two addresses.
@@ -163,7 +163,6 @@ fn fields_of_frames(rt: HostRuntime) -> Result<(), AllocError> {
         assert_eq!(rt; [words[3], words[4], words[5], words[9]], ip);
         assert_eq!(rt; [words[6], words[7]], [ports, 0]);
         assert_eq!(rt; [words[10], words[11], words[12], words[13]], ipv6);
-        assert_eq!(rt; dst_ip(&bytes) as u64, words[5]);
     }
     Ok(())
 }
@@ -177,7 +176,6 @@ fn cut_frames(rt: HostRuntime) -> Result<(), AllocError> {
         let cut = &bytes[..length];
         let key = key_of(cut);
         let from = |least: usize, word: u64| if length < least { 0 } else { word };
-        assert_eq!(rt; ether_type(cut) as u64, from(14, 0x0800));
         assert_eq!(rt; key.words[0], from(14, 0x0200_0000_0001));
         assert_eq!(rt; key.words[3], from(34, 6));
         assert_eq!(rt; key.words[5], from(34, 0x0a000001));

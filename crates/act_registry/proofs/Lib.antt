@@ -1,0 +1,8 @@
+pub mod OnePlace
+pub mod Counts
+pub mod Order
+pub mod Serials
+pub mod Index
+pub mod Changes
+pub mod Calls
+pub mod Lowest
