@@ -13,7 +13,8 @@ pub enum Kind {
     Skbedit,
 }
 
-/// How a list of actions goes on after an action (tc-actions(8), CONTROL).
+/// How a list of actions goes on after an action (tc-actions(8), CONTROL; jump and goto chain are those of the kernel's
+/// include/uapi/linux/pkt_cls.h).
 #[derive(Clone, Copy, Debug, PartialEq, Eq)]
 pub enum Control {
     /// `ok`: the packet passes.

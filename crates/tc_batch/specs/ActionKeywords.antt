@@ -16,6 +16,7 @@ use Rattle.tc_batch.specs.declared.action_keywords.TagName.TheVariants as tag_na
 use Rattle.tc_batch.specs.declared.action_keywords.MarkName.{MarkName}
 use Rattle.tc_batch.specs.declared.action_keywords.MarkName.TheVariants as mark_names
 
+-- the kinds of actions
 abbrev pub kind_word : List ℕ → Option Kind
 kind_word word =
     if bytes_eq word (codes "gact") then Some kinds.Gact
@@ -29,6 +30,7 @@ goto_word sites.Filter = Some control_words.Goto
 goto_word sites.Add = None
 goto_word sites.Change = None
 
+-- the first word of a control; `pass` is `ok`, and `shot` is `drop`
 abbrev pub control_word : Site → List ℕ → Option ControlWord
 control_word site word =
     if bytes_eq word (codes "goto") then goto_word site
@@ -42,6 +44,7 @@ control_word site word =
     else if bytes_eq word (codes "jump") then Some control_words.Jump
     else None
 
+-- tc-vlan(8)
 abbrev pub vlan_verb : List ℕ → Option VlanVerb
 vlan_verb word =
     if bytes_eq word (codes "push") then Some (vlan_verbs.Tagged tag_verbs.Push)
@@ -49,6 +52,7 @@ vlan_verb word =
     else if bytes_eq word (codes "modify") then Some (vlan_verbs.Tagged tag_verbs.Modify)
     else None
 
+-- the parts of a tag
 abbrev pub tag_name : List ℕ → Option TagName
 tag_name word =
     if bytes_eq word (codes "id") then Some tag_names.Id
@@ -56,6 +60,7 @@ tag_name word =
     else if bytes_eq word (codes "protocol") then Some tag_names.Protocol
     else None
 
+-- tc-skbedit(8)
 abbrev pub mark_name : List ℕ → Option MarkName
 mark_name word =
     if bytes_eq word (codes "priority") then Some mark_names.Priority

@@ -9,6 +9,7 @@ use Rattle.batch_words.specs.Forms.{ether_type_of, ip_protocol_of, masked_hex_of
 use Rattle.tc_batch.specs.declared.field_name.FieldName.{FieldName}
 use Rattle.tc_batch.specs.declared.field_name.FieldName.TheVariants as names
 
+-- the names of the table of fields, but those of the halves of IPv6 addresses
 abbrev pub field_name : List ℕ → Option FieldName
 field_name word =
     if bytes_eq word (codes "dst_mac") then Some names.DstMac

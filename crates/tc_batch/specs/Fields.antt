@@ -58,6 +58,7 @@ with_field_value fields field (value, mask) = record {
   mask = record { words = with_value fields.mask.words field mask };
 }
 
+-- a field and the word of its value
 abbrev pub with_one : Fields → FieldName → List ℕ → Option Fields
 with_one fields name word = option_map (with_field_value (named fields name) (field_number name)) (field_value name word)
 
@@ -66,6 +67,7 @@ abbrev pub with_prefix : Fields → ℕ → Ipv6Word → Fields
 with_prefix fields high word =
     with_field_value (with_field_value fields high (word.high, ipv6_mask word.length / 2 ^ 64)) (high + 1) (word.low, ipv6_mask word.length % 2 ^ 64)
 
+-- an IPv6 address and its word
 abbrev pub with_ipv6 : Fields → FieldName → ℕ → List ℕ → Option Fields
 with_ipv6 fields name high word = option_map (with_prefix (named fields name) high) (ipv6_of word)
 
@@ -85,9 +87,11 @@ head_refuses head name = refuses_field head.fields name
 abbrev pub head_takes : Head → FieldName → List ℕ → Option Head
 head_takes head name word = option_map (λ fields. record head { fields = fields }) (with_field head.fields name word)
 
+-- a field and its value
 abbrev pub field_setting : Head → List ℕ → List ℕ → Option Head
 field_setting head name value = set_once head_refuses head_takes head value (field_name name)
 
+-- a filter line up to `flower`
 abbrev pub filter_head : Bool → Hook → Options → Head
 filter_head replaces hook options = record { replaces = replaces; hook = hook; options = options; fields = no_fields }
 
@@ -104,5 +108,6 @@ filter_line head actions = record {
   actions = actions;
 }
 
+-- the edit of a filter line
 abbrev pub filter_edit : Head → List ActionLine → Edit
 filter_edit head actions = if head.replaces then edits.FilterReplace (filter_line head actions) else edits.FilterAdd (filter_line head actions)

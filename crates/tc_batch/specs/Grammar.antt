@@ -59,44 +59,52 @@ Pairs sets More s [] = More s []
 Pairs sets More s (word ∷ []) = More s (word ∷ [])
 Pairs sets More s (name ∷ value ∷ words) = More s (name ∷ value ∷ words) ⊎ IsSomeAnd (sets s name value) (λ next. Pairs sets More next words)
 
--- [ "index" NUM ], where `change` needs it
+-- [ "index" N ], and just "index" N in `actions change`
 abbrev pub Tail : Site → (ActionLine → List (List ℕ) → Type 0) → Params → List (List ℕ) → Type 0
 Tail sites.Change More given words = Then (codes "index") (Reads index_number (λ n. More (full_action given (Some n)))) words
 Tail sites.Add More given words = More (full_action given None) words ⊎ Then (codes "index") (Reads index_number (λ n. More (full_action given (Some n)))) words
 Tail sites.Filter More given words = More (full_action given None) words ⊎ Then (codes "index") (Reads index_number (λ n. More (full_action given (Some n)))) words
 
+-- control = "ok" | "pass" | "drop" | .. | "jump" N | "goto" "chain" N: what follows its first word
 abbrev pub ControlRest : Site → (Control → List (List ℕ) → Type 0) → ControlWord → List (List ℕ) → Type 0
 ControlRest site More (control_words.Plain control) words = More control words
 ControlRest site More control_words.Jump words = Reads chain_number (λ n. More (controls.Jump n)) words
 ControlRest site More control_words.Goto words = Then (codes "chain") (Reads chain_number (λ n. More (controls.Goto n))) words
 
+-- control
 abbrev pub Controlled : Site → (Control → List (List ℕ) → Type 0) → List (List ℕ) → Type 0
 Controlled site More words = Reads (control_word site) (ControlRest site More) words
 
--- a control for what an action is given, and its tail
+-- control [ "index" N ], the control put into what the action does
 abbrev pub ControlledBy : Site → (ActionLine → List (List ℕ) → Type 0) → Params → List (List ℕ) → Type 0
 ControlledBy site More base words = Controlled site (λ control. Tail site More (with_control base control)) words
 
--- [ control ] [ "index" NUM ]
+-- [ control ] [ "index" N ]
 abbrev pub Placed : Site → (ActionLine → List (List ℕ) → Type 0) → Params → List (List ℕ) → Type 0
 Placed site More base words = Tail site More base words ⊎ ControlledBy site More base words
 
+-- behind the parts of a tag, which needs its id: [ control ] [ "index" N ]
 abbrev pub AfterTag : Site → (ActionLine → List (List ℕ) → Type 0) → TagVerb → Tag → List (List ℕ) → Type 0
 AfterTag site More verb tag words = (is_some tag.id ≡ true) × Placed site More (tag_params verb tag) words
 
+-- behind the marks of skbedit, which needs one of its three: [ control ] [ "index" N ]
 abbrev pub AfterMarks : Site → (ActionLine → List (List ℕ) → Type 0) → Marks → List (List ℕ) → Type 0
 AfterMarks site More set words = (has_mark set ≡ true) × Placed site More (mark_params set) words
 
+-- "push" { "id" N | "priority" N | "protocol" TPID } .., "modify" alike, or "pop" ..: what follows the verb (tc-vlan(8))
 abbrev pub VlanRest : Site → (ActionLine → List (List ℕ) → Type 0) → VlanVerb → List (List ℕ) → Type 0
 VlanRest site More (vlan_verbs.Tagged verb) words = Pairs tag_setting (AfterTag site More verb) no_tag words
 VlanRest site More vlan_verbs.Pop words = Placed site More (params.Vlan ops.Pop controls.Pipe) words
 
+-- control [ "index" N ], behind "gact" or without it
 abbrev pub GactRest : Site → (ActionLine → List (List ℕ) → Type 0) → List (List ℕ) → Type 0
 GactRest site More words = ControlledBy site More (params.Gact controls.Accept) words
 
+-- "index" N alone, behind the kind
 abbrev pub Named : Kind → (ActionLine → List (List ℕ) → Type 0) → List (List ℕ) → Type 0
 Named kind More words = Then (codes "index") (Reads index_number (λ n. More (named_action kind n))) words
 
+-- an action in full: what follows its kind
 abbrev pub KindRest : Site → (ActionLine → List (List ℕ) → Type 0) → Kind → List (List ℕ) → Type 0
 KindRest site More kinds.Gact words = GactRest site More words
 KindRest site More kinds.Vlan words = Reads vlan_verb (VlanRest site More) words
@@ -108,6 +116,7 @@ AfterKind sites.Filter More kind words = KindRest sites.Filter More kind words �
 AfterKind sites.Add More kind words = KindRest sites.Add More kind words
 AfterKind sites.Change More kind words = KindRest sites.Change More kind words
 
+-- act = full | kind "index" N
 abbrev pub Action : Site → (ActionLine → List (List ℕ) → Type 0) → List (List ℕ) → Type 0
 Action site More words = GactRest site More words ⊎ Reads kind_word (AfterKind site More) words
 
@@ -118,27 +127,33 @@ ActionList (suc n) head edit actions words =
     Ends edit (filter_edit head actions) words
     ⊎ Then (codes "action") (Action sites.Filter (λ action. ActionList n head edit (actions ++ (action ∷ [])))) words
 
+-- behind the fields of a filter: its actions, 16 at most
 abbrev pub AfterFields : Edit → Head → List (List ℕ) → Type 0
 AfterFields edit head words = ActionList 16 head edit [] words
 
+-- behind "flower": fields and actions, or the end of a del
 abbrev pub AfterFlower : FilterVerb → Hook → Options → Edit → List (List ℕ) → Type 0
 AfterFlower filter_verbs.Add hook options edit words = Pairs field_setting (AfterFields edit) (filter_head false hook options) words
 AfterFlower filter_verbs.Replace hook options edit words = Pairs field_setting (AfterFields edit) (filter_head true hook options) words
 AfterFlower filter_verbs.Del hook options edit words = Ends edit (del_edit hook options) words
 
+-- behind the options: the end of a del without handle, or "flower" where it may stand
 abbrev pub AfterSettings : FilterVerb → Hook → Edit → Options → List (List ℕ) → Type 0
 AfterSettings verb hook edit options words =
     ((may_end verb options ≡ true) × Ends edit (del_edit hook options) words)
     ⊎ ((may_flower verb options ≡ true) × Then (codes "flower") (AfterFlower verb hook options edit) words)
 
+-- "filter" verb "dev" "eth0" hook options ..: what follows the verb (tc-flower(8))
 abbrev pub FilterRest : Edit → FilterVerb → List (List ℕ) → Type 0
 FilterRest edit verb words = Then (codes "dev") (Then (codes "eth0") (Reads hook_word (λ hook. Pairs option_setting (AfterSettings verb hook edit) no_options))) words
 
+-- "actions" verb "action" ..: what follows "action" (tc-actions(8))
 abbrev pub ActionsRest : Edit → ActionVerb → List (List ℕ) → Type 0
 ActionsRest edit action_verbs.Add words = Action sites.Add (λ action. Ends edit (edits.ActionAdd action)) words
 ActionsRest edit action_verbs.Change words = Action sites.Change (λ action. Ends edit (edits.ActionChange action)) words
 ActionsRest edit action_verbs.Del words = Reads kind_word (λ kind. Then (codes "index") (Reads index_number (λ n. Ends edit (edits.ActionDel kind n)))) words
 
+-- a line: what follows its first word
 abbrev pub LineRest : Edit → LineKind → List (List ℕ) → Type 0
 LineRest edit lines.Qdisc words = Reads qdisc_verb (λ verb. Then (codes "dev") (Then (codes "eth0") (Then (codes "clsact") (Ends edit (qdisc_edit verb))))) words
 LineRest edit lines.Filter words = Reads filter_verb (FilterRest edit) words

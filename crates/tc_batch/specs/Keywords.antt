@@ -14,6 +14,7 @@ use Rattle.tc_batch.specs.declared.keywords.ActionVerb.TheVariants as action_ver
 use Rattle.tc_batch.specs.declared.keywords.OptionName.{OptionName}
 use Rattle.tc_batch.specs.declared.keywords.OptionName.TheVariants as option_names
 
+-- the first word of a line
 abbrev pub line_kind : List ℕ → Option LineKind
 line_kind word =
     if bytes_eq word (codes "qdisc") then Some lines.Qdisc
@@ -21,12 +22,14 @@ line_kind word =
     else if bytes_eq word (codes "actions") then Some lines.Actions
     else None
 
+-- tc-clsact(8)
 abbrev pub qdisc_verb : List ℕ → Option QdiscVerb
 qdisc_verb word =
     if bytes_eq word (codes "add") then Some qdisc_verbs.Add
     else if bytes_eq word (codes "del") then Some qdisc_verbs.Del
     else None
 
+-- tc-flower(8)
 abbrev pub filter_verb : List ℕ → Option FilterVerb
 filter_verb word =
     if bytes_eq word (codes "add") then Some filter_verbs.Add
@@ -34,6 +37,7 @@ filter_verb word =
     else if bytes_eq word (codes "del") then Some filter_verbs.Del
     else None
 
+-- tc-actions(8)
 abbrev pub action_verb : List ℕ → Option ActionVerb
 action_verb word =
     if bytes_eq word (codes "add") then Some action_verbs.Add
@@ -41,6 +45,7 @@ action_verb word =
     else if bytes_eq word (codes "del") then Some action_verbs.Del
     else None
 
+-- the two hooks of clsact
 abbrev pub hook_word : List ℕ → Option Hook
 hook_word word =
     if bytes_eq word (codes "ingress") then Some Ingress

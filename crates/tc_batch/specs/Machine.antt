@@ -45,16 +45,19 @@ use Rattle.tc_batch.specs.Actions.{no_tag, is_tagged, with_tag, tag_params, no_m
 abbrev pub on_text : List ℕ → State → List ℕ → Option State
 on_text text next word = if bytes_eq word text then Some next else None
 
+-- where an action stands, by its line
 abbrev pub site_of : Context → Site
 site_of (Context.Filter head actions more) = sites.Filter
 site_of Context.Add = sites.Add
 site_of Context.Change = sites.Change
 
+-- the state after the first word of a line
 abbrev pub after_kind : LineKind → State
 after_kind lines.Qdisc = State.Qdisc
 after_kind lines.Filter = State.FilterLine
 after_kind lines.Actions = State.Actions
 
+-- the state after `flower`
 abbrev pub after_flower : FilterVerb → Hook → Options → State
 after_flower filter_verbs.Add hook options = State.Fielding (filter_head false hook options)
 after_flower filter_verbs.Replace hook options = State.Fielding (filter_head true hook options)
@@ -65,9 +68,11 @@ abbrev pub on_name : {N : Type 0} → (N → Bool) → (N → State) → Option 
 on_name refuses waits other None = other
 on_name refuses waits other (Some name) = if refuses name then None else Some (waits name)
 
+-- `flower`, where it may stand
 abbrev pub on_flower : FilterVerb → Hook → Options → List ℕ → Option State
 on_flower verb hook options word = if may_flower verb options then on_text (codes "flower") (after_flower verb hook options) word else None
 
+-- a word behind the hook: the name of an option, or `flower`
 abbrev pub on_setting : FilterVerb → Hook → Options → List ℕ → Option State
 on_setting verb hook options word = on_name (is_given options) (State.SettingValue verb hook options) (on_flower verb hook options word) (option_name word)
 
@@ -77,61 +82,76 @@ acted (Context.Filter head actions more) action = State.Listed head (actions ++ 
 acted Context.Add action = State.Done (edits.ActionAdd action)
 acted Context.Change action = State.Done (edits.ActionChange action)
 
+-- `action`, where so many may come
 abbrev pub on_listed : Head → List ActionLine → ℕ → List ℕ → Option State
 on_listed head actions more word =
     if more == 0 then None
     else on_text (codes "action") (State.Acting (Context.Filter head actions (more - 1)) places.Begun) word
 
+-- a word behind `flower`: the name of a field, or `action`
 abbrev pub on_field : Head → List ℕ → Option State
 on_field head word = on_name (head_refuses head) (State.FieldValue head) (on_listed head [] 16 word) (field_name word)
 
+-- the state after the first word of a control
 abbrev pub after_control : Context → Params → ControlWord → State
 after_control context base (control_words.Plain control) = State.Acting context (places.Whole (with_control base control))
 after_control context base control_words.Jump = State.Acting context (places.JumpNumber base)
 after_control context base control_words.Goto = State.Acting context (places.GotoChain base)
 
+-- a word where a control has to stand
 abbrev pub on_control : Context → Params → List ℕ → Option State
 on_control context base word = option_map (after_control context base) (control_word (site_of context) word)
 
+-- only in a filter an action is named alone
 abbrev pub may_name : Context → Bool
 may_name (Context.Filter head actions more) = true
 may_name Context.Add = false
 may_name Context.Change = false
 
+-- a word that ends an action without index: the next `action` of a filter
 abbrev pub after_whole : Context → Params → List ℕ → Option State
 after_whole (Context.Filter head actions more) given word = on_listed head (actions ++ (full_action given None ∷ [])) more word
 after_whole Context.Add given word = None
 after_whole Context.Change given word = None
 
+-- a control, or a word that ends the action
 abbrev pub after_placed : Context → Params → List ℕ → Option ControlWord → Option State
 after_placed context base word None = after_whole context base word
 after_placed context base word (Some it) = Some (after_control context base it)
 
+-- a word behind the parts of an action: `index`, a control, or a word that ends the action
 abbrev pub on_placed : Context → Params → List ℕ → Option State
 on_placed context base word = if bytes_eq word (codes "index") then Some (State.Acting context (places.FullIndex base)) else after_placed context base word (control_word (site_of context) word)
 
+-- a word behind push or modify: the name of a part of the tag, or what may follow once it has its id
 abbrev pub on_tagging : Context → TagVerb → Tag → List ℕ → Option State
 on_tagging context verb tag word = on_name (is_tagged tag) (λ n. State.Acting context (places.TagValue verb tag n)) (if is_some tag.id then on_placed context (tag_params verb tag) word else None) (tag_name word)
 
+-- a word behind skbedit: the name of a mark, or what may follow once there is one
 abbrev pub on_marking : Context → Marks → List ℕ → Option State
 on_marking context set word = on_name (is_marked set) (λ n. State.Acting context (places.MarkValue set n)) (if has_mark set then on_placed context (mark_params set) word else None) (mark_name word)
 
+-- the state after the verb of vlan
 abbrev pub after_vlan : Context → VlanVerb → State
 after_vlan context (vlan_verbs.Tagged verb) = State.Acting context (places.Tagging verb no_tag)
 after_vlan context vlan_verbs.Pop = State.Acting context (places.Placed (params.Vlan ops.Pop controls.Pipe))
 
+-- a word behind the kind of an action in full
 abbrev pub on_kind : Context → Kind → List ℕ → Option State
 on_kind context kinds.Gact word = on_control context (params.Gact controls.Accept) word
 on_kind context kinds.Vlan word = option_map (after_vlan context) (vlan_verb word)
 on_kind context kinds.Skbedit word = on_marking context no_marks word
 
+-- a word behind the kind: `index` alone in a filter, or what an action in full goes on with
 abbrev pub on_kinded : Context → Kind → List ℕ → Option State
 on_kinded context kind word = if bytes_eq word (codes "index") then (if may_name context then Some (State.Acting context (places.NamedIndex kind)) else None) else on_kind context kind word
 
+-- a word behind `action`: a kind, or the control of gact
 abbrev pub on_begun : Context → List ℕ → Option Kind → Option State
 on_begun context word (Some kind) = Some (State.Acting context (places.Kinded kind))
 on_begun context word None = on_control context (params.Gact controls.Accept) word
 
+-- a word of an action
 abbrev pub on_acting : Context → Place → List ℕ → Option State
 on_acting context places.Begun word = on_begun context word (kind_word word)
 on_acting context (places.Kinded kind) word = on_kinded context kind word
@@ -147,11 +167,13 @@ on_acting context (places.Whole given) word = if bytes_eq word (codes "index") t
 on_acting context (places.FullIndex given) word = option_map (λ n. acted context (full_action given (Some n))) (index_number word)
 on_acting context (places.NamedIndex kind) word = option_map (λ n. acted context (named_action kind n)) (index_number word)
 
+-- the state after `action` of an actions line
 abbrev pub after_actions : ActionVerb → State
 after_actions action_verbs.Add = State.Acting Context.Add places.Begun
 after_actions action_verbs.Change = State.Acting Context.Change places.Begun
 after_actions action_verbs.Del = State.DelKind
 
+-- the state after one word more, or none where no line goes on so
 abbrev pub next_state : State → List ℕ → Option State
 next_state State.Start word = option_map after_kind (line_kind word)
 next_state State.Qdisc word = option_map State.QdiscDev (qdisc_verb word)
@@ -175,11 +197,13 @@ next_state (State.DelIndex kind) word = on_text (codes "index") (State.DelNumber
 next_state (State.DelNumber kind) word = option_map (λ n. State.Done (edits.ActionDel kind n)) (index_number word)
 next_state (State.Done edit) word = None
 
+-- the edit of a line that ends with an action without index
 abbrev pub ends_action : Context → Params → Option Edit
 ends_action (Context.Filter head actions more) given = Some (filter_edit head (actions ++ (full_action given None ∷ [])))
 ends_action Context.Add given = Some (edits.ActionAdd (full_action given None))
 ends_action Context.Change given = None
 
+-- the edit of a line that ends in an action
 abbrev pub ends_place : Context → Place → Option Edit
 ends_place context (places.Whole given) = ends_action context given
 ends_place context (places.Placed given) = ends_action context given

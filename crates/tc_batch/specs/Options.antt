@@ -22,9 +22,11 @@ chain_number word = number_between 0 268435455 word
 abbrev pub index_number : List ℕ → Option ℕ
 index_number word = number_between 1 4294967295 word
 
+-- a pref
 abbrev pub pref_number : List ℕ → Option ℕ
 pref_number word = number_between 1 65535 word
 
+-- nothing stood yet
 abbrev pub no_options : Options
 no_options = record { protocol = None; pref = None; chain = None; handle = None }
 
@@ -35,6 +37,7 @@ is_given options option_names.Pref = is_some options.pref
 is_given options option_names.Chain = is_some options.chain
 is_given options option_names.Handle = is_some options.handle
 
+-- the options with the value of a name
 abbrev pub with_option : Options → OptionName → List ℕ → Option Options
 with_option options option_names.Protocol word = option_map (λ p. record options { protocol = Some p }) (protocol_of word)
 with_option options option_names.Pref word = option_map (λ n. record options { pref = Some n }) (pref_number word)
@@ -46,6 +49,7 @@ abbrev pub set_once : {S N : Type 0} → (S → N → Bool) → (S → N → Lis
 set_once refuses takes s value None = None
 set_once refuses takes s value (Some name) = if refuses s name then None else takes s name value
 
+-- an option and its value
 abbrev pub option_setting : Options → List ℕ → List ℕ → Option Options
 option_setting options name value = set_once is_given with_option options value (option_name name)
 
@@ -61,6 +65,7 @@ may_end filter_verbs.Add options = false
 may_end filter_verbs.Replace options = false
 may_end filter_verbs.Del options = is_some options.pref && not (is_some options.handle)
 
+-- the edit of a qdisc line
 abbrev pub qdisc_edit : QdiscVerb → Edit
 qdisc_edit qdisc_verbs.Add = edits.HookAdd
 qdisc_edit qdisc_verbs.Del = edits.HookDel
