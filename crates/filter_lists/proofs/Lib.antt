@@ -1,0 +1,9 @@
+pub mod Same
+pub mod Start
+pub mod Tests
+pub mod Said
+pub mod Protocols
+pub mod Clash
+pub mod Unused
+pub mod Lowest
+pub mod Prefs

@@ -1,0 +1,34 @@
+-- States that lists spell: that of empty lists, and one of any lists.
+use Rattle.std.proofs.Common.{◌≡◌, List, [], ◌++◌, refl}
+use Rattle.std.specs.Prelude.{false}
+use Rattle.tc_base.specs.declared.hook.Hook.TheVariants as hooks
+use Rattle.filter_state.specs.States.{State, no_state}
+use Rattle.filter_lists.specs.declared.filter_tables.FilterTable.{FilterTable}
+use Rattle.filter_lists.specs.Order.{SameRows, none}
+use Rattle.filter_lists.specs.Rows.{rows_of}
+use Rattle.filter_lists.specs.Kept.{Kept}
+use Rattle.filter_lists.specs.Spells.{all_rows, Spells}
+use Rattle.filter_lists.proofs.Same.{same_refl}
+
+-- the rows of no tables
+no_rows : SameRows (rows_of hooks.Ingress [] ++ rows_of hooks.Egress []) []
+unfolding rows_of
+no_rows = none
+
+pub empty_spells : {ingress egress : List FilterTable} → ingress ≡ [] → egress ≡ [] →
+    Spells (record { hooked = false; ingress = ingress; egress = egress; tables_made = 0; masks_made = 0 }) no_state
+empty_spells first second = record { hooked = refl; rows = rw (first, second) no_rows; tables_made = refl; masks_made = refl }
+
+-- the state whose rows are those of the lists, in their order
+abbrev state_of : Kept → State
+state_of lists = record {
+  hooked = lists.hooked;
+  rows = all_rows lists;
+  actions = [];
+  tables_made = lists.tables_made;
+  masks_made = lists.masks_made;
+  actions_made = 0;
+}
+
+pub spelled_state : (lists : Kept) → (s : State) × Spells lists s
+spelled_state lists = (state_of lists, record { hooked = refl; rows = same_refl (all_rows lists); tables_made = refl; masks_made = refl })
