@@ -1,6 +1,6 @@
 //! Actions and their parameters.
 ghost use Rattle.std.specs.Prelude.{◌≡◌};
-ghost use Rattle.act_kinds.specs.Params.{kind_of, with_control};
+ghost use Rattle.act_kinds.specs.Params.{kind_of, number_of_kind, with_control};
 
 /// The kinds of actions, by the modules of tc that they are named after (tc-actions(8)).
 #[derive(Clone, Copy, Debug, PartialEq, Eq, PartialOrd, Ord)]
@@ -63,6 +63,19 @@ pub enum Params {
         queue: Option<u16>,
         control: Control,
     },
+}
+
+impl Kind {
+    /// The number of the kind: gact 1, vlan 2, skbedit 3.
+    pub fn number(self) -> u32
+        ensures { result ≡ number_of_kind self }
+    {
+        match self {
+            Kind::Gact => 1,
+            Kind::Vlan => 2,
+            Kind::Skbedit => 3,
+        }
+    }
 }
 
 impl Params {

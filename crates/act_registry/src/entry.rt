@@ -16,7 +16,7 @@ pub trait Kinded: Drop {
 pub struct Entry<P> {
     /// Counted from 1 over a run, and never given twice.
     pub serial: u32,
-    /// Tells the actions of one kind apart; at least 1 (tc-actions(8), INDEX).
+    /// Tells the actions of one kind apart (tc-actions(8), INDEX).
     pub index: u32,
     pub params: P,
     /// How many hold the action (`tcfa_refcnt`).
