@@ -7,3 +7,7 @@ pub mod Clash
 pub mod Unused
 pub mod Lowest
 pub mod Prefs
+pub mod Mapped
+pub mod Entries
+pub mod Making
+pub mod Changing
