@@ -1,5 +1,5 @@
 -- Whole runs over the words of a line.
-use Rattle.std.proofs.Common.{◌≡◌, ◌∙◌, ℕ, ◌+◌, ◌<◌, ◌≤◌, List, [], ◌∷◌, ◌++◌, length, take, drop, get_or, Option, Some, None, refl, sym, ap, subst, arith, append-nil}
+use Rattle.std.proofs.Common.{◌≡◌, ◌∙◌, ℕ, zero, suc, ◌+◌, ◌<◌, ◌≤◌, List, [], ◌∷◌, ◌++◌, length, take, drop, get_or, Option, Some, None, refl, sym, ap, subst, arith, append-nil, ◌⊎◌, inl, inr}
 use Rattle.std.specs.Prelude.{IsSomeAnd, map}
 use Rattle.std.specs.Option.{option_and_then}
 use Rattle.std.proofs.Math.ListN.{get_or-map}
@@ -164,3 +164,37 @@ pub placed_cut : (line : List ℕ) (places : List Word) (i : ℕ) (state : State
 placed_cut line places i state so_far end is =
     let same : i ≡ length (map (bytes_at line) places) = end ∙ sym (placed_count line places) in
     subst (λ (n : ℕ). IsFirstBad (map (bytes_at line) places) (n + 1)) (sym same) (cut_short (map (bytes_at line) places) state (placed_all line places i state so_far (omega arith)) is)
+
+-- each list of words gives an edit or has a first bad word
+abbrev Answered : List (List ℕ) → Type 0
+Answered words = ((edit : Edit) × Gives words edit) ⊎ ((at : ℕ) × IsFirstBad words at)
+
+abbrev Reached : List (List ℕ) → ℕ → Type 0
+Reached words i = ((state : State) × (run State.Start (take i words) ≡ Some state)) ⊎ ((at : ℕ) × IsFirstBad words at)
+
+reached_next : (words : List (List ℕ)) (i : ℕ) (state : State) → i < length words → run State.Start (take i words) ≡ Some state → (next : Option State) → next_state state (get_or words i []) ≡ next → Reached words (i + 1)
+reached_next words i state here so_far None is = inr (i + 1, refused words i state (get_or words i []) so_far here refl (sym is))
+reached_next words i state here so_far (Some next) is = inl (next, run_more words i state (get_or words i []) (Some next) so_far here refl (sym is))
+
+reached_more : (words : List (List ℕ)) (i : ℕ) → i < length words → Reached words i → Reached words (i + 1)
+reached_more words i here (inl (state, so_far)) = reached_next words i state here so_far (next_state state (get_or words i [])) refl
+reached_more words i here (inr fault) = inr fault
+
+reached : (words : List (List ℕ)) (i : ℕ) → i ≤ length words → Reached words i
+reached words zero within = inl (State.Start, refl)
+reached words (suc i) within = subst (Reached words) (one_more i) (reached_more words i (omega arith) (reached words i (omega arith)))
+  where
+    one_more : (n : ℕ) → n + 1 ≡ suc n
+    one_more n = omega arith
+
+answered_at : (words : List (List ℕ)) (state : State) → run State.Start words ≡ Some state → (edit : Option Edit) → edit_at state ≡ edit → Answered words
+answered_at words state so_far None is = inr (length words + 1, cut_short words state so_far (sym is))
+answered_at words state so_far (Some edit) is = inl (edit, ended words state edit so_far (sym is))
+
+pub answered : (words : List (List ℕ)) → Answered words
+answered words = from_end (reached words (length words) (omega arith))
+  where
+    from_end : Reached words (length words) → Answered words
+    from_end (inl (state, so_far)) =
+        answered_at words state (ap (run State.Start) (sym (take_all (length words) words (omega arith))) ∙ so_far) (edit_at state) refl
+    from_end (inr fault) = inr fault

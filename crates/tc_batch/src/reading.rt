@@ -1,5 +1,5 @@
 //! Lines and their edits.
-ghost use Rattle.std.specs.Prelude.{◌≡◌, ◌==◌, not, ◌<◌, ◌-◌, ◌^◌, ℕ, List, length, map, All, IfOk, IfErr};
+ghost use Rattle.std.specs.Prelude.{◌≡◌, ◌==◌, ◌⊎◌, not, ◌<◌, ◌-◌, ◌^◌, ℕ, List, length, map, All, IfOk, IfErr};
 ghost use Rattle.tc_words.specs.Lines.{words_of};
 ghost use Rattle.tc_words.specs.Places.{bytes_at, IsPlaceIn};
 ghost use Rattle.filter_state.specs.declared.edit.Edit.{Edit};
@@ -60,9 +60,10 @@ pub fn line(alloc: Global, bytes: &[u8]) -> Result<Edit, LineFault>
     read_words(alloc, bytes, words.as_slice())
 }
 
-/// A list of words gives one edit at most, and it has a first bad word where it gives none, and only there, and one at most. So
-/// `line` answers exactly by the grammar.
+/// A list of words gives an edit or has a first bad word, never both, and one at most of either. So `line` answers exactly by
+/// the grammar.
 pub fn one_line()
+    ensures some { (words : List (List ℕ)) → ((edit : Edit) × Gives words edit) ⊎ ((at : ℕ) × IsFirstBad words at) }
     ensures edit { (words : List (List ℕ)) (a b : Edit) → Gives words a → Gives words b → a ≡ b }
     ensures no_fault { (words : List (List ℕ)) (edit : Edit) (at : ℕ) → Gives words edit → IsFirstBad words at → ⊥ }
     ensures one_fault { (words : List (List ℕ)) (a b : ℕ) → IsFirstBad words a → IsFirstBad words b → a ≡ b }

@@ -1,6 +1,7 @@
 //! Whole edits.
 ghost use Rattle.std.specs.Prelude.{◌≡◌, [], ◌∷◌, ◌++◌, Some, length, fold, codes, OnOk, IfOk};
 ghost use Rattle.tc_words.specs.Lines.{words_of};
+ghost use Rattle.filter_state.specs.declared.edit.Edit.{Edit};
 ghost use Rattle.filter_state.specs.Lines.{IsLine};
 ghost use Rattle.tc_batch.specs.Grammar.{Gives};
 ghost use Rattle.tc_print.specs.ActionWords.{kind_text, index_words, action_words, list_words};
@@ -131,7 +132,8 @@ fn has_whole_keys(edit: &Edit)
     }
 }
 
-/// The batch line that an edit is printed as, without a line feed (tc(8), tc-flower(8), tc-actions(8)). It gives the edit again.
+/// The batch line that an edit is printed as, without a line feed (tc(8), tc-flower(8), tc-actions(8)). It gives this edit and
+/// no other.
 ///
 /// Its forms are these, where `[ .. ]` stands if there is a value:
 ///
@@ -144,6 +146,7 @@ pub fn print_edit(alloc: Global, edit: &Edit) -> Result<Vec<u8>, NoMemory>
     requires { IsLine edit.now }
     ensures text { IfOk result (λ text. text.items ≡ printed edit.now) }
     ensures line { IfOk result (λ text. Gives (words_of text.items) edit.now) }
+    ensures only { IfOk result (λ text. (other : Edit) → Gives (words_of text.items) other → other ≡ edit.now) }
 {
     has_whole_keys(edit);
     let mut out = Vec::new(alloc);
