@@ -17,15 +17,15 @@ use Rattle.state_laws.proofs.Free.{length_filter_le, length_mapped}
 use Rattle.state_laws.proofs.Counts.{numbers, has_number, numbers_within, put_within, put_more, table_count_is, mask_count_is, filter_any}
 
 -- one row, where so many tables and masks were made
-pub record IsPlain (tables masks : ℕ) (row : Row) : Type 0 where
-  pub chain : IsChain row.chain
-  pub pref : IsPref row.pref
-  pub protocol : IsProtocol row.protocol
-  pub handle : IsIndex row.handle
-  pub keys : AreKeys row.key row.mask
-  pub table : (1 ≤ row.table) × (row.table ≤ tables)
-  pub mask : (1 ≤ row.mask_serial) × (row.mask_serial ≤ masks)
-  pub most : length row.actions ≤ 16
+pub record IsPlain (tables masks : ℕ) (added : Row) : Type 0 where
+  pub chain : IsChain added.chain
+  pub pref : IsPref added.pref
+  pub protocol : IsProtocol added.protocol
+  pub handle : IsIndex added.handle
+  pub keys : AreKeys added.key added.mask
+  pub table : (1 ≤ added.table) × (added.table ≤ tables)
+  pub mask : (1 ≤ added.mask_serial) × (added.mask_serial ≤ masks)
+  pub most : length added.actions ≤ 16
 
 pub record AreRows (tables_made masks_made : ℕ) (rows : List Row) : Type 0 where
   pub plain : Each (IsPlain tables_made masks_made) rows
@@ -42,14 +42,14 @@ fewer_tables : (kept rows : List Row) (hook : Hook) → AreSome kept rows → ta
 fewer_tables kept rows hook some few =
     let a = table_count_is hook kept in
     let b = table_count_is hook rows in
-    let less = numbers_within (λ (r : Row). r.table) (in_hook hook) kept rows (λ n there. some (λ row. in_hook hook row && row.table == n) there) in
+    let less = numbers_within (λ (r : Row). r.table) (in_hook hook) kept rows (λ n there. some (λ added. in_hook hook added && added.table == n) there) in
     omega arith
 
 fewer_masks : (kept rows : List Row) (hook : Hook) (chain pref : ℕ) → AreSome kept rows → mask_count hook chain pref rows ≤ 16 → mask_count hook chain pref kept ≤ 16
 fewer_masks kept rows hook chain pref some few =
     let a = mask_count_is hook chain pref kept in
     let b = mask_count_is hook chain pref rows in
-    let less = numbers_within (λ (r : Row). r.mask_serial) (in_table hook chain pref) kept rows (λ n there. some (λ row. in_table hook chain pref row && row.mask_serial == n) there) in
+    let less = numbers_within (λ (r : Row). r.mask_serial) (in_table hook chain pref) kept rows (λ n there. some (λ added. in_table hook chain pref added && added.mask_serial == n) there) in
     omega arith
 
 -- ---- some taken out
@@ -64,49 +64,49 @@ rows_filter tables masks keep rows r = record {
 
 -- ---- one more, of a number that rows have already or where there is room for another
 abbrev pub HasRoom : (Row → ℕ) → (Row → Bool) → List Row → Row → ℕ → Type 0
-HasRoom number test rows row most = (has_number number test (number row) rows ≡ true) ⊎ (numbers number test rows < most)
+HasRoom number test rows added most = (has_number number test (number added) rows ≡ true) ⊎ (numbers number test rows < most)
 
-room_taken : (number : Row → ℕ) (test : Row → Bool) (rows kept : List Row) (row : Row) (most : ℕ) → AreSome kept rows → numbers number test rows ≤ most
-    → HasRoom number test rows row most → numbers number test (kept ++ row ∷ []) ≤ most
-room_taken number test rows kept row most some few (inl there) =
-    let less = put_within number test kept rows row (λ n is. some (λ r. test r && number r == n) is) (λ _. there) in omega arith
-room_taken number test rows kept row most some few (inr less) =
-    let more = put_more number test kept rows row (λ n is. some (λ r. test r && number r == n) is) in omega arith
+room_taken : (number : Row → ℕ) (test : Row → Bool) (rows kept : List Row) (added : Row) (most : ℕ) → AreSome kept rows → numbers number test rows ≤ most
+    → HasRoom number test rows added most → numbers number test (kept ++ added ∷ []) ≤ most
+room_taken number test rows kept added most some few (inl there) =
+    let less = put_within number test kept rows added (λ n is. some (λ r. test r && number r == n) is) (λ _. there) in omega arith
+room_taken number test rows kept added most some few (inr less) =
+    let more = put_more number test kept rows added (λ n is. some (λ r. test r && number r == n) is) in omega arith
 
-room_case : (number : Row → ℕ) (test : Row → Bool) (rows kept : List Row) (row : Row) (most : ℕ) → AreSome kept rows → numbers number test rows ≤ most
-    → (b : Bool) → test row ≡ b → (b ≡ true → HasRoom number test rows row most) → numbers number test (kept ++ row ∷ []) ≤ most
-room_case number test rows kept row most some few false is room =
-    let less = put_within number test kept rows row (λ n there. some (λ r. test r && number r == n) there) (λ at. absurd (false≢true (sym is ∙ at))) in
+room_case : (number : Row → ℕ) (test : Row → Bool) (rows kept : List Row) (added : Row) (most : ℕ) → AreSome kept rows → numbers number test rows ≤ most
+    → (b : Bool) → test added ≡ b → (b ≡ true → HasRoom number test rows added most) → numbers number test (kept ++ added ∷ []) ≤ most
+room_case number test rows kept added most some few false is room =
+    let less = put_within number test kept rows added (λ n there. some (λ r. test r && number r == n) there) (λ at. absurd (false≢true (sym is ∙ at))) in
     omega arith
-room_case number test rows kept row most some few true is room = room_taken number test rows kept row most some few (room refl)
+room_case number test rows kept added most some few true is room = room_taken number test rows kept added most some few (room refl)
 
-put_tables : (rows kept : List Row) (row : Row) (hook : Hook) → AreSome kept rows → HasRoom (λ (r : Row). r.table) (in_hook row.hook) rows row 256 → table_count hook rows ≤ 256
-    → table_count hook (kept ++ row ∷ []) ≤ 256
-put_tables rows kept row hook some room few =
-    let a = table_count_is hook (kept ++ row ∷ []) in
+put_tables : (rows kept : List Row) (added : Row) (hook : Hook) → AreSome kept rows → HasRoom (λ (r : Row). r.table) (in_hook added.hook) rows added 256 → table_count hook rows ≤ 256
+    → table_count hook (kept ++ added ∷ []) ≤ 256
+put_tables rows kept added hook some room few =
+    let a = table_count_is hook (kept ++ added ∷ []) in
     let b = table_count_is hook rows in
-    let put = room_case (λ (r : Row). r.table) (in_hook hook) rows kept row 256 some (omega arith) (in_hook hook row) refl
-    (λ at. subst (λ h. HasRoom (λ (r : Row). r.table) (in_hook h) rows row 256) (hook_eq_true row.hook hook at) room) in
+    let put = room_case (λ (r : Row). r.table) (in_hook hook) rows kept added 256 some (omega arith) (in_hook hook added) refl
+    (λ at. subst (λ h. HasRoom (λ (r : Row). r.table) (in_hook h) rows added 256) (hook_eq_true added.hook hook at) room) in
     omega arith
 
-pub masks_at : (rows : List Row) (row : Row) (hook : Hook) (chain pref : ℕ) → HasRoom (λ (r : Row). r.mask_serial) (in_table row.hook row.chain row.pref) rows row 16
-    → (row.hook ≡ hook) × (row.chain ≡ chain) × (row.pref ≡ pref) → HasRoom (λ (r : Row). r.mask_serial) (in_table hook chain pref) rows row 16
-masks_at rows row hook chain pref room at =
-    subst (λ p. HasRoom (λ (r : Row). r.mask_serial) (in_table hook chain p) rows row 16) at.2
-    (subst (λ c. HasRoom (λ (r : Row). r.mask_serial) (in_table hook c row.pref) rows row 16) at.1
-    (subst (λ h. HasRoom (λ (r : Row). r.mask_serial) (in_table h row.chain row.pref) rows row 16) at.0 room))
+pub masks_at : (rows : List Row) (added : Row) (hook : Hook) (chain pref : ℕ) → HasRoom (λ (r : Row). r.mask_serial) (in_table added.hook added.chain added.pref) rows added 16
+    → (added.hook ≡ hook) × (added.chain ≡ chain) × (added.pref ≡ pref) → HasRoom (λ (r : Row). r.mask_serial) (in_table hook chain pref) rows added 16
+masks_at rows added hook chain pref room at =
+    subst (λ p. HasRoom (λ (r : Row). r.mask_serial) (in_table hook chain p) rows added 16) at.2
+    (subst (λ c. HasRoom (λ (r : Row). r.mask_serial) (in_table hook c added.pref) rows added 16) at.1
+    (subst (λ h. HasRoom (λ (r : Row). r.mask_serial) (in_table h added.chain added.pref) rows added 16) at.0 room))
 
-put_masks : (rows kept : List Row) (row : Row) (hook : Hook) (chain pref : ℕ) → AreSome kept rows → HasRoom (λ (r : Row). r.mask_serial) (in_table row.hook row.chain row.pref) rows row 16
-    → mask_count hook chain pref rows ≤ 16 → mask_count hook chain pref (kept ++ row ∷ []) ≤ 16
-put_masks rows kept row hook chain pref some room few =
-    let a = mask_count_is hook chain pref (kept ++ row ∷ []) in
+put_masks : (rows kept : List Row) (added : Row) (hook : Hook) (chain pref : ℕ) → AreSome kept rows → HasRoom (λ (r : Row). r.mask_serial) (in_table added.hook added.chain added.pref) rows added 16
+    → mask_count hook chain pref rows ≤ 16 → mask_count hook chain pref (kept ++ added ∷ []) ≤ 16
+put_masks rows kept added hook chain pref some room few =
+    let a = mask_count_is hook chain pref (kept ++ added ∷ []) in
     let b = mask_count_is hook chain pref rows in
-    let put = room_case (λ (r : Row). r.mask_serial) (in_table hook chain pref) rows kept row 16 some (omega arith) (in_table hook chain pref row) refl
-    (λ at. masks_at rows row hook chain pref room (row_in_table hook chain pref row at)) in
+    let put = room_case (λ (r : Row). r.mask_serial) (in_table hook chain pref) rows kept added 16 some (omega arith) (in_table hook chain pref added) refl
+    (λ at. masks_at rows added hook chain pref room (row_in_table hook chain pref added at)) in
     omega arith
 
-plain_more : (tables masks more_tables more_masks : ℕ) → tables ≤ more_tables → masks ≤ more_masks → (row : Row) → IsPlain tables masks row → IsPlain more_tables more_masks row
-plain_more tables masks more_tables more_masks low under row p = let t = p.table in let m = p.mask in record {
+plain_more : (tables masks more_tables more_masks : ℕ) → tables ≤ more_tables → masks ≤ more_masks → (added : Row) → IsPlain tables masks added → IsPlain more_tables more_masks added
+plain_more tables masks more_tables more_masks low under added p = let t = p.table in let m = p.mask in record {
   chain = p.chain;
   pref = p.pref;
   protocol = p.protocol;
@@ -118,34 +118,34 @@ plain_more tables masks more_tables more_masks low under row p = let t = p.table
 }
 
 -- the new one, and that it goes with those that are kept
-pub record CanPut (tables masks next_tables next_masks : ℕ) (rows kept : List Row) (row : Row) : Type 0 where
+pub record CanPut (tables masks next_tables next_masks : ℕ) (rows kept : List Row) (added : Row) : Type 0 where
   pub more_tables : tables ≤ next_tables
   pub more_masks : masks ≤ next_masks
-  pub plain : IsPlain next_tables next_masks row
-  pub goes : Each (λ x. GoTogether x row) kept
-  pub table_room : HasRoom (λ (r : Row). r.table) (in_hook row.hook) rows row 256
-  pub mask_room : HasRoom (λ (r : Row). r.mask_serial) (in_table row.hook row.chain row.pref) rows row 16
+  pub plain : IsPlain next_tables next_masks added
+  pub goes : Each (λ x. GoTogether x added) kept
+  pub table_room : HasRoom (λ (r : Row). r.table) (in_hook added.hook) rows added 256
+  pub mask_room : HasRoom (λ (r : Row). r.mask_serial) (in_table added.hook added.chain added.pref) rows added 16
   pub filter_room : length kept < 4096
 
-pub rows_put : (tables masks more_tables more_masks : ℕ) (rows kept : List Row) (row : Row) → AreRows tables masks rows → AreRows tables masks kept → AreSome kept rows
-    → CanPut tables masks more_tables more_masks rows kept row → AreRows more_tables more_masks (kept ++ row ∷ [])
-rows_put tables masks more_tables more_masks rows kept row r k some can = record {
-  plain = each_append (IsPlain more_tables more_masks) kept (row ∷ [])
+pub rows_put : (tables masks more_tables more_masks : ℕ) (rows kept : List Row) (added : Row) → AreRows tables masks rows → AreRows tables masks kept → AreSome kept rows
+    → CanPut tables masks more_tables more_masks rows kept added → AreRows more_tables more_masks (kept ++ added ∷ [])
+rows_put tables masks more_tables more_masks rows kept added r k some can = record {
+  plain = each_append (IsPlain more_tables more_masks) kept (added ∷ [])
       (each_weaker (IsPlain tables masks) (IsPlain more_tables more_masks) (plain_more tables masks more_tables more_masks can.more_tables can.more_masks) kept k.plain) (can.plain, tt);
-  together = pairs_push GoTogether kept row k.together can.goes;
-  tables = λ hook. put_tables rows kept row hook some can.table_room (r.tables hook);
-  masks = λ hook chain pref. put_masks rows kept row hook chain pref some can.mask_room (r.masks hook chain pref);
-  filters = let long = length-append kept (row ∷ []) in let few = can.filter_room in omega arith;
+  together = pairs_push GoTogether kept added k.together can.goes;
+  tables = λ hook. put_tables rows kept added hook some can.table_room (r.tables hook);
+  masks = λ hook chain pref. put_masks rows kept added hook chain pref some can.mask_room (r.masks hook chain pref);
+  filters = let long = length-append kept (added ∷ []) in let few = can.filter_room in omega arith;
 }
 
 -- ---- one with other actions
 abbrev pub put_actions : List ℕ → Row → Row
-put_actions serials row = record row { actions = serials }
+put_actions serials added = record added { actions = serials }
 
-plain_either : (tables masks : ℕ) (serials : List ℕ) → length serials ≤ 16 → (b : Bool) (row : Row) → IsPlain tables masks row → IsPlain tables masks (cond b (put_actions serials row) row)
-plain_either tables masks serials few true row p =
+plain_either : (tables masks : ℕ) (serials : List ℕ) → length serials ≤ 16 → (b : Bool) (added : Row) → IsPlain tables masks added → IsPlain tables masks (cond b (put_actions serials added) added)
+plain_either tables masks serials few true added p =
     record { chain = p.chain; pref = p.pref; protocol = p.protocol; handle = p.handle; keys = p.keys; table = p.table; mask = p.mask; most = few }
-plain_either tables masks serials few false row p = p
+plain_either tables masks serials few false added p = p
 
 together_either : (serials : List ℕ) (b c : Bool) (x y : Row) → GoTogether x y → GoTogether (cond b (put_actions serials x) x) (cond c (put_actions serials y) y)
 together_either serials true true x y g =
@@ -157,37 +157,37 @@ together_either serials false true x y g =
 together_either serials false false x y g = g
 
 -- a count sees no actions
-number_either : (number : Row → ℕ) (test : Row → Bool) (n : ℕ) (serials : List ℕ) → ((row : Row) → number (put_actions serials row) ≡ number row) → ((row : Row) → test (put_actions serials row) ≡ test row)
-    → (b : Bool) (row : Row) → (test (cond b (put_actions serials row) row) && number (cond b (put_actions serials row) row) == n) ≡ (test row && number row == n)
-number_either number test n serials same alike true row = ap (λ b. b && number (put_actions serials row) == n) (alike row) ∙ ap (λ k. test row && k == n) (same row)
-number_either number test n serials same alike false row = refl
+number_either : (number : Row → ℕ) (test : Row → Bool) (n : ℕ) (serials : List ℕ) → ((added : Row) → number (put_actions serials added) ≡ number added) → ((added : Row) → test (put_actions serials added) ≡ test added)
+    → (b : Bool) (added : Row) → (test (cond b (put_actions serials added) added) && number (cond b (put_actions serials added) added) == n) ≡ (test added && number added == n)
+number_either number test n serials same alike true added = ap (λ b. b && number (put_actions serials added) == n) (alike added) ∙ ap (λ k. test added && k == n) (same added)
+number_either number test n serials same alike false added = refl
 
-numbers_changed : (number : Row → ℕ) (test chosen : Row → Bool) (serials : List ℕ) (rows : List Row) → ((row : Row) → number (put_actions serials row) ≡ number row) → ((row : Row) → test (put_actions serials row) ≡ test row)
+numbers_changed : (number : Row → ℕ) (test chosen : Row → Bool) (serials : List ℕ) (rows : List Row) → ((added : Row) → number (put_actions serials added) ≡ number added) → ((added : Row) → test (put_actions serials added) ≡ test added)
     → numbers number test (change_where chosen (put_actions serials) rows) ≤ numbers number test rows
 numbers_changed number test chosen serials rows same alike =
-    let change : Row → Row = λ row. if chosen row then put_actions serials row else row in
+    let change : Row → Row = λ added. if chosen added then put_actions serials added else added in
     numbers_within number test (map change rows) rows
-    (λ n there. sym (any_map (λ row. test row && number row == n) change rows
-    ∙ any_same (λ row. test (change row) && number (change row) == n) (λ row. test row && number row == n) rows
-    (each_of (λ row. (test (change row) && number (change row) == n) ≡ (test row && number row == n)) (λ row. number_either number test n serials same alike (chosen row) row) rows)) ∙ there)
+    (λ n there. sym (any_map (λ added. test added && number added == n) change rows
+    ∙ any_same (λ added. test (change added) && number (change added) == n) (λ added. test added && number added == n) rows
+    (each_of (λ added. (test (change added) && number (change added) == n) ≡ (test added && number added == n)) (λ added. number_either number test n serials same alike (chosen added) added) rows)) ∙ there)
 
 pub rows_changed : (tables masks : ℕ) (chosen : Row → Bool) (serials : List ℕ) (rows : List Row) → length serials ≤ 16 → AreRows tables masks rows
     → AreRows tables masks (change_where chosen (put_actions serials) rows)
 rows_changed tables masks chosen serials rows few r =
-    let change : Row → Row = λ row. if chosen row then put_actions serials row else row in record {
+    let change : Row → Row = λ added. if chosen added then put_actions serials added else added in record {
       plain = each_map (IsPlain tables masks) change rows
-          (each_weaker (IsPlain tables masks) (λ row. IsPlain tables masks (change row)) (λ row p. plain_either tables masks serials few (chosen row) row p) rows r.plain);
+          (each_weaker (IsPlain tables masks) (λ added. IsPlain tables masks (change added)) (λ added p. plain_either tables masks serials few (chosen added) added p) rows r.plain);
       together = pairs_map GoTogether change (λ x y g. together_either serials (chosen x) (chosen y) x y g) rows r.together;
       tables = λ hook.
           let a = table_count_is hook (map change rows) in
           let b = table_count_is hook rows in
-          let less = numbers_changed (λ (r : Row). r.table) (in_hook hook) chosen serials rows (λ row. refl) (λ row. refl) in
+          let less = numbers_changed (λ (r : Row). r.table) (in_hook hook) chosen serials rows (λ added. refl) (λ added. refl) in
           let most = r.tables hook in
           omega arith;
       masks = λ hook chain pref.
           let a = mask_count_is hook chain pref (map change rows) in
           let b = mask_count_is hook chain pref rows in
-          let less = numbers_changed (λ (r : Row). r.mask_serial) (in_table hook chain pref) chosen serials rows (λ row. refl) (λ row. refl) in
+          let less = numbers_changed (λ (r : Row). r.mask_serial) (in_table hook chain pref) chosen serials rows (λ added. refl) (λ added. refl) in
           let most = r.masks hook chain pref in
           omega arith;
       filters = let long = length_mapped change rows in let most = r.filters in omega arith;
