@@ -46,7 +46,7 @@ impl<P: Kinded> Model for Registry<P> {
 }
 
 impl<P: Kinded> Registry<P> {
-    ghost use Rattle.act_registry.specs.Entries.{is_named, has_serial, bound_more, with_params, change_where, leave_out, unbound, new_entry, is_used, index_for, IsLowestUnused, AreLive};
+    ghost use Rattle.act_registry.specs.Entries.{is_named, has_serial, bound_more, with_params, change_where, leave_out, unbound, new_entry, is_used, lowest_unused, index_for, IsLowestUnused, AreLive};
     ghost use Rattle.act_registry.specs.Kept.{refusal_of, is_taken, make_refusal, Told, delete_refusal};
     ghost use Rattle.act_registry.specs.OnePlace.{OnlyAt, NoPlace};
 
@@ -102,7 +102,7 @@ impl<P: Kinded> Registry<P> {
         ensures stays { OnErr result ((self.new.entries ≡ self.old.entries) × (self.new.made ≡ self.old.made) × (self.old.spare ≤ self.new.spare)) }
     {
         let kind = params.kind();
-        self.check(kind, index)?;
+        self.check_make(kind, index)?;
         let index = self.index_for(kind, index);
         self.reserve(1)?;
         Ok((self.put(params, index, bound), index))
@@ -205,6 +205,40 @@ impl<P: Kinded> Registry<P> {
         &self.entries
     }
 
+    /// How many actions were made so far in this run.
+    pub fn made(&self) -> u32
+        ensures { result ≡ self.now.made }
+    {
+        self.made
+    }
+
+    /// Whether `make` would make an action of that kind, with that index if one is given. Want of memory is not looked at.
+    ///
+    /// `ActionExists`: a live action has the kind and the given index. `ActionsFull`: 1,024 actions are live.
+    /// `CountersFull`: 16,384 were made in this run.
+    pub fn check_make(&self, kind: u32, index: Option<u32>) -> Result<(), RegistryFault>
+        ensures { refusal_of result ≡ make_refusal P.kind_of kind index self.now }
+    {
+        if self.is_taken(kind, index) {
+            return Err(RegistryFault::ActionExists);
+        }
+        if self.entries.len() >= ACTIONS_MAX {
+            return Err(RegistryFault::ActionsFull);
+        }
+        if self.made >= MADE_MAX {
+            return Err(RegistryFault::CountersFull);
+        }
+        Ok(())
+    }
+
+    /// The lowest index from 1 that the kind doesn't use: the one that `make` gives where none is given.
+    pub fn free_index(&self, kind: u32) -> u32
+        ensures index { result ≡ lowest_unused P.kind_of kind self.now.entries }
+        ensures lowest { IsLowestUnused P.kind_of kind self.now.entries result }
+    {
+        self.index_for(kind, None)
+    }
+
     // Where the entry with that kind and index stands.
     fn place_of(&self, kind: u32, index: u32) -> Option<usize>
         ensures here { IfSome result (λ at. OnlyAt (is_named P.kind_of kind index) self.now.entries at) }
@@ -238,22 +272,6 @@ impl<P: Kinded> Registry<P> {
             Some(index) => self.place_of(kind, index).is_some(),
             None => false,
         }
-    }
-
-    // Whether an action of that kind may be made, with that index if one is given.
-    fn check(&self, kind: u32, index: Option<u32>) -> Result<(), RegistryFault>
-        ensures { refusal_of result ≡ make_refusal P.kind_of kind index self.now }
-    {
-        if self.is_taken(kind, index) {
-            return Err(RegistryFault::ActionExists);
-        }
-        if self.entries.len() >= ACTIONS_MAX {
-            return Err(RegistryFault::ActionsFull);
-        }
-        if self.made >= MADE_MAX {
-            return Err(RegistryFault::CountersFull);
-        }
-        Ok(())
     }
 
     // The index that a new action gets.

@@ -1,8 +1,5 @@
-pub mod Order
-pub mod Rows
-pub mod Entries
-pub mod Kept
 pub mod Spells
-pub mod Wholeness
-pub mod LookUps
 pub mod Edits
+pub mod Plans
+pub mod Ready
+pub mod Faults

@@ -1,69 +1,61 @@
-//! The lists of both hooks and the actions, and the edits that touch no table.
-ghost use Rattle.std.specs.Prelude.{◌≡◌, ◌==◌, ◌&&◌, length};
-ghost use Rattle.act_kinds.specs.Params.{kind_of};
-ghost use Rattle.filter_state.specs.declared.edit.Edit.TheVariants as edits;
-ghost use Rattle.filter_state.specs.States.{State, no_state};
+//! The lists of both hooks and the actions.
+ghost use Rattle.std.specs.Prelude.{◌≡◌, map, IfOk, IsTrue};
 ghost use Rattle.filter_state.specs.Lines.{IsLine};
-ghost use Rattle.filter_state.specs.Actions.{index_or_free};
-ghost use Rattle.filter_state.specs.Refusals.{action_exists};
-ghost use Rattle.filter_state.specs.Steps.{step, unless, action_made};
-ghost use Rattle.filter_lists.specs.Edits.{IsStepped, IsSure, refusal_for};
+ghost use Rattle.filter_state.specs.Steps.{step};
+ghost use Rattle.filter_state.specs.States.{State, no_state};
+ghost use Rattle.filter_tables.specs.Seen.{plain_table};
+ghost use Rattle.filter_tables.specs.Rows.{tables_on};
 
-use crate::checks::{check_hook, check_no_hook, check_unused};
-use crate::filter_tables::{FilterTable, FilterTables};
-use act_kinds::{Kind, Params};
-use act_registry::{Registry, RegistryFault};
-use filter_state::{ActionLine, Done, Refusal};
+use crate::doing::carry;
+use crate::prepared::Prepared;
+use crate::preparing::plan_for;
+use act_kinds::Params;
+use act_registry::Registry;
+use filter_state::{Done, Edit, Refusal};
+use filter_tables::{FilterTable, FilterTables};
+use kept_lists::{Kept, tables_of};
 use std::alloc::Global;
 use std::marker::Model;
+use std::snapshot::Snapshot;
 use tc_base::Hook;
 
 /// The tables of the two hooks with their masks and filters, and the actions that filters share.
 #[derive(Drop)]
 pub struct Lists {
-    hooked: bool,
-    ingress: FilterTables,
-    egress: FilterTables,
-    actions: Registry<Params>,
-    tables_made: u32,
-    masks_made: u32,
+    pub(crate) kept: Kept,
 }
 
 impl Model for Lists {
-    ghost use Rattle.filter_lists.specs.Kept.{Kept};
-    ghost use Rattle.filter_lists.specs.Wholeness.{AreWhole};
+    ghost use Rattle.kept_lists.specs.declared.kept.Kept.{Kept};
+    ghost use Rattle.kept_lists.specs.States.{AreKept};
 
     ghost Value = { Kept };
 
-    ghost view = { λ l. record {
-      hooked = l.hooked;
-      ingress = l.ingress;
-      egress = l.egress;
-      actions = l.actions.entries;
-      tables_made = l.tables_made;
-      masks_made = l.masks_made;
-      actions_made = l.actions.made;
-    } };
+    ghost view = { λ l. l.kept };
 
-    ghost invariant = { λ l. AreWhole l.ingress × AreWhole l.egress };
+    ghost invariant = { λ l. AreKept l.kept };
 }
 
 impl Lists {
-    ghost use Rattle.filter_lists.specs.Kept.{tables_on};
+    ghost use Rattle.kept_lists.specs.States.{both_of, AreKept};
     ghost use Rattle.filter_lists.specs.Spells.{Spells};
-    ghost use Rattle.filter_lists.specs.Wholeness.{BothWhole};
+    ghost use Rattle.filter_lists.specs.Edits.{Stays, IsStepped, IsPrepared, IsFinished, MayStep};
 
     /// No qdisc, and nothing made so far. It takes no memory yet.
     pub fn new(alloc: Global) -> Lists
         ensures { Spells result no_state }
     {
         Lists {
-            hooked: false,
-            ingress: FilterTables::from_vec(Vec::new(alloc)),
-            egress: FilterTables::from_vec(Vec::new(alloc)),
-            actions: Registry::new(alloc),
-            tables_made: 0,
-            masks_made: 0,
+            kept: Kept {
+                hooked: false,
+                ingress: FilterTables::new(alloc),
+                egress: FilterTables::new(alloc),
+                actions: Registry::new(alloc),
+                tables_made: 0,
+                masks_made: 0,
+                filters: 0,
+                alloc,
+            },
         }
     }
 
@@ -71,126 +63,75 @@ impl Lists {
     pub fn hooked(&self) -> bool
         ensures { result ≡ self.now.hooked }
     {
-        self.hooked
+        self.kept.hooked
     }
 
-    /// The tables of a hook, by rising chain, then rising pref. None is empty.
+    /// The tables of a hook, by rising chain, then rising pref, with their masks in the order in which they were made. No table and
+    /// no mask is empty.
     pub fn tables(&self, hook: Hook) -> &[FilterTable]
-        ensures are { result.now ≡ tables_on hook self.now }
-        ensures whole { BothWhole self.now }
+        ensures tables { map plain_table result.now ≡ tables_on hook (both_of self.now) }
+        ensures kept { AreKept self.now }
     {
-        match hook {
-            Hook::Ingress => self.ingress.as_slice(),
-            Hook::Egress => self.egress.as_slice(),
-        }
-    }
-
-    /// Whether neither hook has a table.
-    pub fn is_unused(&self) -> bool
-        ensures is { result ≡ (length self.now.ingress == 0 && length self.now.egress == 0) }
-        ensures whole { BothWhole self.now }
-    {
-        self.ingress.as_slice().is_empty() && self.egress.as_slice().is_empty()
+        tables_of(&self.kept, hook).as_slice()
     }
 
     /// The actions that filters share.
     pub fn actions(&self) -> &Registry<Params>
-        ensures entries { result.now.entries ≡ self.now.actions }
-        ensures made { result.now.made ≡ self.now.actions_made }
+        ensures actions { result.now ≡ self.now.actions }
+        ensures kept { AreKept self.now }
     {
-        &self.actions
+        &self.kept.actions
     }
 
-    /// Puts the qdisc on the device.
-    ///
-    /// `HookExists`: it is there.
-    pub fn hook_add(&mut self) -> Result<Done, Refusal>
-        ensures stepped { (s : State) → Spells self.old s → IsStepped self.old self.new result (step s edits.HookAdd) }
-        ensures sure { (s : State) → Spells self.old s → IsSure result (step s edits.HookAdd) }
+    /// Whether `step` and `prepare` may be called: fewer than 4,294,967,295 tables were made so far, and as few masks.
+    pub fn may_step(&self) -> bool
+        ensures { IsTrue result → MayStep self.now }
     {
-        check_no_hook(self)?;
-        self.hooked = true;
-        Ok(Done::Hooked)
+        self.kept.tables_made < u32::MAX && self.kept.masks_made < u32::MAX
     }
 
-    /// Takes the qdisc off the device.
+    /// Looks at an edit, and makes it ready: `finish` can't refuse it then. The state stays as it was, whatever is answered, and at
+    /// most room is reserved.
     ///
-    /// `NoHook`: it isn't there. `HookInUse`: a filter is on either hook.
-    pub fn hook_del(&mut self) -> Result<Done, Refusal>
-        ensures stepped { (s : State) → Spells self.old s → IsStepped self.old self.new result (step s edits.HookDel) }
-        ensures sure { (s : State) → Spells self.old s → IsSure result (step s edits.HookDel) }
+    /// The refusals are those of `step`.
+    pub fn prepare(&mut self, edit: &Edit) -> Result<Prepared, Refusal>
+        requires line { IsLine edit.now }
+        requires may { MayStep self.old }
+        ensures prepared { (s : State) → Spells self.old s → IsPrepared result (step s edit.now) }
+        ensures stays { Stays self.old self.new }
+        ensures ready { IfOk result (λ p. (p.lists ≡ self.new) × (p.edit ≡ edit.now)) }
     {
-        check_hook(self)?;
-        check_unused(self)?;
-        self.hooked = false;
-        Ok(Done::Unhooked)
-    }
-
-    /// Makes an action apart from filters, with the given index, or the lowest from 1 that its kind doesn't use.
-    ///
-    /// `ActionExists`: an action of its kind has the given index. `ActionsFull`: 1,024 actions are live.
-    /// `CountersFull`: 16,384 were made in this run. `NoMemory`: none of these, and memory was refused.
-    pub fn action_add(&mut self, action: &ActionLine) -> Result<Done, Refusal>
-        requires { IsLine (edits.ActionAdd action.now) }
-        ensures { (s : State) → Spells self.old s → IsStepped self.old self.new result (step s (edits.ActionAdd action.now)) }
-    {
-        let Some(params) = action.params else {
-            unreachable!();
-        };
-        self.make(params, action.index)
-    }
-
-    /// Gives the action of that kind and index other parameters, and makes it where it isn't there.
-    ///
-    /// The refusals are those of a new action: `ActionsFull`: 1,024 actions are live. `CountersFull`: 16,384 were made in
-    /// this run. `NoMemory`: none of these, and memory was refused.
-    pub fn action_change(&mut self, action: &ActionLine) -> Result<Done, Refusal>
-        requires { IsLine (edits.ActionChange action.now) }
-        ensures { (s : State) → Spells self.old s → IsStepped self.old self.new result (step s (edits.ActionChange action.now)) }
-    {
-        let (Some(params), Some(index)) = (action.params, action.index) else {
-            unreachable!();
-        };
-        match self.actions.change(index, params) {
-            Ok(()) => Ok(Done::ActionChanged),
-            Err(_) => self.make(params, Some(index)),
+        match plan_for(&mut self.kept, edit) {
+            Ok(plan) => Ok(Prepared {
+                plan,
+                lists: Snapshot::of(self),
+                edit: Snapshot::of(edit),
+            }),
+            Err(refusal) => Err(refusal),
         }
     }
 
-    /// Deletes the action of that kind and index.
+    /// Does an edit that was made ready. It takes no memory.
+    pub fn finish(&mut self, prepared: Prepared) -> Done
+        requires { self.old ≡ prepared.lists }
+        ensures { (s : State) → Spells self.old s → IsFinished self.new result (step s prepared.edit) }
+    {
+        carry(&mut self.kept, prepared.plan)
+    }
+
+    /// Applies an edit: the first refusal that applies in the order of the state's step, or the next state with what was done.
     ///
-    /// `NoSuchAction`: there is none. `ActionBound`: so many places of filters name it.
-    pub fn action_del(&mut self, kind: Kind, index: u32) -> Result<Done, Refusal>
-        ensures stepped { (s : State) → Spells self.old s → IsStepped self.old self.new result (step s (edits.ActionDel kind index)) }
-        ensures sure { (s : State) → Spells self.old s → IsSure result (step s (edits.ActionDel kind index)) }
+    /// Each refusal comes exactly where its condition holds and none before it in the edit's order applies, and changes nothing
+    /// (`specs/Refusals.antt` of filter_state has the conditions, `specs/Steps.antt` their order). `NoMemory`: none applies, and
+    /// memory was refused.
+    pub fn step(&mut self, edit: &Edit) -> Result<Done, Refusal>
+        requires line { IsLine edit.now }
+        requires may { MayStep self.old }
+        ensures { (s : State) → Spells self.old s → IsStepped self.old self.new result (step s edit.now) }
     {
-        match self.actions.delete(kind.number(), index) {
-            Ok(()) => Ok(Done::ActionGone),
-            Err(fault) => Err(refusal_for(fault, kind, index)),
+        match self.prepare(edit) {
+            Ok(prepared) => Ok(self.finish(prepared)),
+            Err(refusal) => Err(refusal),
         }
-    }
-
-    // Makes an action apart from filters. No refusal of it names an index.
-    fn make(&mut self, params: Params, index: Option<u32>) -> Result<Done, Refusal>
-        ensures { (s : State) → Spells self.old s → IsStepped self.old self.new result (unless (action_exists s (kind_of params) index) (action_made s params (index_or_free index (kind_of params) s.actions))) }
-    {
-        match self.actions.make(params, index, false) {
-            Ok((serial, index)) => Ok(Done::ActionMade { index, serial }),
-            Err(fault) => Err(refusal_for(fault, params.kind(), 0)),
-        }
-    }
-}
-
-// The refusal of an edit that names that kind and index, where the registry refused.
-fn refusal_for(fault: RegistryFault, kind: Kind, index: u32) -> Refusal
-    ensures { result ≡ refusal_for kind index fault }
-{
-    match fault {
-        RegistryFault::NoSuchAction => Refusal::NoSuchAction { kind, index },
-        RegistryFault::ActionExists => Refusal::ActionExists,
-        RegistryFault::ActionBound { binds } => Refusal::ActionBound { binds },
-        RegistryFault::ActionsFull => Refusal::ActionsFull,
-        RegistryFault::CountersFull => Refusal::CountersFull,
-        RegistryFault::NoMemory => Refusal::NoMemory,
     }
 }

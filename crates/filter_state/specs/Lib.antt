@@ -7,3 +7,4 @@ pub mod Refusals
 pub mod Steps
 pub mod Sound
 pub mod Journals
+pub mod Order

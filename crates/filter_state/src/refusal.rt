@@ -1,7 +1,9 @@
 //! What an edit is answered.
+ghost use Rattle.std.specs.Prelude.{◌≡◌};
+ghost use Rattle.filter_state.specs.declared.refusal.Refusal.TheVariants as refusals;
 
 use act_kinds::Kind;
-use tc_base::{Numbers, Proto};
+use tc_base::{NoMemory, Numbers, Proto};
 
 /// What an edit did.
 #[derive(Drop, Debug)]
@@ -58,4 +60,12 @@ pub enum Refusal {
     /// 16,384 actions are made at most in a run.
     CountersFull,
     NoMemory,
+}
+
+impl From<NoMemory> for Refusal {
+    ghost from_gives = { λ _ e. e ≡ refusals.NoMemory };
+
+    fn from(_: NoMemory) -> Self {
+        Refusal::NoMemory
+    }
 }

@@ -8,7 +8,8 @@ use crate::texts::{push_named, push_word};
 use act_kinds::{Control, Kind};
 use std::alloc::AllocError;
 
-pub(crate) fn kind_name(kind: Kind) -> &'static str
+/// The module of tc that a kind is named after.
+pub fn kind_name(kind: Kind) -> &'static str
     ensures { result.now ≡ kind_text kind }
 {
     match kind {

@@ -20,7 +20,10 @@ use flow_fields::Key;
 use std::alloc::{AllocError, Global};
 use tc_base::{Hook, NoMemory, Proto};
 
-fn push_qdisc(out: &mut Vec<u8>, verb: &str) -> Result<(), AllocError>
+/// Puts the words of a line behind one, that puts the hooks on the device or takes them off (tc-clsact(8)).
+///
+/// `AllocError`: memory was refused.
+pub fn push_qdisc(out: &mut Vec<u8>, verb: &str) -> Result<(), AllocError>
     ensures { OnOk result (out.new.items ≡ fold onto out.old.items (qdisc_words verb.now)) }
 {
     push_word(out, "qdisc")?;
@@ -73,7 +76,10 @@ fn push_removal(
     push_flower(out, handle)
 }
 
-fn push_shared(out: &mut Vec<u8>, verb: &str, action: ActionLine) -> Result<(), AllocError>
+/// Puts the words of a line behind one, that is about an action apart from filters (tc-actions(8)): its verb and the action.
+///
+/// `AllocError`: memory was refused.
+pub fn push_shared(out: &mut Vec<u8>, verb: &str, action: ActionLine) -> Result<(), AllocError>
     ensures { OnOk result (out.new.items ≡ fold onto out.old.items (codes "actions" ∷ verb.now ∷ action_words action)) }
 {
     push_word(out, "actions")?;

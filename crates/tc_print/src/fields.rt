@@ -214,12 +214,10 @@ fn push_ipv6_fields(out: &mut Vec<u8>, key: &Key<14>, mask: &Key<14>) -> Result<
 }
 
 /// Puts the fields of a filter behind a line, each by its name and its value (tc-flower(8)).
+///
+/// `AllocError`: memory was refused.
 #[tactic(auto, using(crate::proofs::Grown::fields_grow))]
-pub(crate) fn push_fields(
-    out: &mut Vec<u8>,
-    key: &Key<14>,
-    mask: &Key<14>,
-) -> Result<(), AllocError>
+pub fn push_fields(out: &mut Vec<u8>, key: &Key<14>, mask: &Key<14>) -> Result<(), AllocError>
     ensures { OnOk result (out.new.items ≡ fold onto out.old.items (fields_words key.now.words mask.now.words)) }
 {
     push_link_fields(out, key, mask)?;

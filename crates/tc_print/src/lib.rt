@@ -12,6 +12,9 @@
 //!
 //! A line is made in one buffer, word by word. Its memory is all that is taken, and the only fault is that there is none left.
 //!
+//! A crate that prints lines of its own takes the words from here: `push_word` and its kin put them behind a line that the caller
+//! holds, and take nothing back where memory is refused on the way.
+//!
 //! Not promised: that a line is the shortest one, and how long it is. What is printed of an edit that no line can say is not
 //! told, so `print_edit` asks for `IsLine`.
 //!
@@ -27,5 +30,9 @@ mod options;
 mod texts;
 
 pub use actions::push_action;
-pub use edit::print_edit;
+pub use controls::kind_name;
+pub use edit::{print_edit, push_qdisc, push_shared};
+pub use fields::push_fields;
 pub use laws::printed_lines_give_their_edits;
+pub use options::{push_hook, push_options};
+pub use texts::{push_named, push_word};

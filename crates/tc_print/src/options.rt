@@ -18,7 +18,9 @@ fn hook_name(hook: Hook) -> &'static str
 }
 
 /// Puts the first words of a line on a hook: its verb, the device and the hook.
-pub(crate) fn push_hook(out: &mut Vec<u8>, verb: &str, hook: Hook) -> Result<(), AllocError>
+///
+/// `AllocError`: memory was refused.
+pub fn push_hook(out: &mut Vec<u8>, verb: &str, hook: Hook) -> Result<(), AllocError>
     ensures { OnOk result (out.new.items ≡ fold onto out.old.items (hook_words verb.now hook)) }
 {
     push_word(out, "filter")?;
@@ -69,9 +71,11 @@ fn push_handle_option(out: &mut Vec<u8>, handle: Option<u32>) -> Result<(), Allo
     }
 }
 
-/// Puts what tells a table behind a line, and the handle of one filter in it.
+/// Puts what tells a table behind a line, and the handle of one filter in it (tc(8)).
+///
+/// `AllocError`: memory was refused.
 #[tactic(auto, using(crate::proofs::Grown::onto_append))]
-pub(crate) fn push_options(
+pub fn push_options(
     out: &mut Vec<u8>,
     protocol: Option<Proto>,
     pref: Option<u32>,

@@ -22,7 +22,10 @@ pub(crate) fn push_space(out: &mut Vec<u8>) -> Result<(), AllocError>
     Ok(())
 }
 
-pub(crate) fn push_word(out: &mut Vec<u8>, word: &str) -> Result<(), AllocError>
+/// Puts one word behind a line, with a space before it unless the line is empty.
+///
+/// `AllocError`: memory was refused.
+pub fn push_word(out: &mut Vec<u8>, word: &str) -> Result<(), AllocError>
     ensures { OnOk result (out.new.items ≡ onto out.old.items word.now) }
 {
     push_space(out)?;
@@ -37,7 +40,10 @@ pub(crate) fn push_decimal(out: &mut Vec<u8>, number: u64) -> Result<(), AllocEr
     push_number(out, number)
 }
 
-pub(crate) fn push_named(out: &mut Vec<u8>, name: &str, number: u64) -> Result<(), AllocError>
+/// Puts a name and its number behind a line, each with a space before it unless the line is empty.
+///
+/// `AllocError`: memory was refused.
+pub fn push_named(out: &mut Vec<u8>, name: &str, number: u64) -> Result<(), AllocError>
     ensures { OnOk result (out.new.items ≡ fold onto out.old.items (name.now ∷ decimal number ∷ [])) }
 {
     push_word(out, name)?;

@@ -1,0 +1,162 @@
+//! A plan for the actions of a line.
+ghost use Rattle.std.specs.Prelude.{◌≡◌, ◌≤◌, ◌<◌, ◌+◌, ◌∷◌, ◌++◌, [], length, IfOk, OnOk, OnErr};
+ghost use Rattle.act_kinds.specs.Params.{kind_of};
+ghost use Rattle.filter_state.specs.States.{Action};
+ghost use Rattle.filter_state.specs.Sound.{Each};
+ghost use Rattle.filter_state.specs.Lines.{AreFilterActions, IsFilterAction};
+ghost use Rattle.filter_state.specs.Actions.{is_live, first_free, index_or_free, serial_of, resolved};
+ghost use Rattle.action_plan.specs.Entries.{actions_of};
+ghost use Rattle.action_plan.specs.Plans.{made_of, carried, carried_one, AreFit, FitsAs, made_by, serials_of, planned_by, made_or_refused, PlanTold, AddTold, serial_to_make, is_to_make};
+
+use crate::carrying::carry_out;
+use crate::names::{free_index, next_serial, serial_of};
+use crate::planned::PlannedAction;
+use crate::serials::serials_of;
+use act_kinds::{Kind, Params};
+use act_registry::Registry;
+use arrayvec::ArrayVec;
+use filter_state::{ActionLine, Refusal};
+use std::alloc::Global;
+use std::marker::Model;
+use tc_base::{NoMemory, Numbers};
+
+/// What is to be done for the actions of a line, in order.
+#[derive(Drop)]
+pub struct ActionPlan {
+    parts: ArrayVec<PlannedAction, 16>,
+    made: u32,
+}
+
+impl Model for ActionPlan {
+    ghost use Rattle.std.specs.Prelude.{◌≡◌, ◌≤◌, List, length};
+    ghost use Rattle.action_plan.specs.declared.planned.PlannedAction.{PlannedAction};
+    ghost use Rattle.action_plan.specs.Plans.{made_by};
+
+    ghost Value = { List PlannedAction };
+
+    ghost view = { λ p. p.parts.items };
+
+    ghost invariant = { λ p. (p.made ≡ made_by p.parts.items) × (length p.parts.items ≤ 16) };
+}
+
+impl ActionPlan {
+    /// The plan for the actions of a filter's line. An action that is live, or that an action before it is to make, is to be
+    /// bound, and any other is to be made, with its index or the lowest that its kind doesn't use.
+    ///
+    /// `NoSuchAction`: the first that is named alone and isn't there.
+    pub fn of_lines(
+        registry: &Registry<Params>,
+        lines: &[ActionLine],
+    ) -> Result<ActionPlan, Refusal>
+        requires lines { AreFilterActions lines.now }
+        requires few { length lines.now ≤ 16 }
+        ensures { PlanTold (made_of registry.now) (resolved (record { so_far = made_of registry.now; serials = [] }) lines.now) result }
+    {
+        let mut plan = ActionPlan {
+            parts: ArrayVec::new(),
+            made: 0,
+        };
+        for line in lines {
+            match plan.add(registry, line) {
+                Ok(()) => {}
+                Err(refusal) => return Err(refusal),
+            }
+        }
+        Ok(plan)
+    }
+
+    /// How many actions the plan makes, of the 16 at most that it has.
+    pub fn made(&self) -> u32
+        ensures made { result ≡ made_by self.now }
+        ensures short { length self.now ≤ 16 }
+    {
+        self.made
+    }
+
+    /// The serials of the actions, in order.
+    pub fn serials(&self, alloc: Global) -> Result<Numbers, NoMemory>
+        ensures { IfOk result (λ serials. serials ≡ serials_of self.now) }
+    {
+        serials_of(alloc, &self.parts)
+    }
+
+    /// Does what was planned. It takes no memory.
+    pub fn carry_out(&self, registry: &mut Registry<Params>)
+        requires fit { AreFit (made_of registry.old) self.now }
+        requires room { made_by self.now ≤ registry.old.spare }
+        requires few { length registry.old.entries + made_by self.now ≤ 1024 }
+        requires in_run { registry.old.made + made_by self.now ≤ 16384 }
+        requires references { Each (λ (action : Action). action.references + length self.now < 4294967295) (actions_of registry.old.entries) }
+        ensures actions { actions_of registry.new.entries ≡ (carried (made_of registry.old) self.now).actions }
+        ensures made { registry.new.made ≡ (carried (made_of registry.old) self.now).made }
+    {
+        carry_out(&self.parts, registry);
+    }
+
+    // Plans one action more.
+    fn add(&mut self, registry: &Registry<Params>, line: &ActionLine) -> Result<(), Refusal>
+        requires line { IsFilterAction line.now }
+        requires few { length self.old < 16 }
+        requires fit { AreFit (made_of registry.now) self.old }
+        ensures told { AddTold (planned_by (carried (made_of registry.now) self.old) line.now) self.old self.new result }
+        ensures fit { OnOk result (AreFit (made_of registry.now) self.new) }
+    {
+        let part = self.next(registry, line)?;
+        self.push(part);
+        Ok(())
+    }
+
+    // What is to be done for one action more.
+    fn next(&self, registry: &Registry<Params>, line: &ActionLine) -> Result<PlannedAction, Refusal>
+        requires few { length self.now < 16 }
+        requires fit { AreFit (made_of registry.now) self.now }
+        ensures { result ≡ planned_by (carried (made_of registry.now) self.now) line.now }
+    {
+        let kind = line.kind;
+        let index = match line.index {
+            Some(index) => index,
+            None => free_index(registry, &self.parts, self.made, kind),
+        };
+        match serial_of(registry, &self.parts, kind, index) {
+            Some(serial) => Ok(PlannedAction {
+                kind,
+                index,
+                serial,
+                params: None,
+            }),
+            None => self.make(registry, kind, index, line.params),
+        }
+    }
+
+    // An action that isn't there is to be made, where the line writes it in full.
+    fn make(
+        &self,
+        registry: &Registry<Params>,
+        kind: Kind,
+        index: u32,
+        params: Option<Params>,
+    ) -> Result<PlannedAction, Refusal>
+        requires few { length self.now < 16 }
+        ensures { result ≡ made_or_refused (carried (made_of registry.now) self.now) kind index params }
+    {
+        let Some(params) = params else {
+            return Err(Refusal::NoSuchAction { kind, index });
+        };
+        Ok(PlannedAction {
+            kind,
+            index,
+            serial: next_serial(registry, self.made),
+            params: Some(params),
+        })
+    }
+
+    fn push(&mut self, part: PlannedAction)
+        requires few { length self.old < 16 }
+        ensures { self.new ≡ self.old ++ (part ∷ []) }
+    {
+        self.parts.push(part);
+        if part.params.is_some() {
+            self.made += 1;
+        }
+    }
+}

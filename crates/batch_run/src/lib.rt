@@ -1,0 +1,20 @@
+//! A batch file applied: its lines in order, up to the first that is refused.
+//!
+//! Reading a line is `tc_batch`'s, and applying an edit `filter_lists`'; here the two meet. What a batch comes to is a relation on its
+//! commands (`specs/Runs.antt`): each gives an edit that the state accepts, or else the batch stops there, for the line's first bad
+//! word or for the state's refusal. `one_outcome` says that there is one such outcome, so what a run leaves is a function of the
+//! file's bytes. The lists then spell its state.
+//!
+//! One thread calls this, and it keeps nothing between calls. It takes memory for a list of the lines, for each line's edit, and for
+//! what the lists keep.
+//!
+//! Not promised: that memory suffices.
+#![tactic(auto)]
+
+mod laws;
+mod run;
+mod stop;
+
+pub use laws::one_outcome;
+pub use run::{BatchRun, run_batch};
+pub use stop::Stop;

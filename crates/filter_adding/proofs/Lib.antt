@@ -1,0 +1,9 @@
+pub mod Asking
+pub mod Looks
+pub mod Later
+pub mod Seats
+pub mod Planned
+pub mod Given
+pub mod Added
+pub mod Put
+pub mod Done

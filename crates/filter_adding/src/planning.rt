@@ -1,0 +1,89 @@
+//! Making an edit that adds a filter ready.
+ghost use Rattle.std.specs.Prelude.{◌≡◌, ◌+◌, ◌<◌, IfOk};
+ghost use Rattle.filter_state.specs.Lines.{IsFilter};
+ghost use Rattle.filter_state.specs.Steps.{filter_add};
+ghost use Rattle.filter_tables.specs.Rows.{tables_on};
+ghost use Rattle.kept_lists.specs.States.{both_of, state_of, AreKept};
+ghost use Rattle.kept_lists.specs.Steps.{IsRoomier};
+ghost use Rattle.filter_adding.specs.Looks.{IsFound};
+ghost use Rattle.filter_adding.specs.Seats.{IsThere};
+ghost use Rattle.filter_adding.specs.Ready.{IsArrival, IsAdded};
+ghost use Rattle.filter_adding.specs.Additions.{IsPlanned};
+
+use crate::addition::Addition;
+use crate::arrival::{Arrival, Seat};
+use crate::looking::{Found, look};
+use crate::numbers::{free_handle, mask_serial, table_serial};
+use crate::seating::seat_for;
+use filter_index::Filter;
+use filter_state::{FilterLine, Refusal};
+use kept_lists::{Kept, reserve_actions};
+use tc_base::{NoMemory, Numbers};
+
+/// Makes the line's filter ready to be added, or answers why it is refused.
+///
+/// `NoHook`, `NoPref`, `ProtocolClash`, `HandleTaken`, `Exists`, `NoSuchAction`, `TablesFull`, `MasksFull`, `FiltersFull`,
+/// `ActionsFull`, `CountersFull`: the first that applies. `NoMemory`: none of these, and memory was refused.
+pub fn prepare_addition(kept: &mut Kept, line: &FilterLine) -> Result<Addition, Refusal>
+    requires kept { AreKept kept.old }
+    requires line { IsFilter line.now }
+    requires tables { kept.old.tables_made + 1 < 4294967296 }
+    requires masks { kept.old.masks_made + 1 < 4294967296 }
+    ensures roomier { IsRoomier kept.old kept.new }
+    ensures planned { IsPlanned kept.new result (filter_add (state_of kept.old) line.now) }
+{
+    let found = look(kept, line)?;
+    Ok(make_ready(kept, line, found)?)
+}
+
+// Takes all the memory that the filter will want.
+fn make_ready(kept: &mut Kept, line: &FilterLine, found: Found) -> Result<Addition, NoMemory>
+    requires kept { AreKept kept.old }
+    requires line { IsFilter line.now }
+    requires found { IsFound kept.old line.now found }
+    requires tables { kept.old.tables_made + 1 < 4294967296 }
+    requires masks { kept.old.masks_made + 1 < 4294967296 }
+    ensures roomier { IsRoomier kept.old kept.new }
+    ensures added { IfOk result (λ addition. IsAdded kept.new line.now addition) }
+{
+    let Found {
+        pref,
+        place,
+        actions,
+    } = found;
+    reserve_actions(kept, &actions)?;
+    let seat = seat_for(kept, line.hook, place, &line.mask)?;
+    let for_filter = actions.serials(kept.alloc)?;
+    let serials = actions.serials(kept.alloc)?;
+    Ok(Addition {
+        arrival: arrival_for(kept, line, pref, &seat, for_filter),
+        seat,
+        actions,
+        serials,
+    })
+}
+
+// The filter with all that it is to stand under.
+fn arrival_for(kept: &Kept, line: &FilterLine, pref: u32, seat: &Seat, actions: Numbers) -> Arrival
+    requires kept { AreKept kept.now }
+    requires there { IsThere (tables_on line.now.hook (both_of kept.now)) seat.now }
+    requires tables { kept.now.tables_made + 1 < 4294967296 }
+    requires masks { kept.now.masks_made + 1 < 4294967296 }
+    ensures { IsArrival kept.now line.now pref actions seat.now result }
+{
+    let hook = line.hook;
+    Arrival {
+        hook,
+        chain: line.chain,
+        pref,
+        protocol: line.protocol,
+        table_serial: table_serial(kept, hook, seat),
+        mask_serial: mask_serial(kept, hook, seat),
+        mask: line.mask,
+        filter: Filter {
+            handle: line.handle.unwrap_or(free_handle(kept, hook, seat)),
+            key: line.key,
+            actions,
+        },
+    }
+}

@@ -1,0 +1,5 @@
+mod Apart
+mod Calls
+mod Cuts
+mod Indexed
+mod Slots

@@ -1,0 +1,223 @@
+//! The filters of one mask, and two indexes beside them.
+ghost use Rattle.std.specs.Prelude.{◌≡◌, ◌<◌, ◌≤◌, ◌++◌, ◌∷◌, [], length, find, option_map, Some, IsSome, IsOk, IfOk, IfSome, OnOk, OnErr, ◌+◌, true, false, ◌==◌};
+ghost use Rattle.std.specs.Option.{option_copied};
+ghost use Rattle.std.specs.List.{list_any};
+ghost use Rattle.filter_index.specs.declared.filter.Filter.{Filter};
+
+use crate::filter::Filter;
+use crate::room::point;
+use flow_fields::Key;
+use std::alloc::Global;
+use std::collections::HashMap;
+use std::marker::Model;
+use tc_base::{NoMemory, Numbers};
+
+// The least room that filters are moved into (this project's own).
+const ROOM_LEAST: usize = 8;
+
+/// The filters of one mask, in the order in which they were accepted.
+#[derive(Drop)]
+pub struct Filters {
+    // In order. A filter that was taken out leaves its slot empty, so that no later one moves.
+    slots: Vec<Option<Filter>>,
+    // The slot of each handle.
+    handles: HashMap<u32, usize>,
+    // The slot of each key.
+    keys: HashMap<[u64; 14], usize>,
+}
+
+impl Model for Filters {
+    ghost use Rattle.std.specs.Prelude.{◌-◌, length, min, vec_capacity};
+    ghost use Rattle.std.specs.HashMap as hash_maps;
+    ghost use Rattle.filter_index.specs.Listed.{FilterRoom, those_there};
+    ghost use Rattle.filter_index.specs.Places.{AreIndexed};
+
+    ghost Value = { FilterRoom };
+
+    ghost view = { λ l. record {
+      filters = those_there l.slots.items;
+      spare = min (vec_capacity l.slots - length l.slots.items) (min (hash_maps.spare l.handles) (hash_maps.spare l.keys));
+    } };
+
+    ghost invariant = { λ l. AreIndexed l.handles l.keys l.slots.items };
+}
+
+impl Filters {
+    ghost use Rattle.filter_index.specs.Listed.{has_handle, has_key, without, with_actions, those_there, AreApart};
+
+    /// No filters. It takes no memory yet.
+    pub fn new(alloc: Global) -> Filters
+        ensures { result.filters ≡ [] }
+    {
+        Filters {
+            slots: Vec::new(alloc),
+            handles: HashMap::new(alloc),
+            keys: HashMap::new(alloc),
+        }
+    }
+
+    /// Makes room for one filter more, and changes nothing else. Empty slots are given up on the way, once they are half of
+    /// the slots or more and no slot is left.
+    ///
+    /// `NoMemory`: there was no room, and memory was refused.
+    pub fn reserve(&mut self) -> Result<(), NoMemory>
+        ensures filters { self.new.filters ≡ self.old.filters }
+        ensures room { OnOk result (0 < self.new.spare) }
+        ensures spare { self.old.spare ≤ self.new.spare }
+        ensures enough { 0 < self.old.spare → IsOk result }
+    {
+        if let Some(room) = self.room_anew() {
+            return self.move_anew(room);
+        }
+        self.slots.reserve(1)?;
+        self.handles.reserve(1)?;
+        self.keys.reserve(1)?;
+        Ok(())
+    }
+
+    /// Puts a filter behind the others. It takes no memory.
+    pub fn push(&mut self, filter: Filter)
+        requires room { 0 < self.old.spare }
+        requires handle { list_any (has_handle filter.handle) self.old.filters ≡ false }
+        requires key { list_any (has_key filter.key.words) self.old.filters ≡ false }
+        ensures filters { self.new.filters ≡ self.old.filters ++ filter ∷ [] }
+        ensures spare { self.old.spare ≤ self.new.spare + 1 }
+    {
+        let at = self.slots.len();
+        point(&mut self.handles, filter.handle, at);
+        point(&mut self.keys, filter.key.words, at);
+        self.slots.push_reserved(Some(filter));
+    }
+
+    /// The filter with that key.
+    pub fn with_key(&self, key: &Key<14>) -> Option<&Filter>
+        ensures { option_copied result ≡ find (has_key key.now.words) self.now.filters }
+    {
+        let at = *self.keys.get(&key.words)?;
+        self.slots[at].as_ref()
+    }
+
+    /// The filter with that handle.
+    pub fn with_handle(&self, handle: u32) -> Option<&Filter>
+        ensures { option_copied result ≡ find (has_handle handle) self.now.filters }
+    {
+        let at = *self.handles.get(&handle)?;
+        self.slots[at].as_ref()
+    }
+
+    /// Takes the filter with that handle out. It takes no memory.
+    pub fn take(&mut self, handle: u32) -> Filter
+        requires { list_any (has_handle handle) self.old.filters ≡ true }
+        ensures taken { Some result ≡ find (has_handle handle) self.old.filters }
+        ensures filters { self.new.filters ≡ without handle self.old.filters }
+        ensures spare { self.old.spare ≤ self.new.spare }
+    {
+        let Some(at) = self.handles.remove(&handle) else {
+            unreachable!();
+        };
+        let Some(filter) = self.slots[at].take() else {
+            unreachable!();
+        };
+        self.keys.remove(&filter.key.words);
+        filter
+    }
+
+    /// Gives the filter with that handle other actions, and answers those that it had.
+    pub fn set_actions(&mut self, handle: u32, actions: Numbers) -> Numbers
+        requires { list_any (has_handle handle) self.old.filters ≡ true }
+        ensures old { Some result ≡ option_map (λ f. f.actions) (find (has_handle handle) self.old.filters) }
+        ensures filters { self.new.filters ≡ with_actions handle actions self.old.filters }
+        ensures spare { self.new.spare ≡ self.old.spare }
+    {
+        let Some(at) = self.handles.get(&handle).copied() else {
+            unreachable!();
+        };
+        exchange_actions(&mut self.slots[at], actions)
+    }
+
+    /// How many filters there are.
+    pub fn len(&self) -> usize
+        ensures { result ≡ length self.now.filters }
+    {
+        self.handles.len()
+    }
+
+    /// Whether there are none.
+    pub fn is_empty(&self) -> bool
+        ensures { result ≡ (length self.now.filters == 0) }
+    {
+        self.len() == 0
+    }
+
+    /// The slots, of which some may be empty.
+    pub fn slots(&self) -> &[Option<Filter>]
+        ensures filters { those_there result.now ≡ self.now.filters }
+        ensures apart { AreApart self.now.filters }
+    {
+        &self.slots
+    }
+
+    // No filters, and room for so many.
+    fn with_room(alloc: Global, room: usize) -> Result<Filters, NoMemory>
+        ensures filters { IfOk result (λ f. f.filters ≡ []) }
+        ensures room { IfOk result (λ f. room ≤ f.spare) }
+    {
+        Ok(Filters {
+            slots: Vec::with_capacity(alloc, room)?,
+            handles: HashMap::with_capacity(alloc, room)?,
+            keys: HashMap::with_capacity(alloc, room)?,
+        })
+    }
+
+    // Twice the room that the filters need, where no slot is left and half of the slots or more are empty.
+    fn room_anew(&self) -> Option<usize>
+        ensures { IfSome result (λ room. (self.now.spare ≡ 0) × (length self.now.filters < room)) }
+    {
+        let slots = self.slots.len();
+        let live = self.len();
+        if slots == 0 || slots < self.slots.capacity() || live > slots / 2 {
+            return None;
+        }
+        Some((live * 2).max(ROOM_LEAST))
+    }
+
+    // Moves the filters together, into room for so many. The room is taken before the first is moved.
+    fn move_anew(&mut self, room: usize) -> Result<(), NoMemory>
+        requires { length self.old.filters < room }
+        ensures filters { self.new.filters ≡ self.old.filters }
+        ensures room { OnOk result (0 < self.new.spare) }
+        ensures stays { OnErr result (self.new ≡ self.old) }
+    {
+        let mut moved = Filters::with_room(*self.slots.allocator(), room)?;
+        std::mem::swap(self, &mut moved);
+        self.take_over(moved);
+        Ok(())
+    }
+
+    // Takes over the filters of another.
+    fn take_over(&mut self, from: Filters)
+        requires empty { self.old.filters ≡ [] }
+        requires room { length from.filters ≤ self.old.spare }
+        ensures filters { self.new.filters ≡ from.filters }
+        ensures spare { self.old.spare ≤ self.new.spare + length from.filters }
+    {
+        let Filters { slots, .. } = from;
+        for slot in slots {
+            if let Some(filter) = slot {
+                self.push(filter);
+            }
+        }
+    }
+}
+
+// Gives the filter in that slot other actions, and answers those that it had.
+fn exchange_actions(slot: &mut Option<Filter>, actions: Numbers) -> Numbers
+    requires { IsSome slot.old }
+    ensures old { Some result ≡ option_map (λ f. f.actions) slot.old }
+    ensures slot { slot.new ≡ option_map {T = Filter} (λ f. record f { actions = actions }) slot.old }
+{
+    match slot {
+        Some(filter) => std::mem::replace(&mut filter.actions, actions),
+        None => unreachable!(),
+    }
+}

@@ -1,0 +1,3 @@
+pub mod Replacements
+pub mod Planning
+pub mod Changing

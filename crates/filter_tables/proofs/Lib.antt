@@ -1,0 +1,10 @@
+pub mod Places
+pub mod Spares
+pub mod Counts
+pub mod Rising
+pub mod HandleCounts
+pub mod Moves
+pub mod Swept
+pub mod TableOrder
+pub mod TableFinds
+pub mod TableChanges

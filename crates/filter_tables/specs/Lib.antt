@@ -1,0 +1,12 @@
+pub mod Places
+pub mod Plain
+pub mod Changes
+pub mod Room
+pub mod Whole
+pub mod Rows
+pub mod SeenMask
+pub mod Seen
+pub mod SeenRoom
+pub mod Handles
+pub mod SeenSpare
+pub mod TablePlaces

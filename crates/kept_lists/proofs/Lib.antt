@@ -1,0 +1,9 @@
+pub mod First
+pub mod Times
+pub mod Covered
+pub mod Carried
+pub mod Limits
+pub mod Holding
+pub mod Later
+pub mod Sought
+pub mod Asked

@@ -1,0 +1,9 @@
+pub mod Same
+pub mod First
+pub mod Counts
+pub mod Unbinding
+pub mod States
+pub mod Refused
+pub mod Filters
+pub mod Steps
+pub mod Soundness

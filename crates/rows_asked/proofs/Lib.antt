@@ -1,0 +1,15 @@
+pub mod Heads
+pub mod Blocks
+pub mod Pairs
+pub mod Numbers
+pub mod Among
+pub mod Free
+pub mod Found
+pub mod Tables
+pub mod Lowest
+pub mod Together
+pub mod Handles
+pub mod FreeHandle
+pub mod Placed
+pub mod Masks
+pub mod Matches

@@ -1,0 +1,4 @@
+pub mod Sorted
+pub mod Show
+pub mod Refusals
+pub mod Steps
