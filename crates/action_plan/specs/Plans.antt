@@ -71,6 +71,11 @@ PlanTold m (Ok r) (Ok plan) = (r ≡ record { so_far = carried m plan; serials =
 PlanTold m (Err why) (Err refusal) = refusal ≡ why
 PlanTold m resolved planned = ⊥
 
+-- a plan that was filled, or the refusal of its line
+abbrev pub plan_or : List PlannedAction → Result (Unit {0}) Refusal → Result (List PlannedAction) Refusal
+plan_or plan (Ok done) = Ok plan
+plan_or plan (Err refusal) = Err refusal
+
 -- one part more, or the refusal of its line
 abbrev pub AddTold : Result PlannedAction Refusal → List PlannedAction → List PlannedAction → Result (Unit {0}) Refusal → Type 0
 AddTold (Ok p) old new (Ok done) = new ≡ old ++ (p ∷ [])

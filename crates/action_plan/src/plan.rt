@@ -6,11 +6,11 @@ ghost use Rattle.filter_state.specs.Sound.{Each};
 ghost use Rattle.filter_state.specs.Lines.{AreFilterActions, IsFilterAction};
 ghost use Rattle.filter_state.specs.Actions.{is_live, first_free, index_or_free, serial_of, resolved};
 ghost use Rattle.action_plan.specs.Entries.{actions_of};
-ghost use Rattle.action_plan.specs.Plans.{made_of, carried, carried_one, AreFit, FitsAs, made_by, serials_of, planned_by, made_or_refused, PlanTold, AddTold, serial_to_make, is_to_make};
+ghost use Rattle.action_plan.specs.Plans.{made_of, carried, carried_one, AreFit, FitsAs, made_by, serials_of, planned_by, made_or_refused, PlanTold, plan_or, AddTold, serial_to_make, is_to_make};
 
-use crate::carrying::carry_out;
 use crate::names::{free_index, next_serial, serial_of};
 use crate::planned::PlannedAction;
+use crate::planned_actions::PlannedActions;
 use crate::serials::serials_of;
 use act_kinds::{Kind, Params};
 use act_registry::Registry;
@@ -20,7 +20,7 @@ use std::alloc::Global;
 use std::marker::Model;
 use tc_base::{NoMemory, Numbers};
 
-/// What is to be done for the actions of a line, in order.
+/// What is to be done for the actions of a line, in order, while it is planned. It is large, so it is filled where it stands.
 #[derive(Drop)]
 pub struct ActionPlan {
     parts: ArrayVec<PlannedAction, 16>,
@@ -40,29 +40,40 @@ impl Model for ActionPlan {
 }
 
 impl ActionPlan {
-    /// The plan for the actions of a filter's line. An action that is live, or that an action before it is to make, is to be
-    /// bound, and any other is to be made, with its index or the lowest that its kind doesn't use.
-    ///
-    /// `NoSuchAction`: the first that is named alone and isn't there.
-    pub fn of_lines(
-        registry: &Registry<Params>,
-        lines: &[ActionLine],
-    ) -> Result<ActionPlan, Refusal>
-        requires lines { AreFilterActions lines.now }
-        requires few { length lines.now ≤ 16 }
-        ensures { PlanTold (made_of registry.now) (resolved (record { so_far = made_of registry.now; serials = [] }) lines.now) result }
+    /// No plan yet. It takes no memory, now or later.
+    pub fn new() -> ActionPlan
+        ensures { result ≡ [] }
     {
-        let mut plan = ActionPlan {
+        ActionPlan {
             parts: ArrayVec::new(),
             made: 0,
-        };
+        }
+    }
+
+    /// Plans the actions of a filter's line. An action that is live, or that an action before it is to make, is to be bound, and
+    /// any other is to be made, with its index or the lowest that its kind doesn't use.
+    ///
+    /// `NoSuchAction`: the first that is named alone and isn't there. The plan then means nothing.
+    pub fn fill(&mut self, registry: &Registry<Params>, lines: &[ActionLine]) -> Result<(), Refusal>
+        requires empty { self.old ≡ [] }
+        requires lines { AreFilterActions lines.now }
+        requires few { length lines.now ≤ 16 }
+        ensures { PlanTold (made_of registry.now) (resolved (record { so_far = made_of registry.now; serials = [] }) lines.now) (plan_or self.new result) }
+    {
         for line in lines {
-            match plan.add(registry, line) {
+            match self.add(registry, line) {
                 Ok(()) => {}
                 Err(refusal) => return Err(refusal),
             }
         }
-        Ok(plan)
+        Ok(())
+    }
+
+    /// The plan, to be kept until it is carried out.
+    pub fn keep(&self, alloc: Global) -> Result<PlannedActions, NoMemory>
+        ensures { IfOk result (λ plan. plan ≡ self.now) }
+    {
+        PlannedActions::of_parts(alloc, &self.parts)
     }
 
     /// How many actions the plan makes, of the 16 at most that it has.
@@ -78,19 +89,6 @@ impl ActionPlan {
         ensures { IfOk result (λ serials. serials ≡ serials_of self.now) }
     {
         serials_of(alloc, &self.parts)
-    }
-
-    /// Does what was planned. It takes no memory.
-    pub fn carry_out(&self, registry: &mut Registry<Params>)
-        requires fit { AreFit (made_of registry.old) self.now }
-        requires room { made_by self.now ≤ registry.old.spare }
-        requires few { length registry.old.entries + made_by self.now ≤ 1024 }
-        requires in_run { registry.old.made + made_by self.now ≤ 16384 }
-        requires references { Each (λ (action : Action). action.references + length self.now < 4294967295) (actions_of registry.old.entries) }
-        ensures actions { actions_of registry.new.entries ≡ (carried (made_of registry.old) self.now).actions }
-        ensures made { registry.new.made ≡ (carried (made_of registry.old) self.now).made }
-    {
-        carry_out(&self.parts, registry);
     }
 
     // Plans one action more.

@@ -5,6 +5,9 @@
 //! word or for the state's refusal. `one_outcome` says that there is one such outcome, so what a run leaves is a function of the
 //! file's bytes. The lists then spell its state.
 //!
+//! A batch of more than 262,144 commands isn't run: that bounds the numbers that its edits use up. `line_past_limit` tells beforehand
+//! at which line a file passes them; blank lines and comments don't count.
+//!
 //! One thread calls this, and it keeps nothing between calls. It takes memory for a list of the lines, for each line's edit, and for
 //! what the lists keep.
 //!
@@ -12,9 +15,11 @@
 #![tactic(auto)]
 
 mod laws;
+mod limit;
 mod run;
 mod stop;
 
 pub use laws::one_outcome;
+pub use limit::line_past_limit;
 pub use run::{BatchRun, run_batch};
 pub use stop::Stop;

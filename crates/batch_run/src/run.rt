@@ -1,10 +1,10 @@
 //! Applying a batch.
-ghost use Rattle.std.specs.Prelude.{◌≡◌, ◌<◌, length, IfOk};
-ghost use Rattle.tc_words.specs.Lines.{lines_of, words_of};
+ghost use Rattle.std.specs.Prelude.{◌≡◌, ◌≤◌, length, IfOk};
+ghost use Rattle.tc_words.specs.Lines.{words_of};
 ghost use Rattle.filter_state.specs.States.{State, no_state};
 ghost use Rattle.filter_lists.specs.Spells.{Spells};
 ghost use Rattle.filter_lists.specs.Edits.{MayStep};
-ghost use Rattle.batch_run.specs.Commands.{commands_of};
+ghost use Rattle.batch_run.specs.Commands.{commands_in};
 ghost use Rattle.batch_run.specs.Runs.{Ran, IsRun};
 ghost use Rattle.batch_run.specs.Applied.{IsApplied};
 
@@ -14,7 +14,6 @@ use filter_state::Refusal;
 use std::alloc::Global;
 use tc_base::NoMemory;
 use tc_batch::{LineFault, is_command, line};
-use tc_words::lines;
 
 /// What a batch leaves.
 #[derive(Drop)]
@@ -26,19 +25,19 @@ pub struct BatchRun {
     pub stop: Option<Stop>,
 }
 
-/// Applies the lines of a batch file to lists in which nothing stands, up to the first line that is refused.
+/// Applies the lines of a batch file of at most 262,144 commands to lists in which nothing stands, up to the first line that is
+/// refused.
 ///
 /// `NoMemory`: memory was refused. Nothing is told of the lists then.
-pub fn run_batch(alloc: Global, bytes: &[u8]) -> Result<BatchRun, NoMemory>
-    requires { length (lines_of bytes.now) < 4294967295 }
+pub fn run_batch(alloc: Global, texts: &[&[u8]]) -> Result<BatchRun, NoMemory>
+    requires { length (commands_in texts.now) ≤ 262144 }
     ensures { IfOk result (λ run. (ran : Ran) × Spells run.lists ran.state × (run.accepted ≡ ran.accepted) × (run.stop ≡ ran.stop)
-        × IsRun no_state 0 (commands_of bytes.now) ran) }
+        × IsRun no_state 0 (commands_in texts.now) ran) }
 {
-    let texts = lines(alloc, bytes)?;
     let mut lists = Lists::new(alloc);
     let mut accepted = 0;
     let mut number = 0;
-    for text in &texts {
+    for text in texts {
         number += 1;
         if !is_command(text) {
             continue;

@@ -1,5 +1,8 @@
 pub mod Lines
 pub mod Walks
 pub mod Plans
+pub mod Readings
+pub mod Due
 pub mod Exact
+pub mod Writing
 pub mod Matches

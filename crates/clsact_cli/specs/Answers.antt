@@ -1,6 +1,6 @@
 -- The text of an answer.
 use Rattle.std.specs.Prelude.{ℕ, ◌++◌, List}
-use Rattle.clsact_cli.specs.declared.tool.Answer.{Answer}
+use Rattle.clsact_cli.specs.declared.run_walk.Answer.{Answer}
 use Rattle.clsact_cli.specs.Texts.{joined, packet_lines}
 
 abbrev pub text_of : Answer → List ℕ

@@ -82,25 +82,3 @@ runs_job (Gen count front) = true
 abbrev pub asks_for_job : Option Request → Bool
 asks_for_job None = false
 asks_for_job (Some request) = runs_job request
-
--- the files of a walk
-pub record Names : Type 0 where
-  pub batch : List ℕ
-  pub capture : List ℕ
-  pub output : List ℕ
-
--- the files of the walk that is built, `walk ingress`
-abbrev pub built_names : Request → Option Names
-built_names (Walk Ingress b c o) = Some (record { batch = b; capture = c; output = o })
-built_names (Walk Egress b c o) = None
-built_names (Show b) = None
-built_names (Run job) = None
-built_names (Recheck job report) = None
-built_names (Gen count front) = None
-
-abbrev pub names_in : Option Request → Option Names
-names_in None = None
-names_in (Some request) = built_names request
-
-abbrev pub names_of : List (List ℕ) → Option Names
-names_of words = names_in (request_of words)

@@ -10,5 +10,9 @@ pub mod Texts
 pub mod Broken
 pub mod Ends
 pub mod Holdings
+pub mod Work
 pub mod Causes
+pub mod Ready
+pub mod Delivered
+pub mod Parts
 pub mod Answers

@@ -1,8 +1,10 @@
 -- A command, as what it asks for.
+use Rattle.std.specs.Prelude.{ℕ, List}
+use Rattle.tc_base.specs.declared.hook.Hook.TheVariants.{Ingress}
 use Rattle.clsact_cli.specs.declared.command.Command.{Command}
 use Rattle.clsact_cli.specs.declared.command.Command.TheVariants as commands
 use Rattle.clsact_cli.specs.declared.command.WalkNames.{WalkNames}
-use Rattle.clsact_cli.specs.Command.{Request, Walk, Show, Run, Recheck, Gen, Names}
+use Rattle.clsact_cli.specs.Command.{Request, Walk, Show, Run, Recheck, Gen}
 
 abbrev pub request : Command → Request
 request (commands.Walk hook b c o) = Walk hook b.now c.now o.now
@@ -11,5 +13,15 @@ request (commands.Run job) = Run job.now
 request (commands.Recheck job report) = Recheck job.now report.now
 request (commands.Gen count front) = Gen count front.now
 
+-- the files of a walk
+pub record Names : Type 0 where
+  pub batch : List ℕ
+  pub capture : List ℕ
+  pub output : List ℕ
+
 abbrev pub names_seen : WalkNames → Names
 names_seen n = record { batch = n.batch.now; capture = n.capture.now; output = n.output.now }
+
+-- the walk of these files at the ingress hook
+abbrev pub walk_of : Names → Request
+walk_of names = Walk Ingress names.batch names.capture names.output

@@ -1,8 +1,8 @@
 ghost use Rattle.std.specs.Prelude.{◌≡◌};
 ghost use Rattle.std.specs.List.{list_all};
 ghost use Rattle.std.specs.Option.{option_map};
-ghost use Rattle.clsact_cli.specs.Command.{texts, hook_of, is_name_byte, is_front, count_of, gen_request, request_of_one, request_of_two, request_of_four, request_of, verb_of, runs_job, asks_for_job, built_names};
-ghost use Rattle.clsact_cli.specs.Requests.{request, names_seen};
+ghost use Rattle.clsact_cli.specs.Command.{texts, hook_of, is_name_byte, is_front, count_of, gen_request, request_of_one, request_of_two, request_of_four, request_of, verb_of, runs_job, asks_for_job};
+ghost use Rattle.clsact_cli.specs.Requests.{request};
 
 use tc_base::Hook;
 use tc_words::read_decimal;
@@ -182,25 +182,6 @@ impl<'a> Command<'a> {
         ensures { result ≡ runs_job (request self.now) }
     {
         matches!(self, Command::Run { .. } | Command::Gen { .. })
-    }
-
-    /// The files of the walk that is built, the one on the ingress hook.
-    pub fn built_names(&self) -> Option<WalkNames<'a>>
-        ensures { option_map names_seen result ≡ built_names (request self.now) }
-    {
-        match *self {
-            Command::Walk {
-                hook: Hook::Ingress,
-                batch,
-                capture,
-                output,
-            } => Some(WalkNames {
-                batch,
-                capture,
-                output,
-            }),
-            _ => None,
-        }
     }
 }
 

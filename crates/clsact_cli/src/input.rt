@@ -1,13 +1,15 @@
-ghost use Rattle.std.specs.Prelude.{◌≡◌, ◌⊎◌, ◌≤◌, length, IfOk, IfErr};
+ghost use Rattle.std.specs.Prelude.{◌≡◌, ◌⊎◌, ◌≤◌, length, IfOk, IfErr, OnOk};
+ghost use Rattle.batch_run.specs.Commands.{commands_in};
 ghost use Rattle.pcap_io.specs.Captures.{AreShort};
 ghost use Rattle.clsact_cli.specs.declared.batch.Plan.TheVariants as plans;
 ghost use Rattle.clsact_cli.specs.Broken.{break_of, IsTold, IsTooMany, most_packets};
-ghost use Rattle.clsact_cli.specs.Holdings.{Holds, HasPlan, HasCapture};
-ghost use Rattle.clsact_cli.specs.Causes.{LoadFails, BatchFails, CaptureFails};
+ghost use Rattle.clsact_cli.specs.Holdings.{Holds, HasPlan, HasCapture, most_commands};
+ghost use Rattle.clsact_cli.specs.Parts.{LoadFails, ShowingFails, BatchFails, CaptureFails};
 
 use crate::batch::{Plan, read_batch};
 use crate::filter::Filter;
 use crate::status::{Break, InputKind, Status};
+use batch_run::line_past_limit;
 use pcap_io::{Capture, CaptureFault, read};
 use std::alloc::{AllocError, Global};
 use tc_base::{Bytes, Fetch, Shelf};
@@ -49,7 +51,8 @@ fn bad_input(alloc: Global, name: &str, place: u64, kind: InputKind) -> Status
     }
 }
 
-fn load<S: Shelf>(alloc: Global, shelf: &mut S, name: &str) -> Result<Vec<u8>, Status>
+/// The bytes under a name.
+pub fn load<S: Shelf>(alloc: Global, shelf: &mut S, name: &str) -> Result<Vec<u8>, Status>
     ensures bytes { IfOk result (λ v. Holds (S.held shelf.old) name.now v.items) }
     ensures cause { IfErr result (LoadFails S.held S.read_faults S.failed_name shelf.old shelf.new name.now) }
     ensures held { S.held shelf.new ≡ S.held shelf.old }
@@ -60,6 +63,17 @@ fn load<S: Shelf>(alloc: Global, shelf: &mut S, name: &str) -> Result<Vec<u8>, S
         Ok(bytes) => Ok(bytes),
         Err(Fetch::NoMemory) => Err(Status::NoMemory),
         Err(Fetch::Missing | Fetch::Failed) => Err(read_fault(alloc, name)),
+    }
+}
+
+/// Refuses the lines of the batch that the name stands for where they have more than 262,144 commands.
+pub fn check_command_count(alloc: Global, name: &str, texts: &[&[u8]]) -> Result<(), Status>
+    ensures few { OnOk result (length (commands_in texts.now) ≤ most_commands) }
+    ensures many { IfErr result (ShowingFails name.now (commands_in texts.now)) }
+{
+    match line_past_limit(texts) {
+        None => Ok(()),
+        Some(line) => Err(bad_input(alloc, name, line, InputKind::TooManyLines)),
     }
 }
 

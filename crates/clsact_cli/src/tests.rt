@@ -58,11 +58,16 @@ fn two_packets(alloc: Global, big: bool) -> Result<Vec<u8>, AllocError> {
     Ok(bytes)
 }
 
-fn numbers(alloc: Global, list: &[u32]) -> Result<Numbers, AllocError> {
+pub fn numbers(alloc: Global, list: &[u32]) -> Result<Numbers, AllocError> {
     Ok(Numbers::from_vec(list.to_vec(alloc)?))
 }
 
-fn shelf(alloc: Global, batch: &str, capture: &[u8], fails: &[u32]) -> Result<MemShelf, NoMemory> {
+pub fn shelf(
+    alloc: Global,
+    batch: &str,
+    capture: &[u8],
+    fails: &[u32],
+) -> Result<MemShelf, NoMemory> {
     let mut shelf = MemShelf::new(alloc, numbers(alloc, fails)?);
     shelf.insert("batch", batch.as_bytes())?;
     shelf.insert("capture", capture)?;
@@ -70,7 +75,7 @@ fn shelf(alloc: Global, batch: &str, capture: &[u8], fails: &[u32]) -> Result<Me
 }
 
 // The status, as its exit number and its text.
-fn run<R: AllocGlobal + Threads + Wait + Sync>(
+pub fn run<R: AllocGlobal + Threads + Wait + Sync>(
     rt: &R,
     words: &[&str],
     shelf: &mut MemShelf,
@@ -146,7 +151,7 @@ fn words_are_read(rt: HostRuntime) -> Result<(), Fail> {
         (&["gen", "4096", "out/x"], "9 not built: gen at 0"),
         (&["gen", "4", "x"], "9 not built: gen at 0"),
         (&["walk", "egress", "a", "b", "c"], "9 not built: walk at 0"),
-        (&["show", "batch"], "9 not built: show at 0"),
+        (&["show", "batch", "more"], usage),
         (&["run", "job"], "9 not built: run at 0"),
         (&["recheck", "job", "report"], "9 not built: recheck at 0"),
     ];

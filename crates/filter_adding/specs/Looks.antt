@@ -39,6 +39,11 @@ pub record IsFound (kept : Kept) (line : FilterLine) (found : Found) : Type 0 wh
   pub limits : limit_refusal (state_of kept) line found.pref (carried (made_of kept.actions) found.actions) ≡ None
   pub accepted : filter_add (state_of kept) line ≡ filter_added (state_of kept) line found.pref (resolved_by_plan (made_of kept.actions) found.actions)
 
+-- what was found, or the refusal
+abbrev pub found_or : Found → Result (Unit {0}) Refusal → Result Found Refusal
+found_or found (Ok done) = Ok found
+found_or found (Err refusal) = Err refusal
+
 -- the line is refused for the step's reason, or all that the filter stands on was found
 abbrev pub LookTold : Kept → FilterLine → Result Found Refusal → Type 0
 LookTold kept line (Ok found) = IsFound kept line found

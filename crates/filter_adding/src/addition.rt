@@ -1,7 +1,7 @@
 //! An edit that adds a filter, looked at and ready.
 
 use crate::arrival::{Arrival, Seat};
-use action_plan::ActionPlan;
+use action_plan::PlannedActions;
 use tc_base::Numbers;
 
 /// What is to be done to add a filter. Its memory is taken already.
@@ -9,7 +9,7 @@ use tc_base::Numbers;
 pub struct Addition {
     pub arrival: Arrival,
     pub seat: Seat,
-    pub actions: ActionPlan,
+    pub actions: PlannedActions,
     /// The serials of the actions, for the answer.
     pub serials: Numbers,
 }

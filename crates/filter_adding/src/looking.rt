@@ -1,5 +1,5 @@
 //! Looking at an edit that adds a filter: every refusal in its order, before anything is taken.
-ghost use Rattle.std.specs.Prelude.{◌≡◌, ◌&&◌, not, nat_le, is_some, length};
+ghost use Rattle.std.specs.Prelude.{◌≡◌, ◌&&◌, [], not, nat_le, is_some, length};
 ghost use Rattle.filter_state.specs.Lines.{IsFilter};
 ghost use Rattle.filter_state.specs.Refusals.{handle_taken, tables_full, filters_full};
 ghost use Rattle.filter_state.specs.Steps as steps;
@@ -9,7 +9,7 @@ ghost use Rattle.filter_tables.specs.Rows.{tables_on};
 ghost use Rattle.action_plan.specs.Plans.{made_of, carried};
 ghost use Rattle.kept_lists.specs.States.{state_of, both_of, AreKept};
 ghost use Rattle.kept_lists.specs.Steps.{refusal_of};
-ghost use Rattle.filter_adding.specs.Looks.{place_refusal, limit_refusal, LookTold};
+ghost use Rattle.filter_adding.specs.Looks.{place_refusal, limit_refusal, found_or, LookTold};
 
 use action_plan::ActionPlan;
 use filter_state::{FilterLine, Refusal};
@@ -37,23 +37,37 @@ pub(crate) struct Found {
     pub(crate) actions: ActionPlan,
 }
 
-/// Looks for all that can refuse the line but want of memory.
-pub(crate) fn look(kept: &Kept, line: &FilterLine) -> Result<Found, Refusal>
+impl Found {
+    ghost use Rattle.std.specs.Prelude.{◌≡◌, []};
+
+    /// Nothing yet. It is large, so it is filled where it stands.
+    pub(crate) fn new() -> Found
+        ensures { result.actions ≡ [] }
+    {
+        Found {
+            pref: 0,
+            place: None,
+            actions: ActionPlan::new(),
+        }
+    }
+}
+
+/// Looks for all that can refuse the line but want of memory, and fills in what it finds on the way.
+pub(crate) fn look(kept: &Kept, line: &FilterLine, found: &mut Found) -> Result<(), Refusal>
+    requires empty { found.old.actions ≡ [] }
     requires kept { AreKept kept.now }
     requires line { IsFilter line.now }
-    ensures { LookTold kept.now line.now result }
+    ensures { LookTold kept.now line.now (found_or found.new result) }
 {
     check_hook(kept)?;
     let pref = pref_for(kept, line)?;
     let place = find_table(kept, line.hook, line.chain, pref);
     check_place(kept, line, pref, place)?;
-    let actions = resolve(kept, &line.actions)?;
-    check_limits(kept, line, pref, place, &actions)?;
-    Ok(Found {
-        pref,
-        place,
-        actions,
-    })
+    resolve(kept, &line.actions, &mut found.actions)?;
+    check_limits(kept, line, pref, place, &found.actions)?;
+    found.pref = pref;
+    found.place = place;
+    Ok(())
 }
 
 // The given pref, or else one below the lowest of the chain, or 49152 where the chain has no table.

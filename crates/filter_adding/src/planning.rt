@@ -32,31 +32,28 @@ pub fn prepare_addition(kept: &mut Kept, line: &FilterLine) -> Result<Addition, 
     ensures roomier { IsRoomier kept.old kept.new }
     ensures planned { IsPlanned kept.new result (filter_add (state_of kept.old) line.now) }
 {
-    let found = look(kept, line)?;
-    Ok(make_ready(kept, line, found)?)
+    let mut found = Found::new();
+    look(kept, line, &mut found)?;
+    Ok(make_ready(kept, line, &found)?)
 }
 
 // Takes all the memory that the filter will want.
-fn make_ready(kept: &mut Kept, line: &FilterLine, found: Found) -> Result<Addition, NoMemory>
+fn make_ready(kept: &mut Kept, line: &FilterLine, found: &Found) -> Result<Addition, NoMemory>
     requires kept { AreKept kept.old }
     requires line { IsFilter line.now }
-    requires found { IsFound kept.old line.now found }
+    requires found { IsFound kept.old line.now found.now }
     requires tables { kept.old.tables_made + 1 < 4294967296 }
     requires masks { kept.old.masks_made + 1 < 4294967296 }
     ensures roomier { IsRoomier kept.old kept.new }
     ensures added { IfOk result (λ addition. IsAdded kept.new line.now addition) }
 {
-    let Found {
-        pref,
-        place,
-        actions,
-    } = found;
-    reserve_actions(kept, &actions)?;
-    let seat = seat_for(kept, line.hook, place, &line.mask)?;
-    let for_filter = actions.serials(kept.alloc)?;
-    let serials = actions.serials(kept.alloc)?;
+    reserve_actions(kept, &found.actions)?;
+    let seat = seat_for(kept, line.hook, found.place, &line.mask)?;
+    let for_filter = found.actions.serials(kept.alloc)?;
+    let serials = found.actions.serials(kept.alloc)?;
+    let actions = found.actions.keep(kept.alloc)?;
     Ok(Addition {
-        arrival: arrival_for(kept, line, pref, &seat, for_filter),
+        arrival: arrival_for(kept, line, found.pref, &seat, for_filter),
         seat,
         actions,
         serials,

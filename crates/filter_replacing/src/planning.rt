@@ -1,9 +1,9 @@
 //! Making an edit that replaces a filter ready.
-ghost use Rattle.std.specs.Prelude.{◌≡◌, ◌+◌, ◌<◌, length, Some, None, IfOk, OnOk};
+ghost use Rattle.std.specs.Prelude.{◌≡◌, ◌+◌, ◌<◌, [], length, Some, None, IfOk, OnOk};
 ghost use Rattle.filter_state.specs.States.{Row};
 ghost use Rattle.filter_state.specs.Lines.{IsFilter};
 ghost use Rattle.filter_state.specs.Steps.{replace_at};
-ghost use Rattle.action_plan.specs.Plans.{serials_of};
+ghost use Rattle.action_plan.specs.Plans.{plan_or, serials_of};
 ghost use Rattle.filter_index.specs.declared.filter.Filter.{Filter};
 ghost use Rattle.filter_tables.specs.Plain.{PlainMask, PlainTable};
 ghost use Rattle.filter_tables.specs.Places.{item_at};
@@ -43,21 +43,23 @@ pub fn prepare_replacement(
     ensures roomier { IsRoomier kept.old kept.new }
     ensures planned { (row : Row) → old_row (state_of kept.old) line.now ≡ Some row → IsPlanned kept.new result (replace_at (state_of kept.old) line.now row) }
 {
-    let actions = look(kept, line, &old)?;
-    Ok(make_ready(kept, line, old, actions)?)
+    let mut plan = ActionPlan::new();
+    look(kept, line, &old, &mut plan)?;
+    Ok(make_ready(kept, line, old, &plan)?)
 }
 
-// Looks for all that can refuse the line but want of memory.
-fn look(kept: &Kept, line: &FilterLine, old: &Old) -> Result<ActionPlan, Refusal>
+// Looks for all that can refuse the line but want of memory, and plans its actions on the way.
+fn look(kept: &Kept, line: &FilterLine, old: &Old, plan: &mut ActionPlan) -> Result<(), Refusal>
+    requires empty { plan.old ≡ [] }
     requires kept { AreKept kept.now }
     requires line { IsFilter line.now }
     requires found { IsFound kept.now line.now (Some old.now) }
-    ensures { IsLooked kept.now line.now old.now result }
+    ensures { IsLooked kept.now line.now old.now (plan_or plan.new result) }
 {
     check_before(kept, line, old)?;
-    let actions = resolve(kept, &line.actions)?;
-    check_after(kept, line, old, &actions)?;
-    Ok(actions)
+    resolve(kept, &line.actions, plan)?;
+    check_after(kept, line, old, plan)?;
+    Ok(())
 }
 
 // `NoHook`, `ProtocolClash`, `Exists`: what is refused before the actions are resolved.
@@ -102,20 +104,21 @@ fn make_ready(
     kept: &mut Kept,
     line: &FilterLine,
     old: Old,
-    actions: ActionPlan,
+    plan: &ActionPlan,
 ) -> Result<Replacement, NoMemory>
     requires kept { AreKept kept.old }
     requires allowed { (table : PlainTable) × (mask : PlainMask) × (filter : Filter) × IsAllowed kept.old line.now old table mask filter }
-    requires within { IsWithin kept.old actions }
+    requires within { IsWithin kept.old plan.now }
     requires masks { kept.old.masks_made + 1 < 4294967296 }
     ensures roomier { IsRoomier kept.old kept.new }
-    ensures old { IfOk result (λ r. (r.old ≡ old) × (r.actions ≡ actions) × (r.serials ≡ serials_of actions)) }
-    ensures fits { OnOk result (PlanFits kept.new actions) }
-    ensures change { IfOk result (λ r. HasChange kept.old kept.new line.now old (serials_of actions) r.change) }
+    ensures old { IfOk result (λ r. (r.old ≡ old) × (r.actions ≡ plan.now) × (r.serials ≡ serials_of plan.now)) }
+    ensures fits { OnOk result (PlanFits kept.new plan.now) }
+    ensures change { IfOk result (λ r. HasChange kept.old kept.new line.now old (serials_of plan.now) r.change) }
 {
-    reserve_actions(kept, &actions)?;
-    let for_filter = actions.serials(kept.alloc)?;
-    let serials = actions.serials(kept.alloc)?;
+    reserve_actions(kept, plan)?;
+    let for_filter = plan.serials(kept.alloc)?;
+    let serials = plan.serials(kept.alloc)?;
+    let actions = plan.keep(kept.alloc)?;
     let change = change_for(kept, line, &old, for_filter)?;
     Ok(Replacement {
         old,

@@ -1,6 +1,6 @@
 //! An edit that replaces a filter, looked at and ready.
 
-use action_plan::ActionPlan;
+use action_plan::PlannedActions;
 use filter_adding::Arrival;
 use filter_index::Filters;
 use tc_base::{Hook, Numbers};
@@ -33,7 +33,7 @@ pub struct Old {
 pub struct Replacement {
     pub old: Old,
     pub change: Change,
-    pub actions: ActionPlan,
+    pub actions: PlannedActions,
     /// The serials of the actions, for the answer.
     pub serials: Numbers,
 }

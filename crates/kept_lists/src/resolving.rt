@@ -6,12 +6,12 @@ ghost use Rattle.filter_state.specs.Refusals.{or_else, actions_full, counters_fu
 ghost use Rattle.filter_state.specs.Steps.{resolved_for};
 ghost use Rattle.action_plan.specs.Entries.{actions_of};
 ghost use Rattle.action_plan.specs.Bound.{AreBound};
-ghost use Rattle.action_plan.specs.Plans.{made_of, carried, AreFit, made_by, PlanTold};
+ghost use Rattle.action_plan.specs.Plans.{made_of, carried, AreFit, made_by, PlanTold, plan_or};
 ghost use Rattle.kept_lists.specs.States.{state_of, AreKept};
 ghost use Rattle.kept_lists.specs.Steps.{refusal_of, IsRoomier, PlanFits, SameTables};
 
 use crate::kept::Kept;
-use action_plan::{ActionPlan, unbind_all};
+use action_plan::{ActionPlan, PlannedActions, unbind_all};
 use filter_state::{ActionLines, Refusal};
 use tc_base::NoMemory;
 
@@ -21,15 +21,16 @@ const ACTIONS_MAX: usize = 1024;
 // How many actions may be made in a run (this project's own).
 const MADE_MAX: u32 = 16384;
 
-/// The plan for the actions of a line.
+/// Plans the actions of a line.
 ///
-/// `NoSuchAction`: the first that is named alone and isn't there.
-pub fn resolve(kept: &Kept, lines: &ActionLines) -> Result<ActionPlan, Refusal>
+/// `NoSuchAction`: the first that is named alone and isn't there. The plan then means nothing.
+pub fn resolve(kept: &Kept, lines: &ActionLines, plan: &mut ActionPlan) -> Result<(), Refusal>
+    requires empty { plan.old ≡ [] }
     requires lines { AreFilterActions lines.now }
     requires few { length lines.now ≤ 16 }
-    ensures { PlanTold (made_of kept.now.actions) (resolved_for (state_of kept.now) lines.now) result }
+    ensures { PlanTold (made_of kept.now.actions) (resolved_for (state_of kept.now) lines.now) (plan_or plan.new result) }
 {
-    ActionPlan::of_lines(&kept.actions, lines.as_slice())
+    plan.fill(&kept.actions, lines.as_slice())
 }
 
 /// `ActionsFull`: more than 1,024 actions would be live. `CountersFull`: more than 16,384 would have been made in this run.
@@ -59,14 +60,14 @@ pub fn reserve_actions(kept: &mut Kept, plan: &ActionPlan) -> Result<(), NoMemor
 }
 
 /// Binds and makes what was planned. It takes no memory.
-pub fn carry_out(kept: &mut Kept, plan: &ActionPlan)
+pub fn carry_out(kept: &mut Kept, plan: &PlannedActions)
     requires kept { AreKept kept.old }
     requires fits { PlanFits kept.old plan.now }
     ensures tables { SameTables kept.old kept.new }
     ensures actions { made_of kept.new.actions ≡ carried (made_of kept.old.actions) plan.now }
 {
     // A plan is short, so that no count of references passes what a number holds.
-    let _ = plan.made();
+    let _ = plan.len();
     plan.carry_out(&mut kept.actions);
 }
 

@@ -55,7 +55,7 @@ row_missing both hook chain pref missing =
 by_hook : (hook : Hook) → ByTable hook (in_hook hook) (λ (t : PlainTable). true)
 by_hook hook = record { here = λ t m f. hook_self hook; there = λ h other t m f. other }
 
-hook_rows : (both : BothHooks) (hook : Hook) → filter (in_hook hook) (all_rows both) ≡ rows_of hook (tables_on hook both)
+pub hook_rows : (both : BothHooks) (hook : Hook) → filter (in_hook hook) (all_rows both) ≡ rows_of hook (tables_on hook both)
 hook_rows both hook =
     kept_rows both hook (in_hook hook) (λ (t : PlainTable). true) (by_hook hook)
     ∙ ap (rows_of hook) (filter_all (λ (t : PlainTable). true) (tables_on hook both) (each_of (λ t. true ≡ true) (λ t. refl) (tables_on hook both)))
@@ -74,7 +74,7 @@ one_serial t u x y of too together same =
 not_before : (t u : PlainTable) → OneSerial t u → comes_before t u ≡ true → t.serial ≡ u.serial → ⊥
 not_before t u one before same = let agree = one same in grind (arith, nat_tests)
 
-apart_serials : (hook : Hook) (tables : List PlainTable) → AreWhole tables → EachPair GoTogether (rows_of hook tables) → EachPair (λ (t u : PlainTable). t.serial ≡ u.serial → ⊥) tables
+pub apart_serials : (hook : Hook) (tables : List PlainTable) → AreWhole tables → EachPair GoTogether (rows_of hook tables) → EachPair (λ (t u : PlainTable). t.serial ≡ u.serial → ⊥) tables
 unfolding rows_of
 apart_serials hook tables whole together =
     pairs_both OneSerial (λ t u. comes_before t u ≡ true) (λ t u. t.serial ≡ u.serial → ⊥) not_before tables

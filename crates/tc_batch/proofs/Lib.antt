@@ -8,4 +8,5 @@ pub mod WordSteps
 pub mod Ends
 pub mod Alive
 pub mod Runs
+pub mod WordsLeft
 pub mod FieldValues

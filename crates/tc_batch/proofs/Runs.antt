@@ -1,13 +1,9 @@
 -- Whole runs over the words of a line.
 use Rattle.std.proofs.Common.{◌≡◌, ◌∙◌, ℕ, zero, suc, ◌+◌, ◌<◌, ◌≤◌, List, [], ◌∷◌, ◌++◌, length, take, drop, get_or, Option, Some, None, refl, sym, ap, subst, arith, append-nil, ◌⊎◌, inl, inr}
-use Rattle.std.specs.Prelude.{IsSomeAnd, map}
+use Rattle.std.specs.Prelude.{IsSomeAnd}
 use Rattle.std.specs.Option.{option_and_then}
-use Rattle.std.proofs.Math.ListN.{get_or-map}
 use Rattle.std.proofs.lemmas.List.{take-append-drop, take_more, take_all, take-take}
 use Rattle.tc_batch.specs.FirstBad.{Begins, IsFirstBad}
-use Rattle.std.proofs.lemmas.List.{length-map}
-use Rattle.tc_words.specs.Places.{bytes_at}
-use Rattle.tc_words.specs.declared.places.Word.{Word}
 use Rattle.filter_state.specs.declared.edit.Edit.{Edit}
 use Rattle.tc_batch.specs.States.{State}
 use Rattle.tc_batch.specs.Grammar.{Gives}
@@ -137,33 +133,6 @@ no_fault words edit at line fault =
     let not_within : at ≤ length words → ⊥ = λ le. fault.bad le (record { more = drop at words; edit = edit; gives = subst (λ (ws : List (List ℕ)). Gives ws edit) (sym (take-append-drop at words)) line }) in
     let beyond : length words < at = omega arith in
     fault.cut beyond edit line
-
--- the same for words that are places in a line
-abbrev pub no_place : Word
-no_place = record { start = 0; end = 0 }
-
-pub placed_count : (line : List ℕ) (places : List Word) → length (map (bytes_at line) places) ≡ length places
-placed_count line places = length-map places (bytes_at line)
-
-pub placed_more : (line : List ℕ) (places : List Word) (i : ℕ) (state : State) (next : Option State) → run State.Start (take i (map (bytes_at line) places)) ≡ Some state → i < length places
-    → next ≡ next_state state (bytes_at line (get_or places i no_place)) → run State.Start (take (i + 1) (map (bytes_at line) places)) ≡ next
-placed_more line places i state next so_far here goes =
-    run_more (map (bytes_at line) places) i state (bytes_at line (get_or places i no_place)) next so_far (rw (placed_count line places) here) (sym (get_or-map (bytes_at line) places i no_place)) goes
-
-pub placed_refused : (line : List ℕ) (places : List Word) (i : ℕ) (state : State) → run State.Start (take i (map (bytes_at line) places)) ≡ Some state → i < length places
-    → None ≡ next_state state (bytes_at line (get_or places i no_place)) → IsFirstBad (map (bytes_at line) places) (i + 1)
-placed_refused line places i state so_far here goes =
-    refused (map (bytes_at line) places) i state (bytes_at line (get_or places i no_place)) so_far (rw (placed_count line places) here) (sym (get_or-map (bytes_at line) places i no_place)) goes
-
-pub placed_all : (line : List ℕ) (places : List Word) (i : ℕ) (state : State) → run State.Start (take i (map (bytes_at line) places)) ≡ Some state → length places ≤ i
-    → run State.Start (map (bytes_at line) places) ≡ Some state
-placed_all line places i state so_far past = ap (run State.Start) (sym (take_all i (map (bytes_at line) places) (rw (placed_count line places) past))) ∙ so_far
-
-pub placed_cut : (line : List ℕ) (places : List Word) (i : ℕ) (state : State) → run State.Start (take i (map (bytes_at line) places)) ≡ Some state → i ≡ length places → None ≡ edit_at state
-    → IsFirstBad (map (bytes_at line) places) (i + 1)
-placed_cut line places i state so_far end is =
-    let same : i ≡ length (map (bytes_at line) places) = end ∙ sym (placed_count line places) in
-    subst (λ (n : ℕ). IsFirstBad (map (bytes_at line) places) (n + 1)) (sym same) (cut_short (map (bytes_at line) places) state (placed_all line places i state so_far (omega arith)) is)
 
 -- each list of words gives an edit or has a first bad word
 abbrev Answered : List (List ℕ) → Type 0

@@ -9,11 +9,12 @@
 //! fact about the states: from each of them some words lead to a whole line. So a state is never kept that only looks
 //! alive, and rules such as "replace needs pref and handle before flower" refuse the word at which they break.
 //!
-//! A state holds what was read, by value, and each step takes it and gives the next one. A field that stands twice is refused
-//! by its name, not by its mask, since a mask of 0 leaves no trace in the edit.
+//! A state holds what was read: a draft of the edit, and a stage. Each step writes the next one where they stand, since they are
+//! too large to be handed on word by word. A field that stands twice is refused by its name, not by its mask, since a mask of 0
+//! leaves no trace in the edit.
 //!
-//! Reading a line takes memory for its words and for its actions, and none a word. Nothing is kept between calls, so any
-//! thread may call any function.
+//! Words are read off the front of what is left of the line. So reading a line takes memory for its actions alone. Nothing is kept
+//! between calls, so any thread may call any function.
 //!
 //! Not promised: that tc(8) takes each of these lines, or refuses the others at the same word. What an edit does is not told
 //! here, and how edits are printed neither.

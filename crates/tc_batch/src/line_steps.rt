@@ -1,7 +1,8 @@
 //! The words of a line apart from its actions, one on.
 //!
-//! Each function answers the stage after a word, or `None` where no line goes on with it.
-ghost use Rattle.std.specs.Prelude.{◌≡◌, []};
+//! Each function goes on to the stage after a word, and answers whether a line goes on with it. Where none does, the stage means
+//! nothing. A stage is written where it stands, since it is too large to be handed on word by word.
+ghost use Rattle.std.specs.Prelude.{◌≡◌, [], if◌then◌else◌, Some, None};
 ghost use Rattle.std.specs.Option.{option_map};
 ghost use Rattle.tc_batch.specs.declared.draft.Draft.{Draft};
 ghost use Rattle.tc_batch.specs.States.{State, state_of};
@@ -21,165 +22,229 @@ use act_kinds::Kind;
 use std::alloc::Global;
 use tc_words::is_text;
 
-// The next stage, where the word is that text.
-pub(crate) fn after_text(text: &str, next: Stage, word: &[u8]) -> Option<Stage>
-    ensures { (draft : Draft) → option_map (state_of draft) result ≡ on_text text.now (state_of draft next) word.now }
+// Goes to the next stage, where the word is that text.
+pub(crate) fn after_text(stage: &mut Stage, text: &str, next: Stage, word: &[u8]) -> bool
+    ensures { (draft : Draft) → option_map (state_of draft) (if result then Some stage.new else None) ≡ on_text text.now (state_of draft next) word.now }
 {
-    if is_text(word, text) {
-        Some(next)
-    } else {
-        None
+    if !is_text(word, text) {
+        return false;
     }
+    *stage = next;
+    true
 }
 
-fn begin_line(kind: LineKind) -> Stage
-    ensures { (draft : Draft) → state_of draft result ≡ after_kind kind }
+fn begin_line(stage: &mut Stage, kind: LineKind)
+    ensures { (draft : Draft) → state_of draft stage.new ≡ after_kind kind }
 {
     match kind {
-        LineKind::Qdisc => Stage::Qdisc,
-        LineKind::Filter => Stage::Filter,
-        LineKind::Actions => Stage::Actions,
+        LineKind::Qdisc => *stage = Stage::Qdisc,
+        LineKind::Filter => *stage = Stage::Filter,
+        LineKind::Actions => *stage = Stage::Actions,
     }
 }
 
-pub(crate) fn after_start(word: &[u8]) -> Option<Stage>
-    ensures { (draft : Draft) → option_map (state_of draft) result ≡ next_state State.Start word.now }
+pub(crate) fn after_start(stage: &mut Stage, word: &[u8]) -> bool
+    ensures { (draft : Draft) → option_map (state_of draft) (if result then Some stage.new else None) ≡ next_state State.Start word.now }
 {
-    Some(begin_line(read_line_kind(word)?))
+    let Some(kind) = read_line_kind(word) else {
+        return false;
+    };
+    begin_line(stage, kind);
+    true
 }
 
-pub(crate) fn after_qdisc(word: &[u8]) -> Option<Stage>
-    ensures { (draft : Draft) → option_map (state_of draft) result ≡ next_state State.Qdisc word.now }
+pub(crate) fn after_qdisc(stage: &mut Stage, word: &[u8]) -> bool
+    ensures { (draft : Draft) → option_map (state_of draft) (if result then Some stage.new else None) ≡ next_state State.Qdisc word.now }
 {
-    Some(Stage::QdiscDev(read_qdisc_verb(word)?))
+    let Some(verb) = read_qdisc_verb(word) else {
+        return false;
+    };
+    *stage = Stage::QdiscDev(verb);
+    true
 }
 
-pub(crate) fn after_filter(word: &[u8]) -> Option<Stage>
-    ensures { (draft : Draft) → option_map (state_of draft) result ≡ next_state State.FilterLine word.now }
+pub(crate) fn after_filter(stage: &mut Stage, word: &[u8]) -> bool
+    ensures { (draft : Draft) → option_map (state_of draft) (if result then Some stage.new else None) ≡ next_state State.FilterLine word.now }
 {
-    Some(Stage::FilterDev(read_filter_verb(word)?))
+    let Some(verb) = read_filter_verb(word) else {
+        return false;
+    };
+    *stage = Stage::FilterDev(verb);
+    true
 }
 
-pub(crate) fn after_device(draft: &mut Draft, verb: FilterVerb, word: &[u8]) -> Option<Stage>
-    ensures { option_map (state_of draft.new) result ≡ next_state (State.FilterHook verb) word.now }
+pub(crate) fn after_device(
+    draft: &mut Draft,
+    stage: &mut Stage,
+    verb: FilterVerb,
+    word: &[u8],
+) -> bool
+    ensures { option_map (state_of draft.new) (if result then Some stage.new else None) ≡ next_state (State.FilterHook verb) word.now }
 {
-    draft.head.hook = read_hook(word)?;
+    let Some(hook) = read_hook(word) else {
+        return false;
+    };
+    draft.head.hook = hook;
     draft.head.options = Options::none();
-    Some(Stage::Settings(verb))
+    *stage = Stage::Settings(verb);
+    true
 }
 
-fn begin_flower(draft: &mut Draft, verb: FilterVerb) -> Stage
-    ensures { state_of draft.new result ≡ after_flower verb draft.old.head.hook draft.old.head.options }
+fn begin_flower(draft: &mut Draft, stage: &mut Stage, verb: FilterVerb)
+    ensures { state_of draft.new stage.new ≡ after_flower verb draft.old.head.hook draft.old.head.options }
 {
     match verb {
         FilterVerb::Add => {
             draft.begin_fields(false);
-            Stage::Fielding
+            *stage = Stage::Fielding;
         }
         FilterVerb::Replace => {
             draft.begin_fields(true);
-            Stage::Fielding
+            *stage = Stage::Fielding;
         }
-        FilterVerb::Del => Stage::Done(Ending::FilterDel),
+        FilterVerb::Del => *stage = Stage::Done(Ending::FilterDel),
     }
 }
 
-// The stage after `flower`, where it may follow.
-fn after_flower(draft: &mut Draft, verb: FilterVerb, word: &[u8]) -> Option<Stage>
-    ensures { option_map (state_of draft.new) result ≡ on_flower verb draft.old.head.hook draft.old.head.options word.now }
+// Goes on behind `flower`, where it may follow.
+fn after_flower(draft: &mut Draft, stage: &mut Stage, verb: FilterVerb, word: &[u8]) -> bool
+    ensures { option_map (state_of draft.new) (if result then Some stage.new else None) ≡ on_flower verb draft.old.head.hook draft.old.head.options word.now }
 {
     if draft.head.options.may_flower(verb) && is_text(word, "flower") {
-        Some(begin_flower(draft, verb))
+        begin_flower(draft, stage, verb);
+        true
     } else {
-        None
+        false
     }
 }
 
-pub(crate) fn after_options(draft: &mut Draft, verb: FilterVerb, word: &[u8]) -> Option<Stage>
-    ensures { option_map (state_of draft.new) result ≡ on_setting verb draft.old.head.hook draft.old.head.options word.now }
+pub(crate) fn after_options(
+    draft: &mut Draft,
+    stage: &mut Stage,
+    verb: FilterVerb,
+    word: &[u8],
+) -> bool
+    ensures { option_map (state_of draft.new) (if result then Some stage.new else None) ≡ on_setting verb draft.old.head.hook draft.old.head.options word.now }
 {
     match read_option_name(word) {
-        Some(name) if draft.head.options.has(name) => None,
-        Some(name) => Some(Stage::SettingValue(verb, name)),
-        None => after_flower(draft, verb, word),
+        Some(name) if draft.head.options.has(name) => false,
+        Some(name) => {
+            *stage = Stage::SettingValue(verb, name);
+            true
+        }
+        None => after_flower(draft, stage, verb, word),
     }
 }
 
 pub(crate) fn after_option_name(
     draft: &mut Draft,
-    verb: FilterVerb,
-    name: OptionName,
+    stage: &mut Stage,
+    setting: (FilterVerb, OptionName),
     word: &[u8],
-) -> Option<Stage>
-    ensures { option_map (state_of draft.new) result ≡ next_state (State.SettingValue verb draft.old.head.hook draft.old.head.options name) word.now }
+) -> bool
+    ensures { option_map (state_of draft.new) (if result then Some stage.new else None) ≡ next_state (State.SettingValue setting.0 draft.old.head.hook draft.old.head.options setting.1) word.now }
 {
-    draft.head.options = draft.head.options.with(name, word)?;
-    Some(Stage::Settings(verb))
+    let (verb, name) = setting;
+    if !draft.head.options.take(name, word) {
+        return false;
+    }
+    *stage = Stage::Settings(verb);
+    true
 }
 
-// The stage after `action`, where one more may come.
-pub(crate) fn after_listed(draft: &mut Draft, word: &[u8]) -> Option<Stage>
-    ensures { option_map (state_of draft.new) result ≡ on_listed draft.old.head draft.old.actions draft.old.more word.now }
+// Goes on behind `action`, where one more may come.
+pub(crate) fn go_on_listed(draft: &mut Draft, stage: &mut Stage, word: &[u8]) -> bool
+    ensures { option_map (state_of draft.new) (if result then Some stage.new else None) ≡ on_listed draft.old.head draft.old.actions draft.old.more word.now }
 {
     if draft.more == 0 || !is_text(word, "action") {
-        return None;
+        return false;
     }
     draft.more -= 1;
-    Some(Stage::Acting(Site::Filter, Place::Begun))
+    *stage = Stage::Acting(Site::Filter, Place::Begun);
+    true
 }
 
-fn end_fields(alloc: Global, draft: &mut Draft, word: &[u8]) -> Option<Stage>
-    ensures { option_map (state_of draft.new) result ≡ on_listed draft.old.head [] 16 word.now }
+fn end_fields(alloc: Global, draft: &mut Draft, stage: &mut Stage, word: &[u8]) -> bool
+    ensures { option_map (state_of draft.new) (if result then Some stage.new else None) ≡ on_listed draft.old.head [] 16 word.now }
 {
     draft.begin_actions(alloc);
-    after_listed(draft, word)
+    go_on_listed(draft, stage, word)
 }
 
-pub(crate) fn after_fields(alloc: Global, draft: &mut Draft, word: &[u8]) -> Option<Stage>
-    ensures { option_map (state_of draft.new) result ≡ on_field draft.old.head word.now }
+pub(crate) fn after_fields(alloc: Global, draft: &mut Draft, stage: &mut Stage, word: &[u8]) -> bool
+    ensures { option_map (state_of draft.new) (if result then Some stage.new else None) ≡ on_field draft.old.head word.now }
 {
     match read_field_name(word) {
-        Some(name) if draft.head.fields.refuses(name) => None,
-        Some(name) => Some(Stage::FieldValue(name)),
-        None => end_fields(alloc, draft, word),
+        Some(name) if draft.head.fields.refuses(name) => false,
+        Some(name) => {
+            *stage = Stage::FieldValue(name);
+            true
+        }
+        None => end_fields(alloc, draft, stage, word),
     }
 }
 
-pub(crate) fn after_field_name(draft: &mut Draft, name: FieldName, word: &[u8]) -> Option<Stage>
-    ensures { option_map (state_of draft.new) result ≡ next_state (State.FieldValue draft.old.head name) word.now }
+pub(crate) fn after_field_name(
+    draft: &mut Draft,
+    stage: &mut Stage,
+    name: FieldName,
+    word: &[u8],
+) -> bool
+    ensures { option_map (state_of draft.new) (if result then Some stage.new else None) ≡ next_state (State.FieldValue draft.old.head name) word.now }
 {
-    if draft.head.fields.take(name, word) {
-        Some(Stage::Fielding)
-    } else {
-        None
+    if !draft.head.fields.take(name, word) {
+        return false;
     }
+    *stage = Stage::Fielding;
+    true
 }
 
-pub(crate) fn after_actions(word: &[u8]) -> Option<Stage>
-    ensures { (draft : Draft) → option_map (state_of draft) result ≡ next_state State.Actions word.now }
+pub(crate) fn after_actions(stage: &mut Stage, word: &[u8]) -> bool
+    ensures { (draft : Draft) → option_map (state_of draft) (if result then Some stage.new else None) ≡ next_state State.Actions word.now }
 {
-    Some(Stage::ActionsAction(read_action_verb(word)?))
+    let Some(verb) = read_action_verb(word) else {
+        return false;
+    };
+    *stage = Stage::ActionsAction(verb);
+    true
 }
 
-pub(crate) fn begin_action(verb: ActionVerb) -> Stage
-    ensures { (draft : Draft) → state_of draft result ≡ after_actions verb }
+fn begin_action(stage: &mut Stage, verb: ActionVerb)
+    ensures { (draft : Draft) → state_of draft stage.new ≡ after_actions verb }
 {
     match verb {
-        ActionVerb::Add => Stage::Acting(Site::Add, Place::Begun),
-        ActionVerb::Change => Stage::Acting(Site::Change, Place::Begun),
-        ActionVerb::Del => Stage::DelKind,
+        ActionVerb::Add => *stage = Stage::Acting(Site::Add, Place::Begun),
+        ActionVerb::Change => *stage = Stage::Acting(Site::Change, Place::Begun),
+        ActionVerb::Del => *stage = Stage::DelKind,
     }
 }
 
-pub(crate) fn after_del(word: &[u8]) -> Option<Stage>
-    ensures { (draft : Draft) → option_map (state_of draft) result ≡ next_state State.DelKind word.now }
+pub(crate) fn after_action_verb(stage: &mut Stage, verb: ActionVerb, word: &[u8]) -> bool
+    ensures { (draft : Draft) → option_map (state_of draft) (if result then Some stage.new else None) ≡ next_state (State.ActionsAction verb) word.now }
 {
-    Some(Stage::DelIndex(read_kind(word)?))
+    if !is_text(word, "action") {
+        return false;
+    }
+    begin_action(stage, verb);
+    true
 }
 
-pub(crate) fn after_del_index(kind: Kind, word: &[u8]) -> Option<Stage>
-    ensures { (draft : Draft) → option_map (state_of draft) result ≡ next_state (State.DelNumber kind) word.now }
+pub(crate) fn after_del(stage: &mut Stage, word: &[u8]) -> bool
+    ensures { (draft : Draft) → option_map (state_of draft) (if result then Some stage.new else None) ≡ next_state State.DelKind word.now }
 {
-    let index = read_index(word)?;
-    Some(Stage::Done(Ending::ActionDel(kind, index)))
+    let Some(kind) = read_kind(word) else {
+        return false;
+    };
+    *stage = Stage::DelIndex(kind);
+    true
+}
+
+pub(crate) fn after_del_index(stage: &mut Stage, kind: Kind, word: &[u8]) -> bool
+    ensures { (draft : Draft) → option_map (state_of draft) (if result then Some stage.new else None) ≡ next_state (State.DelNumber kind) word.now }
+{
+    let Some(index) = read_index(word) else {
+        return false;
+    };
+    *stage = Stage::Done(Ending::ActionDel(kind, index));
+    true
 }

@@ -1,5 +1,5 @@
 //! What may stand between a hook and `flower`.
-ghost use Rattle.std.specs.Prelude.{◌≡◌};
+ghost use Rattle.std.specs.Prelude.{◌≡◌, if◌then◌else◌, Some, None};
 ghost use Rattle.tc_batch.specs.Options.{no_options, is_given, with_option, may_flower, may_end, qdisc_edit, del_edit};
 
 use crate::keywords::{FilterVerb, OptionName, QdiscVerb};
@@ -40,39 +40,55 @@ impl Options {
         }
     }
 
-    // The options with one more, where the word is a value of that name.
-    pub(crate) fn with(self, name: OptionName, word: &[u8]) -> Option<Self>
-        ensures { result ≡ with_option self name word.now }
+    fn take_protocol(&mut self, word: &[u8]) -> bool
+        ensures { (if result then Some self.new else None) ≡ with_option self.old OptionName.Protocol word.now }
+    {
+        let Some(protocol) = read_protocol(word) else {
+            return false;
+        };
+        self.protocol = Some(protocol);
+        true
+    }
+
+    fn take_pref(&mut self, word: &[u8]) -> bool
+        ensures { (if result then Some self.new else None) ≡ with_option self.old OptionName.Pref word.now }
+    {
+        let Some(pref) = read_pref(word) else {
+            return false;
+        };
+        self.pref = Some(pref);
+        true
+    }
+
+    fn take_chain(&mut self, word: &[u8]) -> bool
+        ensures { (if result then Some self.new else None) ≡ with_option self.old OptionName.Chain word.now }
+    {
+        let Some(chain) = read_chain(word) else {
+            return false;
+        };
+        self.chain = Some(chain);
+        true
+    }
+
+    fn take_handle(&mut self, word: &[u8]) -> bool
+        ensures { (if result then Some self.new else None) ≡ with_option self.old OptionName.Handle word.now }
+    {
+        let Some(handle) = read_index(word) else {
+            return false;
+        };
+        self.handle = Some(handle);
+        true
+    }
+
+    // Takes one more, where the word is a value of that name.
+    pub(crate) fn take(&mut self, name: OptionName, word: &[u8]) -> bool
+        ensures { (if result then Some self.new else None) ≡ with_option self.old name word.now }
     {
         match name {
-            OptionName::Protocol => {
-                let protocol = read_protocol(word)?;
-                Some(Options {
-                    protocol: Some(protocol),
-                    ..self
-                })
-            }
-            OptionName::Pref => {
-                let pref = read_pref(word)?;
-                Some(Options {
-                    pref: Some(pref),
-                    ..self
-                })
-            }
-            OptionName::Chain => {
-                let chain = read_chain(word)?;
-                Some(Options {
-                    chain: Some(chain),
-                    ..self
-                })
-            }
-            OptionName::Handle => {
-                let handle = read_index(word)?;
-                Some(Options {
-                    handle: Some(handle),
-                    ..self
-                })
-            }
+            OptionName::Protocol => self.take_protocol(word),
+            OptionName::Pref => self.take_pref(word),
+            OptionName::Chain => self.take_chain(word),
+            OptionName::Handle => self.take_handle(word),
         }
     }
 

@@ -1,7 +1,6 @@
 //! Lines and their edits.
-ghost use Rattle.std.specs.Prelude.{◌≡◌, ◌==◌, ◌⊎◌, not, ◌<◌, ◌-◌, ◌^◌, ℕ, List, length, map, All, IfOk, IfErr};
+ghost use Rattle.std.specs.Prelude.{◌≡◌, ◌==◌, ◌⊎◌, not, ℕ, List, length, IfOk, IfErr};
 ghost use Rattle.tc_words.specs.Lines.{words_of};
-ghost use Rattle.tc_words.specs.Places.{bytes_at, IsPlaceIn};
 ghost use Rattle.filter_state.specs.declared.edit.Edit.{Edit};
 ghost use Rattle.tc_batch.specs.Grammar.{Gives};
 ghost use Rattle.tc_batch.specs.FirstBad.{HasFault, IsFirstBad};
@@ -12,29 +11,17 @@ use crate::stage::Stage;
 use crate::steps::{end, step};
 use filter_state::Edit;
 use std::alloc::Global;
-use tc_words::{Word, has_words, split, word_bytes};
+use tc_words::{first_word, has_words};
 
-fn read_words(alloc: Global, line: &[u8], words: &[Word]) -> Result<Edit, LineFault>
-    requires places { All (IsPlaceIn line.now) words.now }
-    requires few { length words.now < 2 ^ 32 - 1 }
-    ensures line { IfOk result (Gives (map (bytes_at line.now) words.now)) }
-    ensures fault { IfErr result (HasFault (map (bytes_at line.now) words.now)) }
-{
-    let mut draft = Draft::new(alloc);
-    let mut stage = Stage::Start;
-    let mut count = 0u32;
-    for word in words {
-        count += 1;
-        match step(alloc, &mut draft, stage, word_bytes(line, *word))? {
-            Some(next) => stage = next,
-            None => return Err(LineFault::Syntax { word: count }),
-        }
-    }
-    match end(alloc, draft, stage)? {
-        Some(edit) => Ok(edit),
-        None => Err(LineFault::Syntax { word: count + 1 }),
-    }
+/// A line as far as it was read: what it says, and how far it has come.
+#[derive(Drop)]
+struct Reading {
+    draft: Draft,
+    stage: Stage,
 }
+
+// More words have no number that fits the answer, which may be one past the last word.
+const MOST_WORDS: u32 = 0xFFFF_FFFE;
 
 /// Whether a line of a batch file is a command: whether it is neither blank nor a comment.
 pub fn is_command(bytes: &[u8]) -> bool
@@ -48,16 +35,32 @@ pub fn is_command(bytes: &[u8]) -> bool
 /// `bytes` is one line, as `tc_words::lines` cuts it. A bad word is one at which no line goes on: no line has the words up to
 /// it as its own first words. Where the words are all good and yet no line, one past the last word is bad.
 ///
-/// A line of 4,294,967,295 words or more is answered with `NoMemory`: their number has no room in the answer.
+/// A line that is good up to its 4,294,967,294th word and has a word more is answered with `NoMemory`: the number of a bad
+/// word behind it has no room in the answer.
 pub fn line(alloc: Global, bytes: &[u8]) -> Result<Edit, LineFault>
     ensures line { IfOk result (Gives (words_of bytes.now)) }
     ensures fault { IfErr result (HasFault (words_of bytes.now)) }
 {
-    let words = split(alloc, bytes)?;
-    if words.len() >= 0xFFFF_FFFF {
-        return Err(LineFault::NoMemory);
+    let mut reading = Reading {
+        draft: Draft::new(alloc),
+        stage: Stage::Start,
+    };
+    let mut count = 0;
+    let mut rest = bytes;
+    while let Some((word, more)) = first_word(rest) {
+        if count >= MOST_WORDS {
+            return Err(LineFault::NoMemory);
+        }
+        count += 1;
+        if !step(alloc, &mut reading.draft, &mut reading.stage, word)? {
+            return Err(LineFault::Syntax { word: count });
+        }
+        rest = more;
     }
-    read_words(alloc, bytes, words.as_slice())
+    match end(alloc, reading.draft, reading.stage)? {
+        Some(edit) => Ok(edit),
+        None => Err(LineFault::Syntax { word: count + 1 }),
+    }
 }
 
 /// A list of words gives an edit or has a first bad word, never both, and one at most of either. So `line` answers exactly by

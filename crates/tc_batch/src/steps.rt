@@ -1,17 +1,17 @@
 //! One word on, and the end of the words.
-ghost use Rattle.std.specs.Prelude.{◌≡◌, IfOk};
+ghost use Rattle.std.specs.Prelude.{◌≡◌, IfOk, if◌then◌else◌, Some, None};
 ghost use Rattle.std.specs.Option.{option_map};
 ghost use Rattle.tc_batch.specs.States.{context_of, ending_edit, state_of};
-ghost use Rattle.tc_batch.specs.Machine.{next_state, ends_action, ends_place, edit_at};
+ghost use Rattle.tc_batch.specs.Machine.{next_state, on_acting, ends_action, ends_place, edit_at};
 
 use crate::action_keywords::Site;
 use crate::action_steps::after_place;
 use crate::actions::full_action;
 use crate::draft::Draft;
 use crate::line_steps::{
-    after_actions, after_del, after_del_index, after_device, after_field_name, after_fields,
-    after_filter, after_listed, after_option_name, after_options, after_qdisc, after_start,
-    after_text, begin_action,
+    after_action_verb, after_actions, after_del, after_del_index, after_device, after_field_name,
+    after_fields, after_filter, after_option_name, after_options, after_qdisc, after_start,
+    after_text, go_on_listed,
 };
 use crate::options::qdisc_edit;
 use crate::stage::{Ending, Place, Stage};
@@ -19,39 +19,50 @@ use act_kinds::Params;
 use filter_state::Edit;
 use std::alloc::{AllocError, Global};
 
-// The stage after one word more. `None` where no line goes on so.
+// Goes one word on in an action.
+#[inline(never)]
+fn act(draft: &mut Draft, stage: &mut Stage, word: &[u8]) -> Result<bool, AllocError>
+    ensures { IfOk result (λ goes. (site : Site) (place : Place) → stage.old ≡ Stage.Acting site place → option_map (state_of draft.new) (if goes then Some stage.new else None) ≡ on_acting (context_of draft.old site) place word.now) }
+{
+    let Stage::Acting(site, place) = *stage else {
+        return Ok(false);
+    };
+    after_place(draft, stage, site, place, word)
+}
+
+// Goes one word on. `false` where no line goes on so, and then the stage means nothing.
 pub(crate) fn step(
     alloc: Global,
     draft: &mut Draft,
-    stage: Stage,
+    stage: &mut Stage,
     word: &[u8],
-) -> Result<Option<Stage>, AllocError>
-    ensures { IfOk result (λ next. option_map (state_of draft.new) next ≡ next_state (state_of draft.old stage) word.now) }
+) -> Result<bool, AllocError>
+    ensures { IfOk result (λ goes. option_map (state_of draft.new) (if goes then Some stage.new else None) ≡ next_state (state_of draft.old stage.old) word.now) }
 {
-    match stage {
-        Stage::Start => Ok(after_start(word)),
-        Stage::Qdisc => Ok(after_qdisc(word)),
-        Stage::QdiscDev(verb) => Ok(after_text("dev", Stage::QdiscName(verb), word)),
-        Stage::QdiscName(verb) => Ok(after_text("eth0", Stage::QdiscClsact(verb), word)),
+    match *stage {
+        Stage::Start => Ok(after_start(stage, word)),
+        Stage::Qdisc => Ok(after_qdisc(stage, word)),
+        Stage::QdiscDev(verb) => Ok(after_text(stage, "dev", Stage::QdiscName(verb), word)),
+        Stage::QdiscName(verb) => Ok(after_text(stage, "eth0", Stage::QdiscClsact(verb), word)),
         Stage::QdiscClsact(verb) => {
-            Ok(after_text("clsact", Stage::Done(Ending::Qdisc(verb)), word))
+            Ok(after_text(stage, "clsact", Stage::Done(Ending::Qdisc(verb)), word))
         }
-        Stage::Filter => Ok(after_filter(word)),
-        Stage::FilterDev(verb) => Ok(after_text("dev", Stage::FilterName(verb), word)),
-        Stage::FilterName(verb) => Ok(after_text("eth0", Stage::FilterHook(verb), word)),
-        Stage::FilterHook(verb) => Ok(after_device(draft, verb, word)),
-        Stage::Settings(verb) => Ok(after_options(draft, verb, word)),
-        Stage::SettingValue(verb, name) => Ok(after_option_name(draft, verb, name, word)),
-        Stage::Fielding => Ok(after_fields(alloc, draft, word)),
-        Stage::FieldValue(name) => Ok(after_field_name(draft, name, word)),
-        Stage::Listed => Ok(after_listed(draft, word)),
-        Stage::Acting(site, place) => after_place(draft, site, place, word),
-        Stage::Actions => Ok(after_actions(word)),
-        Stage::ActionsAction(verb) => Ok(after_text("action", begin_action(verb), word)),
-        Stage::DelKind => Ok(after_del(word)),
-        Stage::DelIndex(kind) => Ok(after_text("index", Stage::DelNumber(kind), word)),
-        Stage::DelNumber(kind) => Ok(after_del_index(kind, word)),
-        Stage::Done(_) => Ok(None),
+        Stage::Filter => Ok(after_filter(stage, word)),
+        Stage::FilterDev(verb) => Ok(after_text(stage, "dev", Stage::FilterName(verb), word)),
+        Stage::FilterName(verb) => Ok(after_text(stage, "eth0", Stage::FilterHook(verb), word)),
+        Stage::FilterHook(verb) => Ok(after_device(draft, stage, verb, word)),
+        Stage::Settings(verb) => Ok(after_options(draft, stage, verb, word)),
+        Stage::SettingValue(verb, name) => Ok(after_option_name(draft, stage, (verb, name), word)),
+        Stage::Fielding => Ok(after_fields(alloc, draft, stage, word)),
+        Stage::FieldValue(name) => Ok(after_field_name(draft, stage, name, word)),
+        Stage::Listed => Ok(go_on_listed(draft, stage, word)),
+        Stage::Acting(..) => act(draft, stage, word),
+        Stage::Actions => Ok(after_actions(stage, word)),
+        Stage::ActionsAction(verb) => Ok(after_action_verb(stage, verb, word)),
+        Stage::DelKind => Ok(after_del(stage, word)),
+        Stage::DelIndex(kind) => Ok(after_text(stage, "index", Stage::DelNumber(kind), word)),
+        Stage::DelNumber(kind) => Ok(after_del_index(stage, kind, word)),
+        Stage::Done(_) => Ok(false),
     }
 }
 

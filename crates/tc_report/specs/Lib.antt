@@ -1,4 +1,3 @@
-pub mod Sorted
 pub mod Show
 pub mod Refusals
 pub mod Steps

@@ -4,16 +4,15 @@ use Rattle.std.specs.Prelude.{ℕ, ◌==◌, ◌&&◌, ◌||◌, nat_lt, Bool, t
 use Rattle.std.specs.List.{flat_map, join_with_byte}
 use Rattle.std.specs.Fmt.{decimal}
 use Rattle.act_kinds.specs.Params.{kind_of, number_of_kind}
-use Rattle.tc_base.specs.declared.hook.Hook.{Hook}
-use Rattle.tc_base.specs.declared.hook.Hook.TheVariants as hooks
 use Rattle.filter_state.specs.declared.action_line.ActionLine.{ActionLine}
 use Rattle.filter_state.specs.declared.edit.FilterLine.{FilterLine}
 use Rattle.filter_state.specs.States.{Row, Action, State}
 use Rattle.filter_state.specs.Actions.{has_serial}
-use Rattle.filter_state.specs.Tables.{hook_eq, first_where}
+use Rattle.filter_state.specs.Tables.{first_where}
 use Rattle.tc_print.specs.ActionWords.{kind_text, action_words}
 use Rattle.tc_print.specs.EditWords.{qdisc_words, filter_words}
-use Rattle.tc_report.specs.Sorted.{sorted}
+use Rattle.row_order.specs.Sorted.{sorted}
+use Rattle.row_order.specs.Rows.{row_before}
 
 -- words with one space between, and a line end
 abbrev pub text_line : List (List ℕ) → List ℕ
@@ -40,18 +39,7 @@ action_shown a =
     text_line (codes "actions" ∷ codes "add" ∷ action_words (record { kind = kind_of a.params; index = Some a.index; params = Some a.params }))
     ++ text_line (counts_words a)
 
--- ---- filters: ingress first, then by chain, pref and mask, and those of one mask as they were accepted
-abbrev pub hook_before : Hook → Hook → Bool
-hook_before hooks.Ingress hooks.Egress = true
-hook_before a b = false
-
-abbrev pub row_before : Row → Row → Bool
-row_before a b =
-    hook_before a.hook b.hook
-    || (hook_eq a.hook b.hook && (nat_lt a.chain b.chain
-    || (a.chain == b.chain && (nat_lt a.pref b.pref
-    || (a.pref == b.pref && nat_lt a.mask_serial b.mask_serial)))))
-
+-- ---- filters, in the order of the rows
 -- each action by its kind and index
 abbrev pub named : Option Action → List ActionLine
 named None = []

@@ -1,16 +1,11 @@
 -- What the steps of showing speak of (this project's own).
-use Rattle.std.specs.Prelude.{◌≡◌, ℕ, Bool, false, List, [], ◌∷◌, Option, Some, None}
+use Rattle.std.specs.Prelude.{ℕ, Bool, List, [], ◌∷◌, Option, Some, None}
 use Rattle.std.specs.List.{flat_map}
 use Rattle.act_kinds.specs.declared.params.Params.{Params}
 use Rattle.act_registry.specs.declared.entry.Entry.{Entry}
 use Rattle.action_plan.specs.Entries.{action_of, actions_of}
 use Rattle.filter_state.specs.States.{State, no_state}
-use Rattle.filter_state.specs.Sound.{EachPair}
 use Rattle.tc_report.specs.Show.{action_before}
-
--- no element comes before an earlier one
-abbrev pub InOrder : {X : Type 0} → (X → X → Bool) → List X → Type 0
-InOrder before xs = EachPair (λ a b. before b a ≡ false) xs
 
 -- entries in the order in which they are shown
 abbrev pub entry_before : Entry Params → Entry Params → Bool

@@ -7,4 +7,5 @@ pub mod Dotted
 pub mod GroupLists
 pub mod MacParts
 pub mod Ipv6Parts
-pub mod SomeWord
+pub mod FirstPlaces
+pub mod FirstWords

@@ -18,6 +18,10 @@ lines_of bytes = map strip_carriage_return (without_last_empty (slice_split (λ 
 abbrev pub is_blank : ℕ → Bool
 is_blank b = b == 0x20 || b == 0x09
 
+-- a blank ends a word, and so does a number sign `#`, at which the comment begins
+abbrev pub ends_word : ℕ → Bool
+ends_word b = is_blank b || b == 0x23
+
 -- a line up to its first number sign `#`
 abbrev pub uncommented : List ℕ → List ℕ
 uncommented line = option_map_or (λ end. take end line) (position (λ b. b == 0x23) line) line

@@ -4,11 +4,13 @@ ghost use Rattle.std.specs.Option.{option_map};
 ghost use Rattle.std.specs.Borrow.{Bor};
 ghost use Rattle.tc_words.specs.Lines.{is_blank, uncommented, cut_once};
 
+use memchr::memchr;
+
 // The place of the first such byte.
 pub(crate) fn place_of(bytes: &[u8], byte: u8) -> Option<usize>
     ensures { result ≡ position (λ b. b == byte) bytes.now }
 {
-    bytes.iter().position(|b| *b == byte)
+    memchr(byte, bytes)
 }
 
 /// What stands before the first such byte, and what behind it. The byte itself is in neither, and either may be empty.

@@ -4,8 +4,8 @@
 //! word may hold any other byte. std's `split_whitespace` would cut at more. Each function answers by what the whole line
 //! or word is (`specs/`), and not by how it is gone over.
 //!
-//! A word is a place in its line, so a line costs one allocation, and its words cost none. The readers of words take no
-//! memory. The functions that do are passed the allocator, and answer `NoMemory` where it has none left; there is no other
+//! `split` gives the words of a line as places in it, so a line costs one allocation, and its words cost none. `first_word` gives
+//! them one by one, and takes no memory. The readers of words take none either. The functions that do are passed the allocator, and answer `NoMemory` where it has none left; there is no other
 //! fault here. A word that is not of the form asked for is `None`.
 //!
 //! Nothing is kept between calls, so any thread may call any function.
@@ -16,6 +16,7 @@
 mod addresses;
 mod cuts;
 mod file_lines;
+mod first_words;
 mod groups;
 mod hexadecimal;
 mod ipv6_addresses;
@@ -29,9 +30,10 @@ mod texts;
 pub use addresses::read_ipv4;
 pub use cuts::cut_at;
 pub use file_lines::lines;
+pub use first_words::{first_word, has_words};
 pub use hexadecimal::{read_hex, read_hex_digits};
 pub use ipv6_addresses::{Ipv6Word, ipv6_mask, read_ipv6};
 pub use mac_addresses::read_mac;
 pub use numbers::{read_decimal, read_number};
-pub use places::{Word, Words, has_words, split, word_bytes};
+pub use places::{Word, Words, split, word_bytes};
 pub use texts::{are_texts, is_text};

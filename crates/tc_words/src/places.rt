@@ -105,16 +105,3 @@ pub fn split(alloc: Global, bytes: &[u8]) -> Result<Words, NoMemory>
     let words = cut_words(alloc, without_comment(bytes))?;
     Ok(Words::from_vec(words))
 }
-
-fn has_other(text: &[u8]) -> bool
-    ensures { result ≡ list_any (λ b. not (is_blank b)) text.now }
-{
-    text.iter().any(|b| !is_blank(*b))
-}
-
-/// Whether a line has a word: whether it is neither blank nor a comment.
-pub fn has_words(line: &[u8]) -> bool
-    ensures { result ≡ not (length (words_of line.now) == 0) }
-{
-    has_other(without_comment(line))
-}

@@ -1,10 +1,10 @@
-use Rattle.std.proofs.Common.{◌≡◌, ◌<◌, length}
+use Rattle.std.proofs.Common.{◌≡◌}
+use Rattle.batch_run.specs.Commands.{commands_in}
 use Rattle.batch_run.proofs.LentLines.{ReachedAt}
 use Rattle.batch_run.proofs.run.run_batch.Given as goal
 
 abbrev pub invariant-loop-text : goal.invariant-loop-text
 invariant-loop-text l = record {
-  reached : ReachedAt l.lists l.accepted l.text-index l.text-items l.bytes;
+  reached : ReachedAt l.lists l.accepted l.text-index l.texts (commands_in l.texts);
   numbered : l.number ≡ l.text-index;
-  few : length l.text-items < 4294967295;
 }

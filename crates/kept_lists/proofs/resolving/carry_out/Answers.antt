@@ -3,4 +3,4 @@ use Rattle.kept_lists.proofs.Holding.{few_references}
 use Rattle.kept_lists.proofs.resolving.carry_out.Goals as goal
 
 pub carry_out-requires-clause-references : goal.carry_out-requires-clause-references
-carry_out-requires-clause-references c = few_references (state_of c.args.kept.now) _ c.requires.kept.sound c.made.ensures.short
+carry_out-requires-clause-references c = few_references (state_of c.args.kept.now) _ c.requires.kept.sound c.len.ensures.short

@@ -1,0 +1,66 @@
+//! A plan that is kept until it is carried out.
+ghost use Rattle.std.specs.Prelude.{◌≡◌, ◌≤◌, ◌<◌, ◌+◌, length, IfOk};
+ghost use Rattle.filter_state.specs.States.{Action};
+ghost use Rattle.filter_state.specs.Sound.{Each};
+ghost use Rattle.action_plan.specs.Entries.{actions_of};
+ghost use Rattle.action_plan.specs.Plans.{made_of, carried, AreFit, made_by};
+
+use crate::carrying::carry_out;
+use crate::planned::PlannedAction;
+use act_kinds::Params;
+use act_registry::Registry;
+use std::alloc::Global;
+use std::marker::Model;
+use tc_base::NoMemory;
+
+/// What is to be done for the actions of a line, in order: at most 16.
+#[derive(Drop)]
+pub struct PlannedActions {
+    parts: Vec<PlannedAction>,
+}
+
+impl Model for PlannedActions {
+    ghost use Rattle.std.specs.Prelude.{◌≤◌, List, length};
+    ghost use Rattle.action_plan.specs.declared.planned.PlannedAction.{PlannedAction};
+
+    ghost Value = { List PlannedAction };
+
+    ghost view = { λ p. p.parts.items };
+
+    ghost invariant = { λ p. length p.parts.items ≤ 16 };
+}
+
+impl PlannedActions {
+    pub(crate) fn of_parts(
+        alloc: Global,
+        parts: &[PlannedAction],
+    ) -> Result<PlannedActions, NoMemory>
+        requires { length parts.now ≤ 16 }
+        ensures { IfOk result (λ plan. plan ≡ parts.now) }
+    {
+        Ok(PlannedActions {
+            parts: Vec::from_slice(alloc, parts)?,
+        })
+    }
+
+    /// How many actions the line has.
+    pub fn len(&self) -> usize
+        ensures length { result ≡ length self.now }
+        ensures short { length self.now ≤ 16 }
+    {
+        self.parts.len()
+    }
+
+    /// Does what was planned. It takes no memory.
+    pub fn carry_out(&self, registry: &mut Registry<Params>)
+        requires fit { AreFit (made_of registry.old) self.now }
+        requires room { made_by self.now ≤ registry.old.spare }
+        requires few { length registry.old.entries + made_by self.now ≤ 1024 }
+        requires in_run { registry.old.made + made_by self.now ≤ 16384 }
+        requires references { Each (λ (action : Action). action.references + length self.now < 4294967295) (actions_of registry.old.entries) }
+        ensures actions { actions_of registry.new.entries ≡ (carried (made_of registry.old) self.now).actions }
+        ensures made { registry.new.made ≡ (carried (made_of registry.old) self.now).made }
+    {
+        carry_out(&self.parts, registry);
+    }
+}

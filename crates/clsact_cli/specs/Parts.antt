@@ -1,0 +1,50 @@
+-- Why the parts of a run answer nothing.
+use Rattle.std.specs.Prelude.{◌≡◌, ◌⊎◌, ℕ, List, Option, Some}
+use Rattle.tc_base.specs.Outside.{Held}
+use Rattle.batch_run.specs.Commands.{Command, line_past}
+use Rattle.clsact_cli.specs.declared.status.InputKind.TheVariants as kinds
+use Rattle.clsact_cli.specs.declared.status.Status.{Status}
+use Rattle.clsact_cli.specs.declared.status.Status.TheVariants as statuses
+use Rattle.clsact_cli.specs.declared.batch.Plan.TheVariants.{NotBuilt}
+use Rattle.clsact_cli.specs.Requests.{Names}
+use Rattle.clsact_cli.specs.Holdings.{HasPlan, HasFilter, HasBreak, most_commands}
+use Rattle.clsact_cli.specs.Causes.{ReadFails, WriteFails}
+
+-- why one file was not loaded
+abbrev pub LoadFails : {S : Type 0} → (S → Option Held) → (S → ℕ) → (S → Option (List ℕ)) → S → S → List ℕ → Status → Type 0
+LoadFails held read_faults failed_name old new name (statuses.ReadFault failed) = (failed ≡ name) × ReadFails held read_faults failed_name old new name
+LoadFails held read_faults failed_name old new name statuses.NoMemory = Unit {0}
+LoadFails held read_faults failed_name old new name status = ⊥
+
+-- why a batch of these commands wasn't shown: they pass the limit at a line
+abbrev pub ShowingFails : List ℕ → List Command → Status → Type 0
+ShowingFails name commands (statuses.BadInput file place kind) =
+    (file ≡ name) × (line_past most_commands commands ≡ Some place) × (kind ≡ kinds.TooManyLines)
+ShowingFails name commands statuses.NoMemory = Unit {0}
+ShowingFails name commands status = ⊥
+
+-- why a batch gave no filter
+abbrev pub BatchFails : {S : Type 0} → (S → Option Held) → (S → ℕ) → (S → Option (List ℕ)) → S → S → List ℕ → Status → Type 0
+BatchFails held read_faults failed_name old new name (statuses.NotBuilt file place) = (file ≡ name) × HasPlan (held old) name (NotBuilt place)
+BatchFails held read_faults failed_name old new name status = LoadFails held read_faults failed_name old new name status
+
+-- why a capture gave no packets
+abbrev pub CaptureFails : {S : Type 0} → (S → Option Held) → (S → ℕ) → (S → Option (List ℕ)) → S → S → List ℕ → Status → Type 0
+CaptureFails held read_faults failed_name old new name (statuses.BadInput file place kind) = (file ≡ name) × HasBreak (held old) name place kind
+CaptureFails held read_faults failed_name old new name status = LoadFails held read_faults failed_name old new name status
+
+-- why a walk's input gave nothing: the batch comes first, and then the capture
+abbrev pub InputFails : {S : Type 0} → (S → Option Held) → (S → ℕ) → (S → Option (List ℕ)) → S → S → Names → Status → Type 0
+InputFails held read_faults failed_name old new names (statuses.ReadFault name) =
+    ((name ≡ names.batch) ⊎ ((name ≡ names.capture) × HasFilter (held old) names.batch)) × ReadFails held read_faults failed_name old new name
+InputFails held read_faults failed_name old new names (statuses.NotBuilt name place) = (name ≡ names.batch) × HasPlan (held old) names.batch (NotBuilt place)
+InputFails held read_faults failed_name old new names (statuses.BadInput name place kind) =
+    (name ≡ names.capture) × HasFilter (held old) names.batch × HasBreak (held old) names.capture place kind
+InputFails held read_faults failed_name old new names statuses.NoMemory = Unit {0}
+InputFails held read_faults failed_name old new names status = ⊥
+
+-- why not all was put and written
+abbrev pub DeliveryFails : {S O : Type 0} → (S → ℕ) → (O → ℕ) → S → S → O → O → Status → Type 0
+DeliveryFails write_faults faults old new sink_old sink_new statuses.WriteFault = WriteFails write_faults faults old new sink_old sink_new
+DeliveryFails write_faults faults old new sink_old sink_new statuses.NoMemory = Unit {0}
+DeliveryFails write_faults faults old new sink_old sink_new status = ⊥

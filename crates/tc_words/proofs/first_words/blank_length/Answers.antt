@@ -1,0 +1,9 @@
+use Rattle.std.proofs.Common.{◌∙◌, ap, length}
+use Rattle.std.specs.Prelude.{not}
+use Rattle.std.specs.Option.{unwrap_or}
+use Rattle.tc_words.specs.Lines.{is_blank}
+use Rattle.tc_words.proofs.FirstWords.{place_or_length}
+use Rattle.tc_words.proofs.first_words.blank_length.Goals as goal
+
+pub returns-clause-value : goal.returns-clause-value
+returns-clause-value c = c.unwrap_or.ensures ∙ ap (λ o. unwrap_or o (length c.args.text.now)) c.other_place.ensures ∙ place_or_length (λ b. not (is_blank b)) c.args.text.now

@@ -1,0 +1,9 @@
+pub mod Agreeing
+pub mod Listed
+pub mod Deciding
+pub mod Leading
+pub mod Tables
+pub mod Grouped
+pub mod KeptHeads
+pub mod Stilled
+pub mod OtherOrder

@@ -1,0 +1,4 @@
+pub mod Told
+pub mod Standings
+pub mod Walking
+pub mod Seen

@@ -1,0 +1,110 @@
+//! Room for what a walk keeps of its visits.
+ghost use Rattle.walk_steps.specs.Told.{execution};
+
+use std::alloc::Global;
+use std::marker::Model;
+use tc_base::{NoMemory, Point};
+
+// The visits of a walk at most (this project's own).
+const VISITS_MAX: usize = 65_536;
+
+/// The points of the visits that a walk has made, in order.
+#[derive(Drop)]
+pub(crate) struct PointRoom {
+    points: Vec<Point>,
+}
+
+impl Model for PointRoom {
+    ghost use Rattle.std.specs.Prelude.{◌≤◌, ℕ, List, length, vec_capacity};
+
+    ghost Value = { List ℕ };
+
+    ghost view = { λ r. r.points.items };
+
+    ghost invariant = { λ r. (65536 ≤ vec_capacity r.points) × (length r.points.items ≤ 65536) };
+}
+
+impl PointRoom {
+    ghost use Rattle.std.specs.Prelude.{◌≡◌, ◌<◌, ◌≤◌, ◌++◌, ◌∷◌, [], length, IfOk};
+
+    pub(crate) fn with_room(alloc: Global) -> Result<PointRoom, NoMemory>
+        ensures { IfOk result (λ r. r ≡ []) }
+    {
+        Ok(PointRoom {
+            points: Vec::with_capacity(alloc, VISITS_MAX)?,
+        })
+    }
+
+    pub(crate) fn clear(&mut self)
+        ensures { self.new ≡ [] }
+    {
+        self.points.clear();
+    }
+
+    pub(crate) fn push(&mut self, point: Point)
+        requires { length self.old < 65536 }
+        ensures { self.new ≡ self.old ++ (point ∷ []) }
+    {
+        match self.points.push(point) {
+            Ok(()) => {}
+            Err(_) => unreachable!(),
+        }
+    }
+
+    pub(crate) fn points(&self) -> &[Point]
+        ensures same { result.now ≡ self.now }
+        ensures few { length self.now ≤ 65536 }
+    {
+        &self.points
+    }
+}
+
+/// The executions of a walk, in order: the serial of the action, and the frame's length before it.
+#[derive(Drop)]
+pub(crate) struct ExecutionRoom {
+    executed: Vec<(u32, u32)>,
+}
+
+impl Model for ExecutionRoom {
+    ghost use Rattle.std.specs.Prelude.{◌≤◌, ℕ, List, length, vec_capacity};
+
+    ghost Value = { List (ℕ × ℕ) };
+
+    ghost view = { λ r. r.executed.items };
+
+    ghost invariant = { λ r. 65536 ≤ vec_capacity r.executed };
+}
+
+impl ExecutionRoom {
+    ghost use Rattle.std.specs.Prelude.{◌≡◌, ◌<◌, ◌≤◌, ◌++◌, ◌∷◌, [], length, IfOk};
+
+    pub(crate) fn with_room(alloc: Global) -> Result<ExecutionRoom, NoMemory>
+        ensures { IfOk result (λ r. r ≡ []) }
+    {
+        Ok(ExecutionRoom {
+            executed: Vec::with_capacity(alloc, VISITS_MAX)?,
+        })
+    }
+
+    pub(crate) fn clear(&mut self)
+        ensures { self.new ≡ [] }
+    {
+        self.executed.clear();
+    }
+
+    pub(crate) fn push(&mut self, serial: u32, frame_length: u32)
+        requires { length self.old < 65536 }
+        ensures { self.new ≡ self.old ++ ((serial, frame_length) ∷ []) }
+    {
+        match self.executed.push((serial, frame_length)) {
+            Ok(()) => {}
+            Err(_) => unreachable!(),
+        }
+    }
+
+    pub(crate) fn executed(&self) -> &[(u32, u32)]
+        ensures { result.now ≡ self.now }
+    {
+        &self.executed
+    }
+}
