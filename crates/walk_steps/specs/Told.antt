@@ -1,5 +1,5 @@
 -- What a walk is told, without the slots.
-use Rattle.std.specs.Prelude.{ℕ, Bool, true, false, List, map}
+use Rattle.std.specs.Prelude.{ℕ, ◌≤◌, Bool, true, false, List, length, map}
 use Rattle.filter_state.specs.Sound.{Each}
 use Rattle.visit_room.specs.declared.names.MaskName.{MaskName}
 use Rattle.visit_room.specs.declared.names.ActionName.{ActionName}
@@ -31,3 +31,7 @@ MasksKnown known heads = Each (λ (head : TableHead). Each (known head.serial) h
 -- a pair as an execution
 abbrev pub execution : ℕ × ℕ → Execution
 execution pair = record { serial = pair.0; length = pair.1 }
+
+-- what one walk can run: 65,536 actions, each on a frame of 262,144 bytes at most
+abbrev pub IsShortRun : List (ℕ × ℕ) → Type 0
+IsShortRun executed = (length executed ≤ 65536) × Each (λ (run : ℕ × ℕ). run.1 ≤ 262144) executed

@@ -67,16 +67,18 @@ pub(crate) struct ExecutionRoom {
 
 impl Model for ExecutionRoom {
     ghost use Rattle.std.specs.Prelude.{◌≤◌, ℕ, List, length, vec_capacity};
+    ghost use Rattle.walk_steps.specs.Told.{IsShortRun};
 
     ghost Value = { List (ℕ × ℕ) };
 
     ghost view = { λ r. r.executed.items };
 
-    ghost invariant = { λ r. 65536 ≤ vec_capacity r.executed };
+    ghost invariant = { λ r. (65536 ≤ vec_capacity r.executed) × IsShortRun r.executed.items };
 }
 
 impl ExecutionRoom {
     ghost use Rattle.std.specs.Prelude.{◌≡◌, ◌<◌, ◌≤◌, ◌++◌, ◌∷◌, [], length, IfOk};
+    ghost use Rattle.walk_steps.specs.Told.{IsShortRun};
 
     pub(crate) fn with_room(alloc: Global) -> Result<ExecutionRoom, NoMemory>
         ensures { IfOk result (λ r. r ≡ []) }
@@ -93,7 +95,8 @@ impl ExecutionRoom {
     }
 
     pub(crate) fn push(&mut self, serial: u32, frame_length: u32)
-        requires { length self.old < 65536 }
+        requires room { length self.old < 65536 }
+        requires short { frame_length ≤ 262144 }
         ensures { self.new ≡ self.old ++ ((serial, frame_length) ∷ []) }
     {
         match self.executed.push((serial, frame_length)) {
@@ -103,7 +106,8 @@ impl ExecutionRoom {
     }
 
     pub(crate) fn executed(&self) -> &[(u32, u32)]
-        ensures { result.now ≡ self.now }
+        ensures same { result.now ≡ self.now }
+        ensures short { IsShortRun result.now }
     {
         &self.executed
     }

@@ -50,7 +50,7 @@ impl Model for Walk {
 impl Walk {
     ghost use Rattle.std.specs.Prelude.{◌≡◌, ◌≤◌, length, map, IfSome};
     ghost use Rattle.walk_rules.specs.Walks.{outcome_of};
-    ghost use Rattle.walk_steps.specs.Told.{execution};
+    ghost use Rattle.walk_steps.specs.Told.{execution, IsShortRun};
     ghost use Rattle.walk_steps.specs.Walking.{IsOnWay, KnowsTold, IsBegun, WasVisited, progress_of};
 
     /// Takes the room for walks: a frame, the tables of a hook, and what 65,536 visits leave. No other call takes memory.
@@ -127,9 +127,10 @@ impl Walk {
         self.course.points.points()
     }
 
-    /// The serial of each action that ran, with the frame's length before it, in order.
+    /// The serial of each action that ran, with the frame's length before it, in order: 65,536 at most, of frames of 262,144 bytes at most.
     pub fn executed(&self) -> &[(u32, u32)]
-        ensures { map execution result.now ≡ self.now.standing.executed }
+        ensures same { map execution result.now ≡ self.now.standing.executed }
+        ensures short { IsShortRun result.now }
     {
         self.course.executed.executed()
     }

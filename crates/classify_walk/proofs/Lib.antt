@@ -1,0 +1,12 @@
+pub mod HeadRows
+pub mod Telling
+pub mod Limits
+pub mod StandingMasks
+pub mod StillHeads
+pub mod Searching
+pub mod MaskRows
+pub mod MetFilters
+pub mod EvenKeys
+pub mod StandingFilters
+pub mod Serials
+pub mod StillWalks
