@@ -4,4 +4,8 @@ pub mod CommandLines
 pub mod Reaching
 pub mod LentLines
 pub mod Limits
+pub mod Logging
+pub mod NewSerials
+pub mod Numbered
+pub mod Serials
 pub mod Answered

@@ -1,3 +1,4 @@
 pub mod Commands
+pub mod Made
 pub mod Runs
 pub mod Applied

@@ -8,6 +8,7 @@ ghost use Rattle.batch_run.specs.Commands.{commands_in};
 ghost use Rattle.batch_run.specs.Runs.{Ran, IsRun};
 ghost use Rattle.batch_run.specs.Applied.{IsApplied};
 
+use crate::made_action::{MadeAction, log_made};
 use crate::stop::Stop;
 use filter_lists::Lists;
 use filter_state::Refusal;
@@ -21,6 +22,8 @@ pub struct BatchRun {
     pub lists: Lists,
     /// How many edits were accepted.
     pub accepted: u32,
+    /// All actions that were made, by serial, with those that are gone.
+    pub made: Vec<MadeAction>,
     /// The first line that was refused, with which the batch stopped.
     pub stop: Option<Stop>,
 }
@@ -31,32 +34,37 @@ pub struct BatchRun {
 /// `NoMemory`: memory was refused. Nothing is told of the lists then.
 pub fn run_batch(alloc: Global, texts: &[&[u8]]) -> Result<BatchRun, NoMemory>
     requires { length (commands_in texts.now) ≤ 262144 }
-    ensures { IfOk result (λ run. (ran : Ran) × Spells run.lists ran.state × (run.accepted ≡ ran.accepted) × (run.stop ≡ ran.stop)
+    ensures { IfOk result (λ run. (ran : Ran) × Spells run.lists ran.state × (run.accepted ≡ ran.accepted) × (run.made.items ≡ ran.made) × (run.stop ≡ ran.stop)
         × IsRun no_state 0 (commands_in texts.now) ran) }
 {
     let mut lists = Lists::new(alloc);
     let mut accepted = 0;
+    let mut made = Vec::new(alloc);
     let mut number = 0;
     for text in texts {
         number += 1;
         if !is_command(text) {
             continue;
         }
+        let before = lists.actions().made();
         match apply(alloc, &mut lists, text, number) {
             Ok(None) => accepted += 1,
             Ok(Some(stop)) => {
                 return Ok(BatchRun {
                     lists,
                     accepted,
+                    made,
                     stop: Some(stop),
                 });
             }
             Err(NoMemory) => return Err(NoMemory),
         }
+        log_made(&mut made, lists.actions().entries(), before)?;
     }
     Ok(BatchRun {
         lists,
         accepted,
+        made,
         stop: None,
     })
 }

@@ -5,6 +5,6 @@ use Rattle.batch_run.proofs.run.run_batch.Given as goal
 
 abbrev pub invariant-loop-text : goal.invariant-loop-text
 invariant-loop-text l = record {
-  reached : ReachedAt l.lists l.accepted l.text-index l.texts (commands_in l.texts);
+  reached : ReachedAt l.lists (record { accepted = l.accepted; made = l.made.items }) l.text-index l.texts (commands_in l.texts);
   numbered : l.number ≡ l.text-index;
 }
