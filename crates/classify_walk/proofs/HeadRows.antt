@@ -15,7 +15,7 @@ use Rattle.walk_rules.specs.Heads.{with_row, heads_in}
 use Rattle.classify_walk.specs.Heads.{serials_of, head_of}
 
 -- ---- numbers
-one_number : (n : ℕ) → (n == n) ≡ true
+pub one_number : (n : ℕ) → (n == n) ≡ true
 one_number n = grind (arith, nat_tests)
 
 two_numbers : (m n : ℕ) → (m ≡ n → ⊥) → (m == n) ≡ false

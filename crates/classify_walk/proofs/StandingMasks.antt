@@ -19,6 +19,7 @@ use Rattle.visit_room.specs.declared.table_head.TableHead.{TableHead}
 use Rattle.walk_rules.specs.Questions.{Head}
 use Rattle.walk_steps.specs.Told.{mask_serials, heads_told, MasksKnown}
 use Rattle.rows_asked.proofs.Found.{whole_on}
+use Rattle.classify_walk.proofs.HeadRows.{one_number}
 use Rattle.classify_walk.specs.Heads.{serials_of, head_of}
 use Rattle.classify_walk.specs.Answered.{StandsMask}
 
@@ -39,12 +40,9 @@ any_back test (x ∷ xs) ys is = at (test x) (any_back test xs ys is)
     at true is = refl
     at false is = is
 
-own_number : (n : ℕ) → (n == n) ≡ true
-own_number n = grind (arith, nat_tests)
-
 any_of_mask : (hook : Hook) (t : PlainTable) (m : PlainMask) (filters : List Filter) → HasSome filters → list_any (of_mask m.serial) (map (row_of hook t m) filters) ≡ true
 any_of_mask hook t m [] some = absurd some
-any_of_mask hook t m (f ∷ filters) some = ap (λ b. b || list_any (of_mask m.serial) (map (row_of hook t m) filters)) (own_number m.serial)
+any_of_mask hook t m (f ∷ filters) some = ap (λ b. b || list_any (of_mask m.serial) (map (row_of hook t m) filters)) (one_number m.serial)
 
 -- ---- each mask of each table
 masks_stand : (P : ℕ → Type 0) (hook : Hook) (t : PlainTable) (masks : List PlainMask) → Each (λ (m : PlainMask). HasSome m.filters) masks →

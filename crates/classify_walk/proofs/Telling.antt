@@ -1,7 +1,7 @@
 -- Heads that are told one after the other, each with its masks.
-use Rattle.std.proofs.Common.{◌≡◌, ◌∙◌, ℕ, zero, suc, ◌+◌, ◌<◌, ◌≤◌, List, [], ◌∷◌, ◌++◌, length, take, append_assoc, append-nil, Option, Some, None, option_map, refl, sym, ap, arith}
+use Rattle.std.proofs.Common.{◌≡◌, ◌∙◌, ℕ, ◌+◌, ◌<◌, ◌≤◌, List, [], ◌∷◌, ◌++◌, length, take, append_assoc, append-nil, Option, Some, None, option_map, refl, sym, ap, arith}
 use Rattle.std.specs.Prelude.{map}
-use Rattle.std.proofs.lemmas.List.{length-map}
+use Rattle.std.proofs.lemmas.List.{length-map, length_push, length-take-le}
 use Rattle.std.proofs.lemmas.Option.{none-some, same_Some}
 use Rattle.tc_base.specs.declared.hook.Proto.{Proto}
 use Rattle.visit_room.specs.declared.names.MaskName.{MaskName}
@@ -73,17 +73,13 @@ mask_told masks at mask slot start old new taken is so_far =
     all_more [] = refl
     all_more (m ∷ front) = ap (λ ns. m.serial ∷ ns) (all_more front)
 
-length_more : {X : Type 0} (xs : List X) (x : X) → length (xs ++ (x ∷ [])) ≡ length xs + 1
-length_more [] x = refl
-length_more (y ∷ xs) x = let more = length_more xs x in omega (arith, more)
-
 pub count_more : (mask : MaskName) (at : ℕ) (old new : List TableHead) → new ≡ with_mask_behind mask old → option_map length (last_masks old) ≡ Some at →
     option_map length (last_masks new) ≡ Some (at + 1)
 count_more mask at old new is so_far = ap (λ hs. option_map length (last_masks hs)) is ∙ ap (option_map length) (last_more mask old) ∙ counted (last_masks old) so_far
   where
     counted : (masks : Option (List MaskName)) → option_map length masks ≡ Some at → option_map length (option_map (λ ms. ms ++ (mask ∷ [])) masks) ≡ Some (at + 1)
     counted None e = absurd (none-some at e)
-    counted (Some ms) e = ap Some (length_more ms mask ∙ ap (λ n. n + 1) (same_Some (length ms) at e))
+    counted (Some ms) e = ap Some (length_push ms mask ∙ ap (λ n. n + 1) (same_Some (length ms) at e))
 
 pub below : (at : ℕ) (masks : Option (List MaskName)) → option_map length masks ≡ Some at → at < 16 → IsBelow 16 masks
 below at None e less = absurd (none-some at e)
@@ -104,11 +100,6 @@ table_told tables at t old bare new taken is_bare is_new so_far =
     all_more [] = refl
     all_more (u ∷ front) = ap (λ hs. head_of (plain_table u) ∷ hs) (all_more front)
 
-taken_count : {X : Type 0} (xs : List X) (n : ℕ) → n ≤ length xs → length (take n xs) ≡ n
-taken_count xs zero le = refl
-taken_count [] (suc n) le = absurd (omega arith)
-taken_count (x ∷ xs) (suc n) le = ap suc (taken_count xs n (omega arith))
-
 pub told_count : (tables : List FilterTable) (at : ℕ) (heads : List TableHead) → at ≤ length tables → heads_told heads ≡ map head_of (map plain_table (take at tables)) → length heads ≡ at
 told_count tables at heads le told =
-    sym (length-map heads head_told) ∙ ap length told ∙ length-map (map plain_table (take at tables)) head_of ∙ length-map (take at tables) plain_table ∙ taken_count tables at le
+    sym (length-map heads head_told) ∙ ap length told ∙ length-map (map plain_table (take at tables)) head_of ∙ length-map (take at tables) plain_table ∙ length-take-le at tables le
