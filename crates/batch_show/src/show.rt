@@ -38,8 +38,8 @@ pub fn show_batch(alloc: Global, texts: &[&[u8]]) -> Result<Shown, NoMemory>
     })
 }
 
-// Puts the line that tells where a batch stopped and why, if it did.
-fn push_stop(out: &mut Vec<u8>, accepted: u32, stop: &Option<Stop>) -> Result<(), NoMemory>
+/// Puts the line that tells where a batch stopped and why, if it did.
+pub fn push_stop(out: &mut Vec<u8>, accepted: u32, stop: &Option<Stop>) -> Result<(), NoMemory>
     ensures { OnOk result (out.new.items ≡ out.old.items ++ stop_shown accepted stop.now) }
 {
     match stop {

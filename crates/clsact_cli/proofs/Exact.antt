@@ -1,23 +1,19 @@
 -- No answer but the one that is due comes, unless a call outside failed or memory ran out.
-use Rattle.std.proofs.Common.{◌≡◌, ◌⊎◌, inl, inr, ℕ, Bool, true, false, List, Option, Some, None, refl, sym, ap, subst}
+use Rattle.std.proofs.Common.{◌≡◌, ◌⊎◌, inl, inr, ℕ, Bool, true, false, List, Option, Some, None, refl, sym, subst}
 use Rattle.std.specs.Prelude.{IsSome, IsSomeAnd, IfSome, is_some}
 use Rattle.tc_base.specs.Outside.{Held, Rose}
-use Rattle.tc_base.specs.declared.hook.Hook.TheVariants.{Ingress, Egress}
 use Rattle.filter_state.specs.States.{no_state}
 use Rattle.batch_run.specs.Commands.{commands_of}
 use Rattle.batch_run.specs.Runs.{Ran}
 use Rattle.batch_run.proofs.Outcomes.{some_ran}
-use Rattle.clsact_cli.specs.declared.batch.Plan.{Plan}
-use Rattle.clsact_cli.specs.declared.batch.Plan.TheVariants as plans
 use Rattle.clsact_cli.specs.declared.status.Status.{Status}
 use Rattle.clsact_cli.specs.declared.status.Status.TheVariants as statuses
-use Rattle.clsact_cli.specs.Batch.{plan_of}
 use Rattle.clsact_cli.specs.Command.{Request, Walk, Show, Run, Recheck, Gen}
 use Rattle.clsact_cli.specs.Ends.{status_after, IsAllDone}
-use Rattle.clsact_cli.specs.Holdings.{Holds, HasRun}
-use Rattle.clsact_cli.specs.Work.{IsRead}
+use Rattle.clsact_cli.specs.Holdings.{Holds, HasBatch, HasRun}
+use Rattle.clsact_cli.specs.Work.{Ends, IsRead}
 use Rattle.clsact_cli.specs.Causes.{ReadFails, DueTo, DueIn, CausedTo, FailedOutside, IsNotBuilt}
-use Rattle.clsact_cli.specs.Ready.{ShowReady, WalkReady, IsReady}
+use Rattle.clsact_cli.specs.Ready.{IsReady}
 use Rattle.clsact_cli.proofs.Due.{one_due, stands}
 
 -- ---- at most one answer is due, wherever the shelf tells what it holds
@@ -72,34 +68,30 @@ exact held read_faults failed_name write_faults faults old new a b (Some asked) 
 abbrev Owes : Option Held → Request → Type 0
 Owes told r = (status : Status) × DueTo told r status × (IsAllDone status ⊎ IsNotBuilt status)
 
-show_owes : (told : Option Held) (b : List ℕ) (ran : Ran) (refused : Bool) → HasRun told b ran → refused ≡ is_some ran.stop → Owes told (Show b)
-show_owes told b ran false has is = (statuses.Done, (ran, has, ap status_after is), inl tt)
-show_owes told b ran true has is = (statuses.LinesRefused 1, (ran, has, ap status_after is), inl tt)
+batch_owes : (told : Option Held) (r : Request) (refused : Bool) → Ends told r (status_after refused) → Owes told r
+batch_owes told r false ends = (statuses.Done, ends, inl tt)
+batch_owes told r true ends = (statuses.LinesRefused 1, ends, inl tt)
 
-shown_owes : (told : Option Held) (b : List ℕ) → ShowReady told b → Owes told (Show b)
-shown_owes told b ready =
-    let ran = some_ran no_state 0 (commands_of ready.bytes) in
-    show_owes told b ran.0 (is_some ran.0.stop) (record { bytes = ready.bytes; batch = ready.batch; runs = ran.1 }) refl
-
-walk_owes : (told : Option Held) (b c o : List ℕ) → (ready : WalkReady told b c) → Holds told b ready.bytes → (plan : Plan) → plan_of ready.bytes ≡ plan → Owes told (Walk Ingress b c o)
-walk_owes told b c o ready held (plans.Built f) says =
-    (statuses.Done, ((f, record { bytes = ready.bytes; held = held; says = says }), (ready.packets, ready.capture_stands), refl), inl tt)
-walk_owes told b c o ready held (plans.NotBuilt place) says =
-    (statuses.NotBuilt b place, (refl, record { bytes = ready.bytes; held = held; says = says }), inr tt)
+-- a batch that stands has a run
+ran : (told : Option Held) (b bytes : List ℕ) → HasBatch told b bytes → (ran : Ran) × HasRun told b ran
+ran told b bytes batch =
+    let some = some_ran no_state 0 (commands_of bytes) in
+    (some.0, record { bytes = bytes; batch = batch; runs = some.1 })
 
 owes : (told : Option Held) (r : Request) → IsReady told r → Owes told r
-owes told (Show b) ready = shown_owes told b ready
-owes told (Walk Ingress b c o) ready =
-    walk_owes told b c o ready (subst (λ (o : Option Held). Holds o b ready.bytes) (sym ready.tells) ready.batch_stands) (plan_of ready.bytes) refl
-owes told (Walk Egress b c o) ready = absurd ready
+owes told (Show b) ready =
+    let has = ran told b ready.bytes ready.batch in
+    batch_owes told (Show b) (is_some has.0.stop) (has.0, has.1, refl)
+owes told (Walk hook b c o) ready =
+    let has = ran told b ready.bytes ready.batch_stands in
+    batch_owes told (Walk hook b c o) (is_some has.0.stop) ((has.0, has.1, refl), (ready.packets, ready.capture_stands))
 owes told (Run j) ready = absurd ready
 owes told (Recheck j p) ready = absurd ready
 owes told (Gen n p) ready = absurd ready
 
 tells : (told : Option Held) (r : Request) → IsReady told r → IsSome told
 tells told (Show b) ready = subst (λ (o : Option Held). IsSome o) (sym ready.tells) refl
-tells told (Walk Ingress b c o) ready = subst (λ (o : Option Held). IsSome o) (sym ready.tells) refl
-tells told (Walk Egress b c o) ready = absurd ready
+tells told (Walk hook b c o) ready = subst (λ (o : Option Held). IsSome o) (sym ready.tells) refl
 tells told (Run j) ready = absurd ready
 tells told (Recheck j p) ready = absurd ready
 tells told (Gen n p) ready = absurd ready

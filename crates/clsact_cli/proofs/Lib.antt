@@ -1,8 +1,5 @@
-pub mod Lines
-pub mod Walks
-pub mod Plans
-pub mod Readings
 pub mod Due
 pub mod Exact
+pub mod Lines
+pub mod Readings
 pub mod Writing
-pub mod Matches

@@ -9,13 +9,10 @@ use Rattle.filter_state.specs.States.{no_state}
 use Rattle.batch_run.specs.Commands.{Command, commands_of, line_past}
 use Rattle.batch_run.specs.Runs.{Ran, IsRun}
 use Rattle.batch_run.proofs.Outcomes.{one_ran}
-use Rattle.clsact_cli.specs.declared.batch.Plan.{Plan}
-use Rattle.clsact_cli.specs.declared.batch.Plan.TheVariants as plans
 use Rattle.clsact_cli.specs.declared.status.Break.{Break}
 use Rattle.clsact_cli.specs.declared.status.InputKind.{InputKind}
-use Rattle.clsact_cli.specs.Batch.{plan_of}
 use Rattle.clsact_cli.specs.Broken.{break_of, IsBroken, most_packets}
-use Rattle.clsact_cli.specs.Holdings.{Holds, HasRun, HasTooManyLines, HasPlan, HasFilter, HasCapture, HasBreak, most_commands}
+use Rattle.clsact_cli.specs.Holdings.{Holds, HasBatch, HasRun, HasTooManyLines, HasCapture, HasBreak, most_commands}
 
 some_is : {A : Type 0} (x y : A) → Some x ≡ Some y → x ≡ y
 some_is x y e = cc
@@ -23,7 +20,7 @@ some_is x y e = cc
 pub same_bytes : (held : Held) (name x y : List ℕ) → Holds (Some held) name x → Holds (Some held) name y → x ≡ y
 same_bytes held name x y h k = some_is x y (sym h ∙ k)
 
--- ---- a batch that is shown
+-- ---- a batch
 pub same_run : (held : Held) (name : List ℕ) (a b : Ran) → HasRun (Some held) name a → HasRun (Some held) name b → a ≡ b
 same_run held name a b h k =
     let e = same_bytes held name h.bytes k.bytes h.batch.held k.batch.held in
@@ -46,20 +43,10 @@ few_not_past many (command ∷ commands) line few past =
     let e = else_is (many == 0) (Some command.line) (line_past (many - 1) commands) some in
     few_not_past (many - 1) commands line (omega arith) (sym e ∙ past)
 
-pub not_past : (held : Held) (name : List ℕ) (ran : Ran) (line : ℕ) → HasRun (Some held) name ran → HasTooManyLines (Some held) name line → ⊥
-not_past held name ran line h k =
-    let e = same_bytes held name k.bytes h.bytes k.held h.batch.held in
-    few_not_past most_commands (commands_of h.bytes) line h.batch.few (subst (λ (x : List ℕ). line_past most_commands (commands_of x) ≡ Some line) e k.past)
-
--- ---- a batch that is walked
-same_plan : (held : Held) (name : List ℕ) (p q : Plan) → HasPlan (Some held) name p → HasPlan (Some held) name q → p ≡ q
-same_plan held name p q h k = sym h.says ∙ ap plan_of (same_bytes held name h.bytes k.bytes h.held k.held) ∙ k.says
-
-pub not_both : (held : Held) (name : List ℕ) (place : ℕ) → HasFilter (Some held) name → HasPlan (Some held) name (plans.NotBuilt place) → ⊥
-not_both held name place h k = let e = same_plan held name (plans.Built h.0) (plans.NotBuilt place) h.1 k in cc
-
-pub same_place : (held : Held) (name : List ℕ) (p q : ℕ) → HasPlan (Some held) name (plans.NotBuilt p) → HasPlan (Some held) name (plans.NotBuilt q) → p ≡ q
-same_place held name p q h k = let e = same_plan held name (plans.NotBuilt p) (plans.NotBuilt q) h k in cc
+pub not_past : (held : Held) (name bytes : List ℕ) (line : ℕ) → HasBatch (Some held) name bytes → HasTooManyLines (Some held) name line → ⊥
+not_past held name bytes line h k =
+    let e = same_bytes held name k.bytes bytes k.held h.held in
+    few_not_past most_commands (commands_of bytes) line h.few (subst (λ (x : List ℕ). line_past most_commands (commands_of x) ≡ Some line) e k.past)
 
 -- ---- a capture: one within the limit has no break
 whole_not_broken : (bytes : List ℕ) (c : Capture) (at : ℕ) (what : InputKind) → IsCapture bytes c → length c.packets ≤ most_packets → IsBroken bytes at what → ⊥

@@ -2,15 +2,19 @@
 use Rattle.std.proofs.Common.{◌≡◌, ℕ, ◌≤◌, List, length, Option, refl}
 use Rattle.std.specs.Prelude.{is_some}
 use Rattle.tc_base.specs.Outside.{Held}
+use Rattle.tc_base.specs.declared.hook.Hook.{Hook}
 use Rattle.tc_base.specs.declared.outside.Put.{Put}
 use Rattle.tc_base.specs.declared.outside.Put.TheVariants as puts
 use Rattle.filter_state.specs.States.{no_state}
 use Rattle.batch_run.specs.Commands.{commands_of}
 use Rattle.batch_run.specs.Runs.{Ran, IsRun}
 use Rattle.clsact_cli.specs.declared.status.Status.{Status}
+use Rattle.clsact_cli.specs.declared.status.Status.TheVariants as statuses
 use Rattle.clsact_cli.specs.Command.{Request, Show}
 use Rattle.clsact_cli.specs.Ends.{status_of, status_after}
-use Rattle.clsact_cli.specs.Holdings.{Holds, most_commands}
+use Rattle.clsact_cli.specs.Holdings.{Holds, Gives, most_commands}
+use Rattle.clsact_cli.specs.Parts.{DeliveryFails}
+use Rattle.clsact_cli.specs.Requests.{Names, walk_of}
 use Rattle.clsact_cli.specs.Work.{Ends}
 use Rattle.clsact_cli.specs.Causes.{WriteFails, CausedTo}
 
@@ -25,3 +29,21 @@ pub show_ends : (told : Option Held) (name bytes : List ℕ) (ran : Ran) → Hol
     → (status : Status) × Ends told (Show name) status
 show_ends told name bytes ran held few runs =
     (status_after (is_some ran.stop), (ran, record { bytes = bytes; batch = record { held = held; few = few }; runs = runs }, refl))
+
+-- what gives an output and a text lets a `walk` end
+pub walk_ends : (told : Option Held) (hook : Hook) (names : Names) (output text : List ℕ) (status : Status) → Gives told hook names output text status → (ended : Status) × Ends told (walk_of hook names) ended
+walk_ends told hook names output text status gives = (status, ((gives.ran, gives.batch, gives.status_is), (gives.capture, gives.packets)))
+
+-- what wasn't put or written of a run that may end has its cause
+pub delivery_caused : {S O : Type 0} (held : S → Option Held) (read_faults : S → ℕ) (failed_name : S → Option (List ℕ)) (write_faults : S → ℕ) (faults : O → ℕ) (old between new : S) (sink_old sink_new : O) (r : Request) (status : Status)
+    → (ended : Status) × Ends (held old) r ended → write_faults between ≡ write_faults old → DeliveryFails write_faults faults between new sink_old sink_new status
+    → CausedTo held read_faults failed_name write_faults faults old new sink_old sink_new r status
+delivery_caused held read_faults failed_name write_faults faults old between new a b r statuses.WriteFault ends same fails = (ends, rw same at fails)
+delivery_caused held read_faults failed_name write_faults faults old between new a b r statuses.NoMemory ends same fails = tt
+delivery_caused held read_faults failed_name write_faults faults old between new a b r statuses.Done ends same fails = absurd fails
+delivery_caused held read_faults failed_name write_faults faults old between new a b r (statuses.LinesRefused n) ends same fails = absurd fails
+delivery_caused held read_faults failed_name write_faults faults old between new a b r statuses.Usage ends same fails = absurd fails
+delivery_caused held read_faults failed_name write_faults faults old between new a b r (statuses.BadInput n p k) ends same fails = absurd fails
+delivery_caused held read_faults failed_name write_faults faults old between new a b r (statuses.ReadFault n) ends same fails = absurd fails
+delivery_caused held read_faults failed_name write_faults faults old between new a b r (statuses.NotLawful n) ends same fails = absurd fails
+delivery_caused held read_faults failed_name write_faults faults old between new a b r (statuses.NotBuilt n p) ends same fails = absurd fails

@@ -56,7 +56,7 @@ FailedOutside read_faults write_faults faults old new sink_old sink_new statuses
 FailedOutside read_faults write_faults faults old new sink_old sink_new statuses.NoMemory = Unit {0}
 FailedOutside read_faults write_faults faults old new sink_old sink_new status = ⊥
 
--- a command, or what a walk's batch says, isn't built
+-- a command isn't built
 abbrev pub IsNotBuilt : Status → Type 0
 IsNotBuilt (statuses.NotBuilt name place) = Unit {0}
 IsNotBuilt status = ⊥

@@ -1,7 +1,7 @@
 -- What a run put and wrote.
 use Rattle.std.specs.Prelude.{◌≡◌, ◌⊎◌, ℕ, List, Option, Some, None, is_some}
 use Rattle.tc_base.specs.Outside.{Held, Appended, AppendsUpTo, OthersStay, Stands}
-use Rattle.tc_base.specs.declared.hook.Hook.TheVariants.{Ingress}
+use Rattle.tc_base.specs.declared.hook.Hook.{Hook}
 use Rattle.batch_run.specs.Runs.{Ran}
 use Rattle.batch_show.specs.Shown.{shown}
 use Rattle.clsact_cli.specs.declared.status.Status.{Status}
@@ -20,18 +20,18 @@ pub record Showed (held_old held_new : Option Held) (written_old written_new : O
   pub wrote : Appended written_old written_new (shown ran)
 
 -- the output was put and the text written, as what is held gives them
-pub record Walked (held_old held_new : Option Held) (written_old written_new : Option (List ℕ)) (names : Names) : Type 0 where
+pub record Walked (held_old held_new : Option Held) (written_old written_new : Option (List ℕ)) (hook : Hook) (names : Names) (status : Status) : Type 0 where
   pub output : List ℕ
   pub text : List ℕ
-  pub gives : Gives held_old names output text
+  pub gives : Gives held_old hook names output text status
   pub put : Stands held_new names.output output
   pub wrote : Appended written_old written_new text
 
 -- ALL WAS PUT AND WRITTEN that the held files give
 abbrev pub DeliveredTo : Option Held → Option Held → Option (List ℕ) → Option (List ℕ) → Request → Status → Type 0
 DeliveredTo held_old held_new written_old written_new (Show b) status = Showed held_old held_new written_old written_new b status
-DeliveredTo held_old held_new written_old written_new (Walk Ingress b c o) status =
-    (status ≡ statuses.Done) × Walked held_old held_new written_old written_new (record { batch = b; capture = c; output = o })
+DeliveredTo held_old held_new written_old written_new (Walk hook b c o) status =
+    Walked held_old held_new written_old written_new hook (record { batch = b; capture = c; output = o }) status
 DeliveredTo held_old held_new written_old written_new request status = ⊥
 
 abbrev pub DeliveredIn : Option Held → Option Held → Option (List ℕ) → Option (List ℕ) → Option Request → Status → Type 0
@@ -56,24 +56,25 @@ pub record ShowedFront (held_old : Option Held) (written_old written_new : Optio
   pub wrote : AppendsUpTo written_old written_new (shown ran)
 
 -- a front of a walk's text was written, and then the whole output was put before
-pub record WroteFront (held_old held_new : Option Held) (written_old written_new : Option (List ℕ)) (names : Names) : Type 0 where
+pub record WroteFront (held_old held_new : Option Held) (written_old written_new : Option (List ℕ)) (hook : Hook) (names : Names) : Type 0 where
   pub output : List ℕ
   pub text : List ℕ
-  pub gives : Gives held_old names output text
+  pub status : Status
+  pub gives : Gives held_old hook names output text status
   pub put : Stands held_new names.output output
   pub wrote : AppendsUpTo written_old written_new text
 
 -- how far a walk came, however it ended: only the output's name may hold something else, and nothing is written before the output stands whole
-pub record WalkedSoFar (held_old held_new : Option Held) (written_old written_new : Option (List ℕ)) (names : Names) : Type 0 where
+pub record WalkedSoFar (held_old held_new : Option Held) (written_old written_new : Option (List ℕ)) (hook : Hook) (names : Names) : Type 0 where
   pub others : OthersStay held_old held_new names.output
-  pub front : (written_new ≡ written_old) ⊎ WroteFront held_old held_new written_old written_new names
+  pub front : (written_new ≡ written_old) ⊎ WroteFront held_old held_new written_old written_new hook names
 
 -- HOW FAR A RUN CAME, however it ended
 abbrev pub CameSoFar : Option Held → Option Held → Option (List ℕ) → Option (List ℕ) → Request → Type 0
 CameSoFar held_old held_new written_old written_new (Show b) =
     (held_new ≡ held_old) × ((written_new ≡ written_old) ⊎ ShowedFront held_old written_old written_new b)
-CameSoFar held_old held_new written_old written_new (Walk Ingress b c o) =
-    WalkedSoFar held_old held_new written_old written_new (record { batch = b; capture = c; output = o })
+CameSoFar held_old held_new written_old written_new (Walk hook b c o) =
+    WalkedSoFar held_old held_new written_old written_new hook (record { batch = b; capture = c; output = o })
 CameSoFar held_old held_new written_old written_new request = LeavesAll held_old held_new written_old written_new
 
 -- the same for any words

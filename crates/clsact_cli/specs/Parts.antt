@@ -5,9 +5,9 @@ use Rattle.batch_run.specs.Commands.{Command, line_past}
 use Rattle.clsact_cli.specs.declared.status.InputKind.TheVariants as kinds
 use Rattle.clsact_cli.specs.declared.status.Status.{Status}
 use Rattle.clsact_cli.specs.declared.status.Status.TheVariants as statuses
-use Rattle.clsact_cli.specs.declared.batch.Plan.TheVariants.{NotBuilt}
 use Rattle.clsact_cli.specs.Requests.{Names}
-use Rattle.clsact_cli.specs.Holdings.{HasPlan, HasFilter, HasBreak, most_commands}
+use Rattle.clsact_cli.specs.Holdings.{HasCommands, HasBreak, most_commands}
+use Rattle.clsact_cli.specs.Work.{BatchBreaks}
 use Rattle.clsact_cli.specs.Causes.{ReadFails, WriteFails}
 
 -- why one file was not loaded
@@ -16,17 +16,12 @@ LoadFails held read_faults failed_name old new name (statuses.ReadFault failed) 
 LoadFails held read_faults failed_name old new name statuses.NoMemory = Unit {0}
 LoadFails held read_faults failed_name old new name status = ⊥
 
--- why a batch of these commands wasn't shown: they pass the limit at a line
-abbrev pub ShowingFails : List ℕ → List Command → Status → Type 0
-ShowingFails name commands (statuses.BadInput file place kind) =
+-- why a batch of these commands wasn't applied: they pass the limit at a line
+abbrev pub ApplyingFails : List ℕ → List Command → Status → Type 0
+ApplyingFails name commands (statuses.BadInput file place kind) =
     (file ≡ name) × (line_past most_commands commands ≡ Some place) × (kind ≡ kinds.TooManyLines)
-ShowingFails name commands statuses.NoMemory = Unit {0}
-ShowingFails name commands status = ⊥
-
--- why a batch gave no filter
-abbrev pub BatchFails : {S : Type 0} → (S → Option Held) → (S → ℕ) → (S → Option (List ℕ)) → S → S → List ℕ → Status → Type 0
-BatchFails held read_faults failed_name old new name (statuses.NotBuilt file place) = (file ≡ name) × HasPlan (held old) name (NotBuilt place)
-BatchFails held read_faults failed_name old new name status = LoadFails held read_faults failed_name old new name status
+ApplyingFails name commands statuses.NoMemory = Unit {0}
+ApplyingFails name commands status = ⊥
 
 -- why a capture gave no packets
 abbrev pub CaptureFails : {S : Type 0} → (S → Option Held) → (S → ℕ) → (S → Option (List ℕ)) → S → S → List ℕ → Status → Type 0
@@ -36,10 +31,9 @@ CaptureFails held read_faults failed_name old new name status = LoadFails held r
 -- why a walk's input gave nothing: the batch comes first, and then the capture
 abbrev pub InputFails : {S : Type 0} → (S → Option Held) → (S → ℕ) → (S → Option (List ℕ)) → S → S → Names → Status → Type 0
 InputFails held read_faults failed_name old new names (statuses.ReadFault name) =
-    ((name ≡ names.batch) ⊎ ((name ≡ names.capture) × HasFilter (held old) names.batch)) × ReadFails held read_faults failed_name old new name
-InputFails held read_faults failed_name old new names (statuses.NotBuilt name place) = (name ≡ names.batch) × HasPlan (held old) names.batch (NotBuilt place)
+    ((name ≡ names.batch) ⊎ ((name ≡ names.capture) × HasCommands (held old) names.batch)) × ReadFails held read_faults failed_name old new name
 InputFails held read_faults failed_name old new names (statuses.BadInput name place kind) =
-    (name ≡ names.capture) × HasFilter (held old) names.batch × HasBreak (held old) names.capture place kind
+    BatchBreaks (held old) names.batch name place kind ⊎ ((name ≡ names.capture) × HasCommands (held old) names.batch × HasBreak (held old) names.capture place kind)
 InputFails held read_faults failed_name old new names statuses.NoMemory = Unit {0}
 InputFails held read_faults failed_name old new names status = ⊥
 

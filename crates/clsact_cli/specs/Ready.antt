@@ -1,7 +1,6 @@
 -- The input of a request that is held and well formed, within the limits.
 use Rattle.std.specs.Prelude.{◌≡◌, ℕ, List, Option, Some}
 use Rattle.tc_base.specs.Outside.{Held}
-use Rattle.tc_base.specs.declared.hook.Hook.TheVariants.{Ingress}
 use Rattle.pcap_io.specs.declared.capture.Capture.{Capture}
 use Rattle.clsact_cli.specs.Command.{Request, Walk, Show}
 use Rattle.clsact_cli.specs.Holdings.{HasBatch, HasCapture}
@@ -18,11 +17,11 @@ pub record WalkReady (told : Option Held) (batch capture : List ℕ) : Type 0 wh
   pub held : Held
   pub tells : told ≡ Some held
   pub bytes : List ℕ
-  pub batch_stands : held batch ≡ Some bytes
+  pub batch_stands : HasBatch told batch bytes
   pub packets : Capture
   pub capture_stands : HasCapture told capture packets
 
 abbrev pub IsReady : Option Held → Request → Type 0
 IsReady told (Show b) = ShowReady told b
-IsReady told (Walk Ingress b c o) = WalkReady told b c
+IsReady told (Walk hook b c o) = WalkReady told b c
 IsReady told request = ⊥

@@ -1,6 +1,6 @@
 -- A command, as what it asks for.
 use Rattle.std.specs.Prelude.{ℕ, List}
-use Rattle.tc_base.specs.declared.hook.Hook.TheVariants.{Ingress}
+use Rattle.tc_base.specs.declared.hook.Hook.{Hook}
 use Rattle.clsact_cli.specs.declared.command.Command.{Command}
 use Rattle.clsact_cli.specs.declared.command.Command.TheVariants as commands
 use Rattle.clsact_cli.specs.declared.command.WalkNames.{WalkNames}
@@ -22,6 +22,6 @@ pub record Names : Type 0 where
 abbrev pub names_seen : WalkNames → Names
 names_seen n = record { batch = n.batch.now; capture = n.capture.now; output = n.output.now }
 
--- the walk of these files at the ingress hook
-abbrev pub walk_of : Names → Request
-walk_of names = Walk Ingress names.batch names.capture names.output
+-- the walk of these files at a hook
+abbrev pub walk_of : Hook → Names → Request
+walk_of hook names = Walk hook names.batch names.capture names.output

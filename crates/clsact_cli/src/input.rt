@@ -1,13 +1,10 @@
 ghost use Rattle.std.specs.Prelude.{◌≡◌, ◌⊎◌, ◌≤◌, length, IfOk, IfErr, OnOk};
 ghost use Rattle.batch_run.specs.Commands.{commands_in};
 ghost use Rattle.pcap_io.specs.Captures.{AreShort};
-ghost use Rattle.clsact_cli.specs.declared.batch.Plan.TheVariants as plans;
 ghost use Rattle.clsact_cli.specs.Broken.{break_of, IsTold, IsTooMany, most_packets};
-ghost use Rattle.clsact_cli.specs.Holdings.{Holds, HasPlan, HasCapture, most_commands};
-ghost use Rattle.clsact_cli.specs.Parts.{LoadFails, ShowingFails, BatchFails, CaptureFails};
+ghost use Rattle.clsact_cli.specs.Holdings.{Holds, HasCapture, most_commands};
+ghost use Rattle.clsact_cli.specs.Parts.{LoadFails, ApplyingFails, CaptureFails};
 
-use crate::batch::{Plan, read_batch};
-use crate::filter::Filter;
 use crate::status::{Break, InputKind, Status};
 use batch_run::line_past_limit;
 use pcap_io::{Capture, CaptureFault, read};
@@ -32,7 +29,7 @@ fn read_fault(alloc: Global, name: &str) -> Status
     }
 }
 
-/// What is asked for isn't built: a command, or a batch's line.
+/// The command that is asked for isn't built.
 pub fn not_built(alloc: Global, name: &str, place: u64) -> Status
     ensures { (result ≡ Status.NoMemory) ⊎ (result ≡ Status.NotBuilt name.now place) }
 {
@@ -69,30 +66,11 @@ pub fn load<S: Shelf>(alloc: Global, shelf: &mut S, name: &str) -> Result<Vec<u8
 /// Refuses the lines of the batch that the name stands for where they have more than 262,144 commands.
 pub fn check_command_count(alloc: Global, name: &str, texts: &[&[u8]]) -> Result<(), Status>
     ensures few { OnOk result (length (commands_in texts.now) ≤ most_commands) }
-    ensures many { IfErr result (ShowingFails name.now (commands_in texts.now)) }
+    ensures many { IfErr result (ApplyingFails name.now (commands_in texts.now)) }
 {
     match line_past_limit(texts) {
         None => Ok(()),
         Some(line) => Err(bad_input(alloc, name, line, InputKind::TooManyLines)),
-    }
-}
-
-/// The filter that the batch under a name adds, or None where it adds none.
-pub fn load_batch<S: Shelf>(
-    alloc: Global,
-    shelf: &mut S,
-    name: &str,
-) -> Result<Option<Filter>, Status>
-    ensures filter { IfOk result (λ f. HasPlan (S.held shelf.old) name.now (plans.Built f)) }
-    ensures cause { IfErr result (BatchFails S.held S.read_faults S.failed_name shelf.old shelf.new name.now) }
-    ensures held { S.held shelf.new ≡ S.held shelf.old }
-    ensures later { S.read_faults shelf.old ≤ S.read_faults shelf.new }
-    ensures write_faults { S.write_faults shelf.new ≡ S.write_faults shelf.old }
-{
-    let bytes = load(alloc, shelf, name)?;
-    match read_batch(alloc, &bytes)? {
-        Plan::Built(filter) => Ok(filter),
-        Plan::NotBuilt { line } => Err(not_built(alloc, name, line)),
     }
 }
 

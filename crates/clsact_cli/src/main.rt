@@ -5,32 +5,25 @@
 //! in `specs/` give. `plain` is the part that runs no job, and always returns.
 //!
 //! From the words to the lines: `command` reads the words; `input` fetches and reads the files in their order, where the
-//! first fault ends the run; `run_show` and `run_walk` do what one command asks for, and `tool` picks the one. A batch is
-//! applied and shown by the crate `batch_show`. A walk still has a reader of its own, for batches of one filter: `batch`
-//! reads it, `matcher` and `walk` decide on packets, `text` writes the lines. `main` adds the process around it: files,
-//! standard output, the text of a status, the exit number.
+//! first fault ends the run; `run_show` and `run_walk` do what one command asks for, `text` writes, and `tool` picks the one.
+//! A batch is applied and shown by the crate `batch_show`, and applied and walked by `batch_walk`. `main` adds the process
+//! around it: files, standard output, the text of a status, the exit number.
 //!
 //! One thread calls all of this. Only `tool` may start others, for a job, and while no job is built it starts none.
 //!
 //! Not promised: that memory suffices, what a real file or terminal holds, and the texts of statuses, which are tested.
 #![tactic(auto)]
 
-mod batch;
 mod command;
-mod filter;
 mod input;
-mod matcher;
 mod messages;
 mod run_show;
 mod run_walk;
-#[cfg(test)]
-mod show_tests;
 mod status;
 #[cfg(test)]
 mod tests;
 mod text;
 mod tool;
-mod walk;
 
 use status::Status;
 use std::env;

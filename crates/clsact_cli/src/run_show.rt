@@ -8,7 +8,7 @@ ghost use Rattle.clsact_cli.specs.Command.{Show};
 ghost use Rattle.clsact_cli.specs.Ends.{status_after, IsAllDone};
 ghost use Rattle.clsact_cli.specs.Causes.{CausedTo};
 ghost use Rattle.clsact_cli.specs.Holdings.{most_commands};
-ghost use Rattle.clsact_cli.specs.Parts.{ShowingFails};
+ghost use Rattle.clsact_cli.specs.Parts.{ApplyingFails};
 ghost use Rattle.clsact_cli.specs.Delivered.{Showed, LeavesAllUnlessRun, CameSoFar};
 
 use crate::input::{check_command_count, load};
@@ -23,7 +23,7 @@ use tc_words::lines;
 fn show_bytes(alloc: Global, name: &str, bytes: &[u8]) -> Result<Shown, Status>
     ensures few { IfOk result (λ _. length (commands_of bytes.now) ≤ most_commands) }
     ensures shown { IfOk result (λ s. (ran : Ran) × IsRun no_state 0 (commands_of bytes.now) ran × (s.text.items ≡ shown ran) × (s.refused ≡ is_some ran.stop)) }
-    ensures cause { IfErr result (ShowingFails name.now (commands_of bytes.now)) }
+    ensures cause { IfErr result (ApplyingFails name.now (commands_of bytes.now)) }
 {
     let texts = lines(alloc, bytes)?;
     check_command_count(alloc, name, &texts)?;

@@ -66,7 +66,7 @@ pub enum Status {
     NotLawful {
         line: u64,
     },
-    /// What the command `name` asks for isn't built yet (place 0), or what the batch `name` says from line `place` on.
+    /// The command `name` isn't built yet; `place` is 0.
     NotBuilt {
         name: Bytes,
         place: u64,

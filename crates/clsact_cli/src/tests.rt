@@ -1,3 +1,5 @@
+//! What needs a shelf and a sink of one's own: calls outside that fail, and captures at each length. What the program does with files
+//! stands in the folder cases/.
 use crate::tool::tool;
 use std::alloc::{AllocError, Global};
 use std::sync::Wait;
@@ -58,16 +60,11 @@ fn two_packets(alloc: Global, big: bool) -> Result<Vec<u8>, AllocError> {
     Ok(bytes)
 }
 
-pub fn numbers(alloc: Global, list: &[u32]) -> Result<Numbers, AllocError> {
+fn numbers(alloc: Global, list: &[u32]) -> Result<Numbers, AllocError> {
     Ok(Numbers::from_vec(list.to_vec(alloc)?))
 }
 
-pub fn shelf(
-    alloc: Global,
-    batch: &str,
-    capture: &[u8],
-    fails: &[u32],
-) -> Result<MemShelf, NoMemory> {
+fn shelf(alloc: Global, batch: &str, capture: &[u8], fails: &[u32]) -> Result<MemShelf, NoMemory> {
     let mut shelf = MemShelf::new(alloc, numbers(alloc, fails)?);
     shelf.insert("batch", batch.as_bytes())?;
     shelf.insert("capture", capture)?;
@@ -75,7 +72,7 @@ pub fn shelf(
 }
 
 // The status, as its exit number and its text.
-pub fn run<R: AllocGlobal + Threads + Wait + Sync>(
+fn run<R: AllocGlobal + Threads + Wait + Sync>(
     rt: &R,
     words: &[&str],
     shelf: &mut MemShelf,
@@ -132,105 +129,6 @@ fn walks_write_text_and_capture(rt: HostRuntime) -> Result<(), Fail> {
     Ok(())
 }
 
-#[test]
-fn words_are_read(rt: HostRuntime) -> Result<(), Fail> {
-    let usage =
-        "2 usage: walk HOOK BATCH CAPTURE OUT | show BATCH | run JOB | recheck JOB REPORT | gen N PREFIX";
-    let rows: [(&[&str], &str); 17] = [
-        (&[], usage),
-        (&["walk", "ingress", "a"], usage),
-        (&["walk", "Ingress", "a", "b", "c"], usage),
-        (&["walk", "ingress", "a", "b", "c", "d"], usage),
-        (&["gen", "0", "x"], usage),
-        (&["gen", "4097", "x"], usage),
-        (&["gen", "007", "x"], usage),
-        (&["gen", "0x10", "x"], usage),
-        (&["gen", "4", "a#b"], usage),
-        (&["gen", "4", ""], usage),
-        (&["gen", "4", "é"], usage),
-        (&["gen", "4096", "out/x"], "9 not built: gen at 0"),
-        (&["gen", "4", "x"], "9 not built: gen at 0"),
-        (&["walk", "egress", "a", "b", "c"], "9 not built: walk at 0"),
-        (&["show", "batch", "more"], usage),
-        (&["run", "job"], "9 not built: run at 0"),
-        (&["recheck", "job", "report"], "9 not built: recheck at 0"),
-    ];
-    for (words, status) in rows {
-        let mut held = shelf(rt.alloc(), HOOK, &EMPTY, &[])?;
-        let mut out = MemSink::new(rt.alloc(), numbers(rt.alloc(), &[])?);
-        assert_eq!(rt; run(&rt, words, &mut held, &mut out)?.as_str(), status);
-        assert!(rt; out.bytes().is_empty());
-    }
-    Ok(())
-}
-
-// Behind the hook's line, one line with these words from `pref` on.
-fn behind_hook(alloc: Global, rest: &str) -> Result<String, AllocError> {
-    format!(in alloc; "# gateway\n{HOOK}\n\tfilter add dev eth0 ingress protocol ip {rest}\r\n")
-}
-
-#[test]
-fn batches_are_read(rt: HostRuntime) -> Result<(), Fail> {
-    let rows: [(&str, &str); 12] = [
-        ("pref 1 flower dst_ip 0.0.0.0/0 action ok", "0 "),
-        (
-            "pref 65535 flower dst_ip 10.0.0.0/24 action drop # all",
-            "0 ",
-        ),
-        (
-            "pref 0 flower dst_ip 10.0.0.1 action ok",
-            "9 not built: batch at 4",
-        ),
-        (
-            "pref 65536 flower dst_ip 10.0.0.1 action ok",
-            "9 not built: batch at 4",
-        ),
-        (
-            "pref 010 flower dst_ip 10.0.0.1 action ok",
-            "9 not built: batch at 4",
-        ),
-        (
-            "prio 10 flower dst_ip 10.0.0.1 action ok",
-            "9 not built: batch at 4",
-        ),
-        (
-            "pref 10 flower dst_ip 10.0.0.1/33 action ok",
-            "9 not built: batch at 4",
-        ),
-        (
-            "pref 10 flower src_ip 10.0.0.1 action ok",
-            "9 not built: batch at 4",
-        ),
-        (
-            "pref 10 flower dst_ip 10.0.0.1 action pass",
-            "9 not built: batch at 4",
-        ),
-        (
-            "pref 10 flower dst_ip 10.0.0.1 action ok index 1",
-            "9 not built: batch at 4",
-        ),
-        ("pref 10 flower dst_ip 10.0.0.1", "9 not built: batch at 4"),
-        (
-            "pref 10 flower dst_ip 10.0.0.1 action ok\n\nqdisc",
-            "9 not built: batch at 6",
-        ),
-    ];
-    for (rest, status) in rows {
-        let batch = behind_hook(rt.alloc(), rest)?;
-        assert_eq!(rt; walk(&rt, batch.as_str(), &EMPTY)?.0.as_str(), status);
-    }
-    for (batch, status) in [
-        ("", 1),
-        ("# none\n\n", 3),
-        ("\n qdisc del dev eth0 clsact", 2),
-    ] {
-        let found = walk(&rt, batch, &EMPTY)?.0;
-        let told = format!(in rt.alloc(); "9 not built: batch at {status}")?;
-        assert_eq!(rt; found.as_str(), told.as_str());
-    }
-    Ok(())
-}
-
 // What comes of the two packets' 176 bytes, cut to a length.
 fn told_of_cut(alloc: Global, length: usize) -> Result<String, AllocError> {
     match length {
@@ -253,15 +151,7 @@ fn cut_captures_are_told(rt: HostRuntime) -> Result<(), Fail> {
 }
 
 #[test]
-fn long_and_many_packets_are_told(rt: HostRuntime) -> Result<(), Fail> {
-    let mut bytes = EMPTY.to_vec(rt.alloc())?;
-    bytes.extend_from_slice(&[0, 0, 0, 0, 0, 0, 0, 0, 0, 0, 4, 0, 0, 0, 4, 0])?;
-    let record = bytes.len();
-    bytes.resize(record + 262_144, 0)?;
-    assert_eq!(rt; walk(&rt, DROP, &bytes)?.0.as_str(), "0 ");
-    bytes[32] = 1;
-    let told = "3 bad input capture at 24: TooLong 262145";
-    assert_eq!(rt; walk(&rt, DROP, &bytes)?.0.as_str(), told);
+fn many_packets_are_told(rt: HostRuntime) -> Result<(), Fail> {
     let mut many = EMPTY.to_vec(rt.alloc())?;
     many.resize(24 + 16 * 1_048_576, 0)?;
     assert_eq!(rt; walk(&rt, HOOK, &many)?.0.as_str(), "0 ");
@@ -294,12 +184,15 @@ fn faults_outside_are_told(rt: HostRuntime) -> Result<(), Fail> {
         );
         assert_eq!(rt; out.bytes(), &TWO.as_bytes()[..written]);
     }
-    let mut held = shelf(rt.alloc(), DROP, &capture, &[])?;
-    let mut out = MemSink::new(rt.alloc(), numbers(rt.alloc(), &[])?);
-    let words = ["walk", "ingress", "batch", "elsewhere", "output"];
-    assert_eq!(rt;
-        run(&rt, &words, &mut held, &mut out)?.as_str(),
-        "4 cannot read elsewhere"
-    );
+    Ok(())
+}
+
+#[test]
+fn a_fault_at_a_show_is_told(rt: HostRuntime) -> Result<(), Fail> {
+    let mut held = shelf(rt.alloc(), HOOK, &[], &[])?;
+    let mut out = MemSink::new(rt.alloc(), numbers(rt.alloc(), &[1])?);
+    let status = run(&rt, &["show", "batch"], &mut held, &mut out)?;
+    assert_eq!(rt; status.as_str(), "5 cannot write");
+    assert!(rt; out.bytes().is_empty());
     Ok(())
 }

@@ -17,7 +17,7 @@ use crate::status::Status;
 use std::alloc::Global;
 use std::sync::Wait;
 use std::thread::Threads;
-use tc_base::{Gate, Hook, Shelf, Sink};
+use tc_base::{Gate, Shelf, Sink};
 
 fn ended(refused: bool) -> Status
     ensures { result ≡ status_after refused }
@@ -47,7 +47,7 @@ fn serve<S: Shelf, O: Sink>(
             Err(status) => status,
         },
         Command::Walk {
-            hook: Hook::Ingress,
+            hook,
             batch,
             capture,
             output,
@@ -57,8 +57,8 @@ fn serve<S: Shelf, O: Sink>(
                 capture,
                 output,
             };
-            match run_walk(alloc, &names, shelf, out) {
-                Ok(()) => Status::Done,
+            match run_walk(alloc, hook, &names, shelf, out) {
+                Ok(refused) => ended(refused),
                 Err(status) => status,
             }
         }

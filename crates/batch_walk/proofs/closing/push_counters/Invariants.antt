@@ -1,0 +1,6 @@
+use Rattle.std.proofs.Common.{◌≡◌, ◌++◌, take}
+use Rattle.batch_walk.specs.Texts.{joined, counter_lines}
+use Rattle.batch_walk.proofs.closing.push_counters.Given as goal
+
+abbrev pub invariant-loop-action : goal.invariant-loop-action
+invariant-loop-action l = l.out.items ≡ l.initial.out.items ++ joined (counter_lines (take l.action-index l.made) l.counts)

@@ -1,0 +1,81 @@
+-- The lines of a walk. They are this project's own.
+use Rattle.std.specs.Prelude.{ℕ, ◌+◌, ◌-◌, ◌≤◌, ◌==◌, ◌&&◌, List, [], ◌∷◌, ◌++◌, get_or, map, if◌then◌else◌, codes, decimal}
+use Rattle.std.specs.List.{flat_map}
+use Rattle.frame_edit.specs.declared.meta.Meta.{Meta}
+use Rattle.batch_texts.specs.Texts.{class_text}
+use Rattle.tc_print.specs.ActionWords.{kind_text}
+use Rattle.walk_rules.specs.declared.verdict.Verdict.{Verdict}
+use Rattle.walk_rules.specs.declared.verdict.Verdict.TheVariants as verdicts
+use Rattle.batch_run.specs.declared.made_action.MadeAction.{MadeAction}
+use Rattle.capture_walk.specs.declared.counts.Count.{Count}
+use Rattle.capture_walk.specs.declared.ends.PacketEnd.{PacketEnd}
+use Rattle.batch_walk.specs.declared.closing.Summary.{Summary}
+
+-- lines, one after the other
+abbrev pub joined : List (List ℕ) → List ℕ
+joined lines = flat_map (λ (line : List ℕ). line) lines
+
+-- a label, and a number in decimal behind it
+unfoldable pub counted : List ℕ → ℕ → List ℕ
+counted label number = label ++ decimal number
+
+-- ---- a packet
+abbrev pub verdict_text : Verdict → List ℕ
+verdict_text verdicts.Pass = codes " pass"
+verdict_text verdicts.Drop = codes " drop"
+
+-- all three, where one isn't 0; the priority as a class (tc-skbedit(8))
+abbrev pub meta_text : Meta → List ℕ
+meta_text meta =
+    if meta.priority == 0 && (meta.mark == 0 && meta.queue == 0) then []
+    else codes " priority " ++ class_text meta.priority ++ counted (codes " mark ") meta.mark ++ counted (codes " queue ") meta.queue
+
+-- `packet N V length L`, and the metadata
+abbrev pub packet_line : ℕ → PacketEnd → List ℕ
+packet_line number end =
+    counted (codes "packet ") number ++ verdict_text end.verdict ++ counted (codes " length ") end.length ++ meta_text end.meta ++ codes "\n"
+
+-- a line for each packet, numbered from here
+abbrev pub packet_lines : ℕ → List PacketEnd → List (List ℕ)
+packet_lines number [] = []
+packet_lines number (end ∷ ends) = packet_line number end ∷ packet_lines (number + 1) ends
+
+-- ---- an action
+-- `counter serial S KIND index I`
+unfoldable pub action_text : MadeAction → List ℕ
+action_text made = counted (codes "counter serial ") made.serial ++ codes " " ++ kind_text made.kind ++ counted (codes " index ") made.index
+
+-- ` packets P bytes B`
+unfoldable pub count_text : Count → List ℕ
+count_text count = counted (codes " packets ") count.packets ++ counted (codes " bytes ") count.bytes
+
+abbrev pub counter_line : MadeAction → Count → List ℕ
+counter_line made count = action_text made ++ count_text count ++ codes "\n"
+
+abbrev pub nothing_counted : Count
+nothing_counted = record { packets = 0; bytes = 0 }
+
+-- there is a count for the action's serial; the first is that of serial 1
+abbrev pub HasCount : ℕ → MadeAction → Type 0
+HasCount counts made = (1 ≤ made.serial) × (made.serial ≤ counts)
+
+-- a line for each action that was made
+abbrev pub counter_lines : List MadeAction → List Count → List (List ℕ)
+counter_lines made counts = map (λ (m : MadeAction). counter_line m (get_or counts (m.serial - 1) nothing_counted)) made
+
+-- ---- the end
+-- `summary edits E refused R`
+unfoldable pub edits_text : Summary → List ℕ
+edits_text summary = counted (codes "summary edits ") summary.edits ++ counted (codes " refused ") summary.refused
+
+-- ` packets P passed Q dropped D`
+unfoldable pub verdicts_text : Summary → List ℕ
+verdicts_text summary =
+    counted (codes " packets ") (summary.passed + summary.dropped) ++ counted (codes " passed ") summary.passed ++ counted (codes " dropped ") summary.dropped
+
+abbrev pub summary_line : Summary → List ℕ
+summary_line summary = edits_text summary ++ verdicts_text summary ++ codes "\n"
+
+-- the lines behind the packets' lines
+abbrev pub closing_lines : List MadeAction → List Count → Summary → List (List ℕ)
+closing_lines made counts summary = counter_lines made counts ++ (summary_line summary ∷ codes "end\n" ∷ [])

@@ -1,0 +1,54 @@
+-- What `walk` writes for a batch and the packets of a capture (this project's own).
+use Rattle.std.specs.Prelude.{◌≡◌, ℕ, ◌-◌, Bool, true, false, List, length, map, count_by, ◌++◌, is_some, if◌then◌else◌}
+use Rattle.tc_base.specs.declared.hook.Hook.{Hook}
+use Rattle.pcap_io.specs.declared.capture.Packet.{Packet}
+use Rattle.walk_rules.specs.declared.verdict.Verdict.{Verdict}
+use Rattle.walk_rules.specs.declared.verdict.Verdict.TheVariants as verdicts
+use Rattle.walk_rules.specs.Walks.{Outcome}
+use Rattle.batch_run.specs.Runs.{Ran}
+use Rattle.batch_show.specs.Shown.{stop_shown}
+use Rattle.capture_walk.specs.declared.ends.PacketEnd.{PacketEnd}
+use Rattle.capture_walk.specs.Captures.{outcomes_of, end_of, passed, counts_of, executed_in}
+use Rattle.batch_walk.specs.declared.closing.Summary.{Summary}
+use Rattle.batch_walk.specs.declared.walk.BatchWalk.{BatchWalk}
+use Rattle.batch_walk.specs.declared.walk.WalkText.{WalkText}
+use Rattle.batch_walk.specs.Texts.{joined, packet_lines, closing_lines}
+
+abbrev pub is_pass : Verdict → Bool
+is_pass verdicts.Pass = true
+is_pass verdicts.Drop = false
+
+abbrev pub passed_count : List PacketEnd → ℕ
+passed_count ends = count_by (λ (end : PacketEnd). is_pass end.verdict) ends
+
+-- a batch stops at its first refused line
+abbrev pub refused_count : Bool → ℕ
+refused_count refused = if refused then 1 else 0
+
+abbrev pub summary_of : ℕ → Bool → List PacketEnd → Summary
+summary_of accepted refused ends = record {
+  edits = accepted;
+  refused = refused_count refused;
+  passed = passed_count ends;
+  dropped = length ends - passed_count ends;
+}
+
+-- the refused line, if there is one, the packets' lines, and the closing ones
+abbrev pub text_after : Ran → List Outcome → List ℕ
+text_after ran outcomes =
+    stop_shown ran.accepted ran.stop ++ joined (packet_lines 1 (map end_of outcomes))
+    ++ joined (closing_lines ran.made (counts_of ran.state.actions_made (executed_in outcomes)) (summary_of ran.accepted (is_some ran.stop) (map end_of outcomes)))
+
+-- THE TEXT OF A WALK: each packet by the plain walk of the state that the batch leaves
+unfoldable pub walk_text : Ran → Hook → List Packet → List ℕ
+walk_text ran hook packets = text_after ran (outcomes_of ran.state hook packets)
+
+-- the text of these parts
+abbrev pub told_text : WalkText → List ℕ
+told_text text = text.stop.items ++ joined (packet_lines 1 text.ends.items) ++ text.closing.items
+
+-- what is put and written is what the batch that ran gives
+pub record IsWalked (ran : Ran) (hook : Hook) (packets : List Packet) (walk : BatchWalk) : Type 0 where
+  pub passed : walk.passed ≡ passed ran.state hook packets
+  pub text : told_text walk.text ≡ walk_text ran hook packets
+  pub refused : walk.refused ≡ is_some ran.stop

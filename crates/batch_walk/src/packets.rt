@@ -1,0 +1,43 @@
+//! The line of a packet.
+ghost use Rattle.std.specs.Prelude.{◌≡◌, ◌++◌, OnOk};
+ghost use Rattle.batch_walk.specs.Texts.{verdict_text, meta_text, packet_line};
+
+use crate::pieces::{push_count, push_text};
+use batch_texts::push_class;
+use capture_walk::PacketEnd;
+use frame_edit::Meta;
+use std::alloc::AllocError;
+use walk_rules::Verdict;
+
+fn verdict_text(verdict: Verdict) -> &'static str
+    ensures { result.now ≡ verdict_text verdict }
+{
+    match verdict {
+        Verdict::Pass => " pass",
+        Verdict::Drop => " drop",
+    }
+}
+
+// Puts the metadata, unless all of it is 0.
+fn push_meta(out: &mut Vec<u8>, meta: Meta) -> Result<(), AllocError>
+    ensures { OnOk result (out.new.items ≡ out.old.items ++ meta_text meta) }
+{
+    if meta.priority == 0 && meta.mark == 0 && meta.queue == 0 {
+        return Ok(());
+    }
+    push_text(out, " priority ")?;
+    push_class(out, meta.priority)?;
+    push_count(out, " mark ", u64::from(meta.mark))?;
+    push_count(out, " queue ", u64::from(meta.queue))
+}
+
+/// Puts the line of a packet, numbered from 1, behind what is there.
+pub fn push_packet(out: &mut Vec<u8>, number: u64, end: &PacketEnd) -> Result<(), AllocError>
+    ensures { OnOk result (out.new.items ≡ out.old.items ++ packet_line number end.now) }
+{
+    push_count(out, "packet ", number)?;
+    push_text(out, verdict_text(end.verdict))?;
+    push_count(out, " length ", u64::from(end.length))?;
+    push_meta(out, end.meta)?;
+    push_text(out, "\n")
+}

@@ -1,0 +1,115 @@
+//! The walk of a batch.
+ghost use Rattle.std.specs.Prelude.{◌≡◌, ◌<◌, ◌≤◌, ◌+◌, ◌^◌, length, is_some, IfOk};
+ghost use Rattle.pcap_io.specs.Captures.{AreShort};
+ghost use Rattle.filter_state.specs.States.{no_state};
+ghost use Rattle.std.specs.List.{All};
+ghost use Rattle.batch_run.specs.Commands.{commands_in};
+ghost use Rattle.batch_run.specs.Runs.{Ran, IsRun};
+ghost use Rattle.batch_show.specs.Shown.{stop_shown};
+ghost use Rattle.batch_walk.specs.Texts.{joined, closing_lines, HasCount};
+ghost use Rattle.batch_walk.specs.Walked.{passed_count, summary_of, IsWalked};
+
+use crate::closing::{Summary, closing_text};
+use batch_run::{BatchRun, run_batch};
+use batch_show::push_stop;
+use capture_walk::{Count, PacketEnd, WalkedCapture, walk_capture};
+use pcap_io::Packets;
+use std::alloc::Global;
+use tc_base::{Hook, NoMemory};
+use walk_rules::Verdict;
+
+/// What `walk` writes. The packets' lines stand between the two texts, and are made as they are written.
+#[derive(Drop)]
+pub struct WalkText {
+    /// The refused line, or nothing.
+    pub stop: Vec<u8>,
+    /// How each packet ended, in order.
+    pub ends: Vec<PacketEnd>,
+    /// The lines behind the packets' lines.
+    pub closing: Vec<u8>,
+}
+
+/// What `walk` puts and writes for a batch and a capture.
+#[derive(Drop)]
+pub struct BatchWalk {
+    /// The packets that passed, in order, as their walks left them.
+    pub passed: Packets,
+    pub text: WalkText,
+    /// Whether a line was refused.
+    pub refused: bool,
+}
+
+fn count_passed(ends: &[PacketEnd]) -> usize
+    ensures value { result ≡ passed_count ends.now }
+    ensures within { result ≤ length ends.now }
+{
+    ends.iter()
+        .filter(|end| matches!(end.verdict, Verdict::Pass))
+        .count()
+}
+
+fn summary_of(run: &BatchRun, ends: &[PacketEnd]) -> Summary
+    ensures value { result ≡ summary_of run.now.accepted (is_some run.now.stop) ends.now }
+    ensures within { result.passed + result.dropped ≡ length ends.now }
+{
+    let passed = count_passed(ends);
+    Summary {
+        edits: u64::from(run.accepted),
+        refused: u64::from(run.stop.is_some()),
+        passed: passed as u64,
+        dropped: (ends.len() - passed) as u64,
+    }
+}
+
+// The text of a batch that was run, and of the walks over what it left.
+fn text_of(
+    alloc: Global,
+    run: &BatchRun,
+    ends: Vec<PacketEnd>,
+    counts: &[Count],
+) -> Result<WalkText, NoMemory>
+    requires counts { All (HasCount (length counts.now)) run.now.made.items }
+    requires few { length ends.items < 2 ^ 64 }
+    ensures stop { IfOk result (λ text. text.stop.items ≡ stop_shown run.now.accepted run.now.stop) }
+    ensures ends { IfOk result (λ text. text.ends.items ≡ ends.items) }
+    ensures closing { IfOk result (λ text. text.closing.items ≡ joined (closing_lines run.now.made.items counts.now (summary_of run.now.accepted (is_some run.now.stop) ends.items))) }
+{
+    let mut stop = Vec::new(alloc);
+    push_stop(&mut stop, run.accepted, &run.stop)?;
+    let closing = closing_text(alloc, &run.made, counts, &summary_of(run, &ends))?;
+    Ok(WalkText {
+        stop,
+        ends,
+        closing,
+    })
+}
+
+/// Applies the lines of a batch file of at most 262,144 commands to lists in which nothing stands, walks each of at most 1,048,576
+/// packets through a hook of what the batch leaves, and makes what `walk` puts and writes.
+///
+/// `NoMemory`: memory was refused.
+pub fn walk_batch(
+    alloc: Global,
+    texts: &[&[u8]],
+    hook: Hook,
+    packets: &Packets,
+) -> Result<BatchWalk, NoMemory>
+    requires commands { length (commands_in texts.now) ≤ 262144 }
+    requires few { length packets.now ≤ 1048576 }
+    requires short { AreShort packets.now }
+    ensures walked { IfOk result (λ w. (ran : Ran) × IsRun no_state 0 (commands_in texts.now) ran × IsWalked ran hook packets.now w) }
+    ensures short { IfOk result (λ w. AreShort w.passed) }
+{
+    let run = run_batch(alloc, texts)?;
+    let WalkedCapture {
+        ends,
+        passed,
+        counts,
+    } = walk_capture(alloc, &run.lists, hook, packets)?;
+    let text = text_of(alloc, &run, ends, &counts)?;
+    Ok(BatchWalk {
+        passed,
+        text,
+        refused: run.stop.is_some(),
+    })
+}
