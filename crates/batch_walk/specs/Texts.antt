@@ -21,8 +21,8 @@ counted label number = label ++ decimal number
 
 -- ---- a packet
 abbrev pub verdict_text : Verdict → List ℕ
-verdict_text verdicts.Pass = codes " pass"
-verdict_text verdicts.Drop = codes " drop"
+verdict_text verdicts.Pass = codes " pass length "
+verdict_text verdicts.Drop = codes " drop length "
 
 -- all three, where one isn't 0; the priority as a class (tc-skbedit(8))
 abbrev pub meta_text : Meta → List ℕ
@@ -33,7 +33,7 @@ meta_text meta =
 -- `packet N V length L`, and the metadata
 abbrev pub packet_line : ℕ → PacketEnd → List ℕ
 packet_line number end =
-    counted (codes "packet ") number ++ verdict_text end.verdict ++ counted (codes " length ") end.length ++ meta_text end.meta ++ codes "\n"
+    counted (codes "packet ") number ++ counted (verdict_text end.verdict) end.length ++ meta_text end.meta ++ codes "\n"
 
 -- a line for each packet, numbered from here
 abbrev pub packet_lines : ℕ → List PacketEnd → List (List ℕ)

@@ -13,8 +13,8 @@ fn verdict_text(verdict: Verdict) -> &'static str
     ensures { result.now ≡ verdict_text verdict }
 {
     match verdict {
-        Verdict::Pass => " pass",
-        Verdict::Drop => " drop",
+        Verdict::Pass => " pass length ",
+        Verdict::Drop => " drop length ",
     }
 }
 
@@ -36,8 +36,8 @@ pub fn push_packet(out: &mut Vec<u8>, number: u64, end: &PacketEnd) -> Result<()
     ensures { OnOk result (out.new.items ≡ out.old.items ++ packet_line number end.now) }
 {
     push_count(out, "packet ", number)?;
-    push_text(out, verdict_text(end.verdict))?;
-    push_count(out, " length ", u64::from(end.length))?;
+    push_count(out, verdict_text(end.verdict), u64::from(end.length))?;
     push_meta(out, end.meta)?;
-    push_text(out, "\n")
+    out.push(b'\n')?;
+    Ok(())
 }
