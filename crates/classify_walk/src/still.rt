@@ -27,7 +27,6 @@ impl Visits for Still<'_> {
     ghost knows_action = { λ v action. StandsAction v.lists.now action.serial };
 
     fn head(&mut self, hook: Hook, into: &mut HeadRoom) -> Point {
-        into.clear();
         tell_heads(self.lists, hook, into);
         self.point
     }

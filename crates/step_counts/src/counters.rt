@@ -10,7 +10,7 @@ use std::marker::Model;
 use tc_base::NoMemory;
 
 // Two words for each serial from 0 on: packets and bytes.
-const WORDS: usize = 2 * (16384 + 1);
+const WORDS: usize = 2 * (16_384 + 1);
 
 // The rule of the counter words. Its key is the number of seats.
 struct Sums;

@@ -1,4 +1,6 @@
 //! Room for the tables of a hook.
+ghost use Rattle.std.specs.Prelude.{◌≡◌};
+ghost use Rattle.visit_room.specs.Heads.{with_mask_behind, IsBelow, last_masks};
 
 use crate::names::MaskName;
 use crate::table_head::{MaskNames, TableHead};
@@ -10,18 +12,22 @@ use tc_base::{NoMemory, Proto};
 const TABLES_MAX: usize = 256;
 
 /// The tables of a hook in their order: 256 at most, each with 16 masks at most.
+///
+/// Tables that were let go stay in the room until others are put, and `recall` brings them back: walks over the same tables then need
+/// not be told them again and again.
 #[derive(Drop)]
 pub struct HeadRoom {
     heads: Vec<TableHead>,
+    is_clear: bool,
 }
 
 impl Model for HeadRoom {
-    ghost use Rattle.std.specs.Prelude.{◌≤◌, List, vec_capacity};
+    ghost use Rattle.std.specs.Prelude.{◌≤◌, List, [], if◌then◌else◌, vec_capacity};
     ghost use Rattle.visit_room.specs.declared.table_head.TableHead.{TableHead};
 
     ghost Value = { List TableHead };
 
-    ghost view = { λ r. r.heads.items };
+    ghost view = { λ r. if r.is_clear then [] else r.heads.items };
 
     ghost invariant = { λ r. 256 ≤ vec_capacity r.heads };
 }
@@ -36,6 +42,7 @@ impl HeadRoom {
     {
         Ok(HeadRoom {
             heads: Vec::with_capacity(alloc, TABLES_MAX)?,
+            is_clear: true,
         })
     }
 
@@ -43,7 +50,12 @@ impl HeadRoom {
     pub fn clear(&mut self)
         ensures { self.new ≡ [] }
     {
-        self.heads.clear();
+        self.is_clear = true;
+    }
+
+    /// Brings back the tables that were let go last, if no other was put since. Which tables these are is for the caller to see.
+    pub fn recall(&mut self) {
+        self.is_clear = false;
     }
 
     /// Puts a table without masks behind those that are there, fewer than 256.
@@ -58,6 +70,10 @@ impl HeadRoom {
             protocol,
             masks: MaskNames::new(),
         };
+        if self.is_clear {
+            self.heads.clear();
+            self.is_clear = false;
+        }
         match self.heads.push(head) {
             Ok(()) => {}
             Err(_) => unreachable!(),
@@ -69,16 +85,27 @@ impl HeadRoom {
         requires { IsBelow 16 (last_masks self.old) }
         ensures { self.new ≡ with_mask_behind mask self.old }
     {
-        match self.heads.last_mut() {
-            Some(head) => head.masks.push(mask),
-            None => unreachable!(),
+        if self.is_clear {
+            unreachable!();
         }
+        push_to_last(&mut self.heads, mask);
     }
 
     /// The tables, in order.
     pub fn heads(&self) -> &[TableHead]
         ensures { result.now ≡ self.now }
     {
-        &self.heads
+        if self.is_clear { &[] } else { &self.heads }
+    }
+}
+
+// Puts a mask behind those of the last table.
+fn push_to_last(heads: &mut [TableHead], mask: MaskName)
+    requires { IsBelow 16 (last_masks heads.old) }
+    ensures { heads.new ≡ with_mask_behind mask heads.old }
+{
+    match heads.last_mut() {
+        Some(head) => head.masks.push(mask),
+        None => unreachable!(),
     }
 }

@@ -4,6 +4,9 @@
 //! once, and lends them to each visit, which clears and fills them. Contracts see a `HeadRoom` as the list of its tables, and a
 //! `Hit` as the list of its actions.
 //!
+//! What a `HeadRoom` was cleared of stays there until something else is put. One who answers many walks alike may `recall` it and look
+//! whether it is what is to be told, which costs less than telling it again. What comes back isn't promised.
+//!
 //! Masks and actions have two names in one: the serial, which is the state's, and a slot, which says where whoever answers keeps
 //! the thing. A walk hands slots back and never looks at them.
 //!

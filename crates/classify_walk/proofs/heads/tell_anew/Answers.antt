@@ -7,7 +7,7 @@ use Rattle.filter_tables.specs.SeenMask.{plain_mask}
 use Rattle.classify_walk.specs.Heads.{serials_of, with_masks_behind}
 use Rattle.classify_walk.proofs.Telling.{last_pushed, table_told, told_count}
 use Rattle.classify_walk.proofs.Limits.{tables_fit, masks_fit}
-use Rattle.classify_walk.proofs.heads.tell_heads.Goals as goal
+use Rattle.classify_walk.proofs.heads.tell_anew.Goals as goal
 
 pub push-requires : goal.push-requires
 push-requires c =

@@ -3,7 +3,7 @@ use Rattle.std.specs.Prelude.{map}
 use Rattle.filter_tables.specs.Seen.{plain_table}
 use Rattle.walk_steps.specs.Told.{heads_told}
 use Rattle.classify_walk.specs.Heads.{head_of}
-use Rattle.classify_walk.proofs.heads.tell_heads.Given as goal
+use Rattle.classify_walk.proofs.heads.are_told.Given as goal
 
 abbrev pub invariant-loop-place : goal.invariant-loop-place
-invariant-loop-place l = heads_told l.into ≡ map head_of (map plain_table (take l.place l.tables))
+invariant-loop-place l = heads_told (take l.place l.heads) ≡ map head_of (map plain_table (take l.place l.tables))

@@ -1,0 +1,7 @@
+pub mod Standing
+pub mod Halves
+pub mod Filtering
+pub mod Tabling
+pub mod Masking
+pub mod Giving
+pub mod Acting

@@ -1,0 +1,9 @@
+pub mod Blocks
+pub mod Names
+pub mod Filters
+pub mod Masks
+pub mod Tables
+pub mod Parameters
+pub mod Actions
+pub mod Reading
+pub mod ReadingParameters

@@ -1,0 +1,56 @@
+//! Names of actions and masks in a word.
+ghost use Rattle.std.specs.Prelude.{◌≡◌, ◌↔◌, IsTrue};
+ghost use Rattle.block_codec.specs.Names.{action_word, mask_word, action_in, mask_in, IsActionName, IsMaskName};
+
+use crate::block::{both_halves, high_half, low_half};
+use crate::places::{ACTION_SLOTS, MASK_SLOTS};
+use visit_room::{ActionName, MaskName};
+
+// The actions that a run makes at most. Serials count from 1.
+pub(crate) const SERIAL_MAX: u32 = 16_384;
+
+pub(crate) fn action_word(name: ActionName) -> u64
+    ensures { result ≡ action_word name }
+{
+    both_halves(name.serial, name.slot)
+}
+
+// The action that a word names.
+pub(crate) fn action_in(word: u64) -> ActionName
+    ensures { result ≡ action_in word }
+{
+    ActionName {
+        serial: low_half(word),
+        slot: high_half(word),
+    }
+}
+
+// The numbers of an action's name are within their limits.
+pub(crate) fn is_action(name: ActionName) -> bool
+    ensures { IsTrue result ↔ IsActionName name }
+{
+    1 <= name.serial && name.serial <= SERIAL_MAX && name.slot < ACTION_SLOTS
+}
+
+pub(crate) fn mask_word(name: MaskName) -> u64
+    ensures { result ≡ mask_word name }
+{
+    both_halves(name.serial, name.slot)
+}
+
+// The mask that a word names.
+pub(crate) fn mask_in(word: u64) -> MaskName
+    ensures { result ≡ mask_in word }
+{
+    MaskName {
+        serial: low_half(word),
+        slot: high_half(word),
+    }
+}
+
+// The numbers of a mask's name are within their limits.
+pub(crate) fn is_mask(name: MaskName) -> bool
+    ensures { IsTrue result ↔ IsMaskName name }
+{
+    name.slot < MASK_SLOTS
+}
