@@ -61,8 +61,7 @@ fn is_told(table: &FilterTable, head: &TableHead) -> bool
     if head.serial != table.serial || head.chain != table.chain || head.pref != table.pref {
         return false;
     }
-    head.protocol == table.protocol
-        && masks_are_told(table.masks.as_slice(), head.masks.as_slice())
+    head.protocol == table.protocol && masks_are_told(table.masks.as_slice(), head.masks.as_slice())
 }
 
 // Whether the names are those of these masks.

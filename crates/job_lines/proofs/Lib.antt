@@ -1,0 +1,11 @@
+pub mod Choices
+pub mod Digits
+pub mod LineWords
+pub mod Languages
+pub mod Moves
+pub mod Leading
+pub mod Runs
+pub mod FileLines
+pub mod Faults
+pub mod Unique
+pub mod Answered

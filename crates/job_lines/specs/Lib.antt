@@ -1,0 +1,4 @@
+pub mod Jobs
+pub mod Files
+pub mod States
+pub mod Steps
