@@ -11,12 +11,14 @@ use tc_print::kind_name;
 
 /// What a run came to.
 #[derive(Clone, Copy, Debug, PartialEq, Eq)]
-pub(crate) struct Summary {
+pub struct Summary {
     /// How many edits were accepted.
     pub edits: u64,
     /// How many lines were refused.
     pub refused: u64,
+    /// How many packets passed.
     pub passed: u64,
+    /// How many packets were dropped.
     pub dropped: u64,
 }
 
@@ -38,8 +40,8 @@ fn push_counts(out: &mut Vec<u8>, count: &Count) -> Result<(), AllocError>
     push_count(out, " bytes ", count.bytes)
 }
 
-// Puts the line of an action: how often it ran, and on how many bytes.
-fn push_counter(out: &mut Vec<u8>, made: &MadeAction, count: &Count) -> Result<(), AllocError>
+/// Puts the line of an action behind what is there: how often it ran, and on how many bytes.
+pub fn push_counter(out: &mut Vec<u8>, made: &MadeAction, count: &Count) -> Result<(), AllocError>
     ensures { OnOk result (out.new.items ≡ out.old.items ++ counter_line made.now count.now) }
 {
     push_action(out, made)?;
@@ -76,7 +78,9 @@ fn push_verdicts(out: &mut Vec<u8>, summary: &Summary) -> Result<(), AllocError>
     push_count(out, " dropped ", summary.dropped)
 }
 
-fn push_summary(out: &mut Vec<u8>, summary: &Summary) -> Result<(), AllocError>
+/// Puts the line that tells what a run came to behind what is there. Its packets are those that passed and those that were dropped,
+/// together below 2^64.
+pub fn push_summary(out: &mut Vec<u8>, summary: &Summary) -> Result<(), AllocError>
     requires { summary.now.passed + summary.now.dropped < 2 ^ 64 }
     ensures { OnOk result (out.new.items ≡ out.old.items ++ summary_line summary.now) }
 {

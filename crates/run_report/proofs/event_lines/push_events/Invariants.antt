@@ -1,0 +1,15 @@
+use Rattle.std.proofs.Common.{◌≡◌, ◌+◌, ◌++◌, ℕ, take}
+use Rattle.std.specs.Prelude.{map}
+use Rattle.std.specs.List.{enumerate_from}
+use Rattle.batch_walk.specs.Texts.{joined}
+use Rattle.run_report.specs.declared.events.Event.{Event}
+use Rattle.run_report.specs.Counts.{accepted_count}
+use Rattle.run_report.specs.EventTexts.{event_line}
+use Rattle.run_report.proofs.event_lines.push_events.Given as goal
+
+abbrev pub invariant-loop-event : goal.invariant-loop-event
+invariant-loop-event l = record {
+  text : l.out.items ≡ l.initial.out.items
+      ++ joined (map (λ (placed : ℕ × Event). event_line (l.fn.before + accepted_count (take placed.0 l.events)) placed.1) (take l.event-index (enumerate_from 0 l.events)));
+  edits : l.edits ≡ l.fn.before + accepted_count (take l.event-index l.events);
+}

@@ -1,0 +1,14 @@
+use Rattle.std.proofs.Common.{◌≡◌, ◌+◌, ◌++◌, ℕ, take}
+use Rattle.std.specs.List.{flat_map, enumerate_from}
+use Rattle.batch_walk.specs.Texts.{joined}
+use Rattle.run_report.specs.declared.rounds.RoundRecord.{RoundRecord}
+use Rattle.run_report.specs.Counts.{edits_in}
+use Rattle.run_report.specs.Reports.{round_lines}
+use Rattle.run_report.proofs.reporting.push_rounds.Given as goal
+
+abbrev pub invariant-loop-index : goal.invariant-loop-index
+invariant-loop-index l = record {
+  text : l.out.items ≡ l.initial.out.items
+      ++ joined (flat_map (λ (placed : ℕ × RoundRecord). round_lines (placed.0 + 1) (edits_in (take placed.0 l.rounds)) placed.1) (take l.index (enumerate_from 0 l.rounds)));
+  edits : l.edits ≡ edits_in (take l.index l.rounds);
+}

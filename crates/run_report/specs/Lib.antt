@@ -1,0 +1,4 @@
+pub mod Counts
+pub mod EventTexts
+pub mod PacketTexts
+pub mod Reports
