@@ -10,6 +10,8 @@
 mod batch;
 mod job;
 mod packets;
+#[cfg(test)]
+mod tests;
 
 pub use batch::gen_batch;
 pub use job::gen_job;
