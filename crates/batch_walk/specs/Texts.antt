@@ -30,10 +30,13 @@ meta_text meta =
     if meta.priority == 0 && (meta.mark == 0 && meta.queue == 0) then []
     else codes " priority " ++ class_text meta.priority ++ counted (codes " mark ") meta.mark ++ counted (codes " queue ") meta.queue
 
--- `packet N V length L`, and the metadata
+-- how a packet ended: ` V length L`, and the metadata
+unfoldable pub end_text : Verdict → ℕ → Meta → List ℕ
+end_text verdict length meta = counted (verdict_text verdict) length ++ meta_text meta
+
+-- `packet N`, and how it ended
 abbrev pub packet_line : ℕ → PacketEnd → List ℕ
-packet_line number end =
-    counted (codes "packet ") number ++ counted (verdict_text end.verdict) end.length ++ meta_text end.meta ++ codes "\n"
+packet_line number end = counted (codes "packet ") number ++ end_text end.verdict end.length end.meta ++ codes "\n"
 
 -- a line for each packet, numbered from here
 abbrev pub packet_lines : ℕ → List PacketEnd → List (List ℕ)

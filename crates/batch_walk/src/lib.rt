@@ -6,8 +6,8 @@
 //! putting and writing are the caller's.
 //!
 //! The packets' lines, of which there may be a million, aren't kept. `push_packet` puts one at the end of a text that the caller
-//! holds, so that all are made in one buffer as they are written. `push_counter` and `push_summary` put lines that the report of a run
-//! has too.
+//! holds, so that all are made in one buffer as they are written. The other calls that begin with `push` put lines and pieces
+//! that the report of a run has too.
 //!
 //! One thread calls this, and it keeps nothing between calls. Not promised: that memory suffices.
 #![tactic(auto)]
@@ -18,5 +18,6 @@ mod pieces;
 mod walk;
 
 pub use closing::{Summary, push_counter, push_summary};
-pub use packets::push_packet;
+pub use packets::{push_end, push_packet};
+pub use pieces::push_count;
 pub use walk::{BatchWalk, WalkText, walk_batch};

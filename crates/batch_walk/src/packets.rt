@@ -1,6 +1,6 @@
 //! The line of a packet.
 ghost use Rattle.std.specs.Prelude.{◌≡◌, ◌++◌, OnOk};
-ghost use Rattle.batch_walk.specs.Texts.{verdict_text, meta_text, packet_line};
+ghost use Rattle.batch_walk.specs.Texts.{verdict_text, meta_text, end_text, packet_line};
 
 use crate::pieces::{push_count, push_text};
 use batch_texts::push_class;
@@ -31,13 +31,26 @@ fn push_meta(out: &mut Vec<u8>, meta: Meta) -> Result<(), AllocError>
     push_count(out, " queue ", u64::from(meta.queue))
 }
 
+/// Puts how a packet ended behind what is there: its verdict, its length in bytes, and its metadata unless all of them are 0.
+#[tactic(auto, unfolding(crate::specs::Texts::end_text))]
+pub fn push_end(
+    out: &mut Vec<u8>,
+    verdict: Verdict,
+    length: u64,
+    meta: Meta,
+) -> Result<(), AllocError>
+    ensures { OnOk result (out.new.items ≡ out.old.items ++ end_text verdict length meta) }
+{
+    push_count(out, verdict_text(verdict), length)?;
+    push_meta(out, meta)
+}
+
 /// Puts the line of a packet, numbered from 1, behind what is there.
 pub fn push_packet(out: &mut Vec<u8>, number: u64, end: &PacketEnd) -> Result<(), AllocError>
     ensures { OnOk result (out.new.items ≡ out.old.items ++ packet_line number end.now) }
 {
     push_count(out, "packet ", number)?;
-    push_count(out, verdict_text(end.verdict), u64::from(end.length))?;
-    push_meta(out, end.meta)?;
+    push_end(out, end.verdict, u64::from(end.length), end.meta)?;
     out.push(b'\n')?;
     Ok(())
 }

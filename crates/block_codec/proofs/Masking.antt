@@ -150,7 +150,7 @@ some_read words stored link wide fits has is e = pair_only (IsMaskBlock words) s
     (λ it b. (is ∙ mask_back words it wide b, e ∙ (stands words it b).linked))
 
 -- one more place is filled
-pub filled : (f : ℕ → ℕ) (rows : List ℕ) (place row : ℕ) → place < length rows → row ≡ f place → ((k : ℕ) → k < place → get_or rows k 0 ≡ f k) → (k : ℕ) → k < place + 1 → get_or (set rows place row) k 0 ≡ f k
-filled f rows place row inside e h k low = dite (ℕ_discrete k place)
-    (λ is. ap (λ j. get_or (set rows place row) j 0) is ∙ (get_or-set_same rows place row 0 inside ∙ (e ∙ ap f (sym is))))
-    (λ ne. get_or-set_other rows place k row 0 ne ∙ h k (omega arith))
+pub filled : (f : ℕ → ℕ) (rows : List ℕ) (place number : ℕ) → place < length rows → number ≡ f place → ((k : ℕ) → k < place → get_or rows k 0 ≡ f k) → (k : ℕ) → k < place + 1 → get_or (set rows place number) k 0 ≡ f k
+filled f rows place number inside e h k low = dite (ℕ_discrete k place)
+    (λ is. ap (λ j. get_or (set rows place number) j 0) is ∙ (get_or-set_same rows place number 0 inside ∙ (e ∙ ap f (sym is))))
+    (λ ne. get_or-set_other rows place k number 0 ne ∙ h k (omega arith))

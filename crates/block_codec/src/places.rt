@@ -33,7 +33,7 @@ pub const MASK_ROOTS: u32 = HEAD_ROOTS + 2;
 /// The root of action slot 0, 8,195. That of slot s is s further on.
 pub const ACTION_ROOTS: u32 = MASK_ROOTS + MASK_SLOTS;
 
-/// The root of bucket 0 of row 0, 10,243. That of bucket i of row r is 16 r + i further on.
+/// The root of the first bucket of all rows, 10,243. That of bucket i of row r is 16 r + i further on.
 pub const BUCKET_ROOTS: u32 = ACTION_ROOTS + ACTION_SLOTS;
 
 /// All roots, 141,315.

@@ -1,8 +1,8 @@
 //! The batch.
-ghost use Rattle.std.specs.Prelude.{◌≡◌, ◌+◌, ◌<◌, ◌≤◌, ◌++◌, decimal, IfOk, OnOk};
+ghost use Rattle.std.specs.Prelude.{◌≡◌, ◌++◌, IfOk, OnOk};
 ghost use Rattle.gen_files.specs.Generated.{address_text, action_text, filter_line, batch_text};
 
-use itoa::Buffer;
+use batch_texts::push_number;
 use std::alloc::{AllocError, Global};
 use tc_base::NoMemory;
 
@@ -12,14 +12,7 @@ fn push_text(out: &mut Vec<u8>, text: &str) -> Result<(), AllocError>
     out.extend_from_slice(text.as_bytes())
 }
 
-fn push_number(out: &mut Vec<u8>, number: u32) -> Result<(), AllocError>
-    ensures { OnOk result (out.new.items ≡ out.old.items ++ decimal number) }
-{
-    let mut digits = Buffer::new();
-    push_text(out, digits.format(number))
-}
-
-fn push_address(out: &mut Vec<u8>, index: u32) -> Result<(), AllocError>
+fn push_address(out: &mut Vec<u8>, index: u64) -> Result<(), AllocError>
     ensures { OnOk result (out.new.items ≡ out.old.items ++ address_text index) }
 {
     push_text(out, "10.0.")?;
@@ -28,7 +21,7 @@ fn push_address(out: &mut Vec<u8>, index: u32) -> Result<(), AllocError>
     push_number(out, index % 256)
 }
 
-fn action_text(index: u32) -> &'static str
+fn action_text(index: u64) -> &'static str
     ensures { result.now ≡ action_text index }
 {
     if index % 4 == 3 {
@@ -38,7 +31,7 @@ fn action_text(index: u32) -> &'static str
     }
 }
 
-fn push_filter(out: &mut Vec<u8>, index: u32) -> Result<(), AllocError>
+fn push_filter(out: &mut Vec<u8>, index: u64) -> Result<(), AllocError>
     ensures { OnOk result (out.new.items ≡ out.old.items ++ filter_line index) }
 {
     push_text(
@@ -57,7 +50,7 @@ pub fn gen_batch(alloc: Global, filters: u32) -> Result<Vec<u8>, NoMemory>
 {
     let mut out = Vec::new(alloc);
     push_text(&mut out, "qdisc add dev eth0 clsact\n")?;
-    for index in 0..filters {
+    for index in 0..u64::from(filters) {
         push_filter(&mut out, index)?;
     }
     Ok(out)

@@ -1,23 +1,19 @@
 -- The lines of a round's packets. They are this project's own.
 use Rattle.std.specs.Prelude.{ℕ, List, ◌++◌, length, map, codes}
 use Rattle.std.specs.List.{flat_map, enumerate_from}
-use Rattle.batch_walk.specs.Texts.{counted, verdict_text, meta_text}
+use Rattle.batch_walk.specs.Texts.{counted, end_text}
 use Rattle.run_report.specs.declared.outcomes.Outcome.{Outcome}
 
 -- `packet N worker W`
 unfoldable pub packet_name : ℕ → ℕ → List ℕ
 packet_name number worker = counted (codes "packet ") number ++ counted (codes " worker ") worker
 
--- ` V length L`, and the metadata
-unfoldable pub packet_end : Outcome → List ℕ
-packet_end outcome = counted (verdict_text outcome.verdict) (length outcome.bytes) ++ meta_text outcome.meta
-
 -- ` points`, and the point of each visit in order
 unfoldable pub points_text : List ℕ → List ℕ
 points_text points = codes " points" ++ flat_map (λ (point : ℕ). counted (codes " ") point) points
 
 abbrev pub packet_line : ℕ → Outcome → List ℕ
-packet_line number outcome = packet_name number outcome.worker ++ packet_end outcome ++ points_text outcome.points ++ codes "\n"
+packet_line number outcome = packet_name number outcome.worker ++ end_text outcome.verdict (length outcome.bytes) outcome.meta ++ points_text outcome.points ++ codes "\n"
 
 -- a line for each packet, numbered from 1
 abbrev pub packet_lines : List Outcome → List (List ℕ)

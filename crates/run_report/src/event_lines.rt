@@ -6,7 +6,8 @@ ghost use Rattle.run_report.specs.EventTexts.{edit_place, edit_line, event_line,
 
 use crate::done::push_done;
 use crate::events::{Event, EventKind};
-use crate::pieces::{push_count, push_text};
+use crate::pieces::push_text;
+use batch_walk::push_count;
 use filter_state::Done;
 use std::alloc::AllocError;
 use tc_base::NoMemory;

@@ -1,37 +1,13 @@
 //! The lines of a round's packets.
 ghost use Rattle.std.specs.Prelude.{◌≡◌, ◌++◌, codes, OnOk};
 ghost use Rattle.std.specs.List.{flat_map};
-ghost use Rattle.batch_walk.specs.Texts.{joined, counted, verdict_text, meta_text};
-ghost use Rattle.run_report.specs.PacketTexts.{packet_name, packet_end, points_text, packet_line, packet_lines};
+ghost use Rattle.batch_walk.specs.Texts.{joined, counted};
+ghost use Rattle.run_report.specs.PacketTexts.{packet_name, points_text, packet_line, packet_lines};
 
 use crate::outcomes::Outcome;
-use crate::pieces::{push_count, push_text};
-use batch_texts::push_class;
-use frame_edit::Meta;
+use crate::pieces::push_text;
+use batch_walk::{push_count, push_end};
 use std::alloc::AllocError;
-use walk_rules::Verdict;
-
-fn verdict_text(verdict: Verdict) -> &'static str
-    ensures { result.now ≡ verdict_text verdict }
-{
-    match verdict {
-        Verdict::Pass => " pass length ",
-        Verdict::Drop => " drop length ",
-    }
-}
-
-// Puts the metadata, unless all of it is 0.
-fn push_meta(out: &mut Vec<u8>, meta: Meta) -> Result<(), AllocError>
-    ensures { OnOk result (out.new.items ≡ out.old.items ++ meta_text meta) }
-{
-    if meta.priority == 0 && meta.mark == 0 && meta.queue == 0 {
-        return Ok(());
-    }
-    push_text(out, " priority ")?;
-    push_class(out, meta.priority)?;
-    push_count(out, " mark ", u64::from(meta.mark))?;
-    push_count(out, " queue ", u64::from(meta.queue))
-}
 
 #[tactic(auto, unfolding(crate::specs::PacketTexts::packet_name))]
 fn push_packet_name(out: &mut Vec<u8>, number: u64, worker: u32) -> Result<(), AllocError>
@@ -39,15 +15,6 @@ fn push_packet_name(out: &mut Vec<u8>, number: u64, worker: u32) -> Result<(), A
 {
     push_count(out, "packet ", number)?;
     push_count(out, " worker ", u64::from(worker))
-}
-
-#[tactic(auto, unfolding(crate::specs::PacketTexts::packet_end))]
-fn push_packet_end(out: &mut Vec<u8>, outcome: &Outcome) -> Result<(), AllocError>
-    ensures { OnOk result (out.new.items ≡ out.old.items ++ packet_end outcome.now) }
-{
-    let length = outcome.bytes.as_slice().len() as u64;
-    push_count(out, verdict_text(outcome.verdict), length)?;
-    push_meta(out, outcome.meta)
 }
 
 fn push_each_point(out: &mut Vec<u8>, points: &[u32]) -> Result<(), AllocError>
@@ -71,7 +38,8 @@ fn push_packet(out: &mut Vec<u8>, number: u64, outcome: &Outcome) -> Result<(), 
     ensures { OnOk result (out.new.items ≡ out.old.items ++ packet_line number outcome.now) }
 {
     push_packet_name(out, number, outcome.worker)?;
-    push_packet_end(out, outcome)?;
+    let length = outcome.bytes.as_slice().len() as u64;
+    push_end(out, outcome.verdict, length, outcome.meta)?;
     push_points(out, outcome.points.as_slice())?;
     push_text(out, "\n")
 }
