@@ -1,5 +1,5 @@
 #!/usr/bin/env python3
-"""Makes the captures of the examples gateway, vlan and refused: what comes in, and what is to go out by the rules of docs/FORMATS.md.
+"""Makes the captures of the examples gateway, vlan, refused and overlap: what comes in, and what is to go out by the rules of docs/FORMATS.md.
 
 It shares no code with the program: the packets that pass were picked by hand.
 """
@@ -46,6 +46,15 @@ CAPTURES = {
         (2, "tag 0x6007 udp 10.7.0.1"),
         (3, "tag 0x6007 udp 10.7.0.2"),
         (5, "tag 8 udp 10.7.0.1"),
+    ],
+    "overlap/input.pcap": [
+        (1, "udp 10.0.0.1"),
+        (2, "udp 10.0.0.2"),
+        (3, "udp 10.0.0.1"),
+        (4, "udp 10.0.0.2"),
+    ],
+    "overlap/passed.pcap": [
+        (3, "udp 10.0.0.1"),
     ],
     "refused/input.pcap": [
         (1, "udp 10.0.0.1"),
