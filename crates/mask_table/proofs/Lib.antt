@@ -1,0 +1,4 @@
+pub mod Readings
+pub mod Buckets
+pub mod Looking
+pub mod Limits
