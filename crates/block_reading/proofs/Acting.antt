@@ -23,7 +23,7 @@ use Rattle.block_codec.proofs.Giving.{read_back, equal_words}
 use Rattle.block_codec.proofs.Acting as actions
 use Rattle.block_reading.specs.Read.{link_in, is_within, is_storable, checked, params_of_words, is_action, action_with, action_of_words}
 use Rattle.block_reading.proofs.Testing.{action_has, action_tested}
-use Rattle.block_reading.proofs.Reading.{linked}
+use Rattle.block_reading.proofs.Only.{linked}
 
 the_one : {A : Type 0} (a b : A) → Some a ≡ Some b → a ≡ b
 the_one a b e = ap (λ o. unwrap_or o a) e

@@ -1,3 +1,4 @@
 pub mod Testing
-pub mod Reading
+pub mod Only
 pub mod Acting
+pub mod Values

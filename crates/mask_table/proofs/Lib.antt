@@ -1,4 +1,3 @@
-pub mod Readings
 pub mod Buckets
 pub mod Looking
 pub mod Limits

@@ -28,7 +28,6 @@
 
 mod finding;
 mod law;
-mod reading;
 
 pub use finding::lookup;
 pub use law::MaskLaw;

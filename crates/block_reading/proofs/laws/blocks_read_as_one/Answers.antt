@@ -1,4 +1,4 @@
-use Rattle.block_reading.proofs.Reading.{filter_only, mask_only, table_only}
+use Rattle.block_reading.proofs.Only.{filter_only, mask_only, table_only}
 use Rattle.block_reading.proofs.laws.blocks_read_as_one.Goals as goal
 
 pub returns-clause-filter : goal.returns-clause-filter

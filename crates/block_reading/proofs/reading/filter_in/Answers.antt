@@ -1,5 +1,5 @@
-use Rattle.mask_table.proofs.Readings.{filter_some, filter_none}
-use Rattle.mask_table.proofs.reading.filter_in.Goals as goal
+use Rattle.block_reading.proofs.Values.{filter_some, filter_none}
+use Rattle.block_reading.proofs.reading.filter_in.Goals as goal
 
 pub returns-in-Some : goal.returns-in-Some
 returns-in-Some c = filter_some c.args.words.now (c.in-Some.filter, c.in-Some.field-0-1) c.told-words (c.in-Some.ensures)
