@@ -1,0 +1,68 @@
+//! A reader's visit of a head.
+ghost use Rattle.std.specs.Prelude.{◌≡◌, ◌++◌, ◌∷◌, [], ◌+◌, ◌<◌, ◌≤◌, length, option_map, Some};
+ghost use mathlib.Core.List.{IsPrefix};
+ghost use Rattle.pin_store.specs.Calls.{seen_by, IsInside, IsSeatOf, IsSameReader};
+ghost use Rattle.visit_room.specs.Heads.{last_masks};
+ghost use Rattle.chain_reading.specs.Ways.{block_words};
+ghost use Rattle.miniq_pair.specs.Heads.{told_of, hook_number, head_root, HeadTold};
+
+use crate::law::HeadLaw;
+use block_codec::StoredTable;
+use block_codec::places::HEAD_ROOTS;
+use block_reading::table_in;
+use chain_reading::Walk;
+use pin_store::{Reader, Steps, Store};
+use std::sync::ledger::Ledger;
+use tc_base::{Hook, Point};
+use visit_room::{HeadRoom, MaskName};
+
+// The number of a hook: ingress 0, egress 1.
+pub(crate) fn hook_number(hook: Hook) -> u32
+    ensures { result ≡ hook_number hook }
+{
+    match hook {
+        Hook::Ingress => 0,
+        Hook::Egress => 1,
+    }
+}
+
+// Puts a table behind those that are there.
+fn push_table(into: &mut HeadRoom, table: &StoredTable)
+    requires { length into.old < 256 }
+    ensures { into.new ≡ into.old ++ told_of table.now ∷ [] }
+{
+    into.push(table.serial, table.chain, table.pref, table.protocol);
+    for mask in table.masks.items() {
+        into.push_mask(*mask);
+    }
+}
+
+/// Puts the tables of a hook into the room, in their order, with the slots of their masks, and answers the point from which on they are the hook's.
+///
+/// They are the tables that the hook's root names at the end of what the reader has then seen, which is every commit so far.
+pub fn head<L: HeadLaw, M: Ledger>(
+    reader: &mut Reader<L>,
+    store: &Store<L>,
+    hook: Hook,
+    into: &mut HeadRoom,
+    steps: &mut Steps<M>,
+) -> Point
+    requires store { IsSeatOf store.now reader.old.place }
+    requires shape { (store.now.shape.words ≡ block_words) × (3 ≤ store.now.shape.roots) }
+    requires inside { IsInside reader.old.place }
+    ensures store { IsSeatOf store.now reader.new.place }
+    ensures same { IsSameReader reader.old.place reader.new.place }
+    ensures longer { IsPrefix (seen_by reader.old.place) (seen_by reader.new.place) }
+    ensures told { HeadTold (λ k. L.heads (seen_by reader.new.place) k hook) (seen_by reader.new.place) hook into.new result }
+{
+    into.clear();
+    let (mut walk, stamp) = Walk::along(reader, store, HEAD_ROOTS + hook_number(hook), steps);
+    let mut words = [0; 40];
+    while walk.next_block(reader, store, &mut words, steps) {
+        match table_in(&words) {
+            Some(table) => push_table(into, &table),
+            None => unreachable!(),
+        }
+    }
+    stamp
+}
