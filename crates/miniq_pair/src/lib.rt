@@ -2,7 +2,10 @@
 #![tactic(auto)]
 
 mod law;
+mod pair;
 mod reading;
+mod tables;
 
 pub use law::HeadLaw;
 pub use reading::head;
+pub use tables::StoredTables;

@@ -1,0 +1,15 @@
+pub mod Places
+pub mod Records
+pub mod Chains
+pub mod Meaning
+pub mod Standing
+pub mod Telling
+pub mod Keeping
+pub mod Slots
+pub mod Told
+pub mod Unnumbered
+pub mod Changes
+pub mod Numbered
+pub mod Heads
+pub mod Coming
+pub mod Case
