@@ -4,7 +4,7 @@ use mathlib.Core.List.{append-nil}
 use Rattle.std.proofs.Math.Seq.{drop-append-add}
 use Rattle.store_history.specs.declared.history.Link.{Link}
 use Rattle.hook_law.specs.Records.{StatedFilter}
-use Rattle.hook_law.specs.Chains.{push_some, read_all, bucket_of}
+use Rattle.hook_law.specs.Chains.{in_front, read_all, bucket_of}
 
 module _ {A : Type 0} (read : List ℕ → Option A) where
   -- the first block and the rest of a chain that reads
@@ -12,7 +12,7 @@ module _ {A : Type 0} (read : List ℕ → Option A) where
       → (x : A) × (rest : List A) × (read l.words ≡ Some x) × (read_all read ls ≡ Some rest) × (xs ≡ x ∷ rest)
   read_parts l ls xs e = pick (read l.words) (read_all read ls) refl refl e
     where
-      pick : (o : Option A) (p : Option (List A)) → read l.words ≡ o → read_all read ls ≡ p → push_some o p ≡ Some xs
+      pick : (o : Option A) (p : Option (List A)) → read l.words ≡ o → read_all read ls ≡ p → in_front o p ≡ Some xs
           → (x : A) × (rest : List A) × (read l.words ≡ Some x) × (read_all read ls ≡ Some rest) × (xs ≡ x ∷ rest)
       pick (Some x) (Some rest) p q e = (x, rest, p, q, sym (cc e))
       pick (Some x) None p q e = absurd (cc e)

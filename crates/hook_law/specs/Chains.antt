@@ -1,22 +1,8 @@
 -- What a chain of blocks reads as (this project's own).
 use Rattle.std.specs.Prelude.{ℕ, ◌%◌, ◌==◌, List, [], ◌∷◌, ◌++◌, Option, Some, None, if◌then◌else◌}
 use Rattle.store_history.specs.declared.history.Link.{Link}
+pub use Rattle.store_history.specs.Reads.{in_front, read_all, read_first}
 use Rattle.hook_law.specs.Records.{Slotted, TableRecord, StatedFilter, Codec}
-
-abbrev pub push_some : {A : Type 0} → Option A → Option (List A) → Option (List A)
-push_some (Some x) (Some xs) = Some (x ∷ xs)
-push_some (Some x) None = None
-push_some None rest = None
-
--- what the blocks of a chain read as, where each reads as something
-abbrev pub read_all : {A : Type 0} → (List ℕ → Option A) → List Link → Option (List A)
-read_all read [] = Some []
-read_all read (l ∷ ls) = push_some (read l.words) (read_all read ls)
-
--- what the first block of a chain reads as
-abbrev pub read_first : {A : Type 0} → (List ℕ → Option A) → List Link → Option A
-read_first read [] = None
-read_first read (l ∷ ls) = read l.words
 
 module _ {N : Type 0} where
   abbrev pub masks_in : List (TableRecord N) → List Slotted
