@@ -37,6 +37,6 @@ pub trait MaskLaw: Law {
         → BucketTold stands (λ k. filters h k serial) h n slot serial bucket mask };
 
     // No two filters of a mask have the same key, so an answer of a look-up is the only one.
-    ghost distinct: { (h : List (Commit Self.Entry)) (b k serial one other : ℕ) (f g : StoredFilter) → Self.keeps h b
+    ghost distinct: { (h : List (Commit Self.Entry)) (b k serial one other : ℕ) (f g : StoredFilter) → Self.keeps h b → b ≤ length h
         → slice_get (filters h k serial) one ≡ Some f → slice_get (filters h k serial) other ≡ Some g → f.key.words ≡ g.key.words → one ≡ other };
 }

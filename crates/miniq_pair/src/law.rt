@@ -19,5 +19,5 @@ pub trait HeadLaw: Law {
         → TellsHead (λ k. heads h k hook) (root_of (take n h) (head_root hook)) (length (edits_of (take n h))) };
 
     // A hook has 256 tables at most. That a table has 16 masks at most is its block's own limit.
-    ghost few: { (h : List (Commit Self.Entry)) (k : ℕ) (hook : Hook) → length (heads h k hook) ≤ 256 };
+    ghost few: { (h : List (Commit Self.Entry)) (b k : ℕ) (hook : Hook) → Self.keeps h b → b ≤ length h → length (heads h k hook) ≤ 256 };
 }

@@ -20,7 +20,7 @@ push_table-requires g c =
     let first : seen_by c.loop-walk.reader.place ≡ h = ap (λ m. m.0.seen) v.same in
     let chain_at = subst (λ (s : List (Commit g.row.L-Entry.Denot)). slice_get (root_of s (head_root hook)).chain v.place ≡ Some here.0) first here.1 in
     let reads = read_at table_in (root_of h (head_root hook)).chain end.tables v.place here.0 end.read chain_at in
-    let few = few_tables (λ k. g.L.HeadLaw.heads h k hook) h hook end (λ k. g.L.HeadLaw.few h k hook) in
+    let few = few_tables (λ k. g.L.HeadLaw.heads h k hook) h hook end (λ k. g.met.L.HeadLaw.few h (floor_start c.along-stamp.new.reader.place) k hook a.lawful a.before.recent) in
     let inside = slice_get_within end.tables v.place reads.0 reads.2 in
     let taken = length-take-le v.place end.tables (omega arith) in let mapped = length-map (take v.place end.tables) told_of in let told = ap length (v.told end.tables end.read) in omega arith
 
