@@ -1,5 +1,5 @@
 -- Tables put one behind the other.
-use Rattle.std.proofs.Common.{◌≡◌, ◌∙◌, ℕ, zero, suc, ◌+◌, ◌<◌, ◌≤◌, List, [], ◌∷◌, ◌++◌, length, map, take, slice_get, Some, refl, sym, ap, subst, le_refl, arith}
+use Rattle.std.proofs.Common.{◌≡◌, ◌∙◌, ℕ, ◌+◌, ◌<◌, ◌≤◌, List, [], ◌∷◌, ◌++◌, length, map, take, slice_get, Some, refl, sym, ap, subst, le_refl, arith}
 use Rattle.std.proofs.lemmas.List.{take_all, take_more, map-append, length-map}
 use Rattle.std.proofs.lemmas.Option.{slice_get_within, get_or_from_slice_get}
 use Rattle.tc_base.specs.declared.hook.Hook.{Hook}
@@ -48,6 +48,7 @@ at_end {E} heads h hook tells = record { tables = now.tables; read = now.read; e
   where
     same : take (length h) h ≡ h
     same = take_all (length h) h (le_refl (length h))
+
     now : TellsHead heads (root_of h (head_root hook)) (length (edits_of h))
     now = subst (λ (g : List (Commit E)). TellsHead heads (root_of g (head_root hook)) (length (edits_of g))) same tells
 

@@ -1,5 +1,5 @@
 -- The two places of a hook's tables (this project's own).
-use Rattle.std.specs.Prelude.{ℕ, ◌+◌, ◌-◌, ◌*◌, List, [], ◌∷◌, Some, None}
+use Rattle.std.specs.Prelude.{ℕ, ◌+◌, ◌-◌, ◌*◌, ◌==◌, List, [], ◌∷◌, Option, Some, None, if◌then◌else◌}
 use Rattle.tc_base.specs.declared.hook.Hook.{Hook}
 use Rattle.store_history.specs.declared.history.Link.{Link}
 use Rattle.store_history.specs.declared.history.Commit.{Commit}
@@ -29,3 +29,7 @@ swap_commit hook place tables number edit = record {
   named = record { chain = table_links (first_block_of hook place) tables; stamp = number };
   edit = Some (number, edit);
 }
+
+-- what the table at a place among so many is linked to
+abbrev pub link_at : ℕ → ℕ → ℕ → Option ℕ
+link_at first place count = if place + 1 == count then None else Some (first + place + 1)

@@ -1,15 +1,13 @@
-use Rattle.std.proofs.Common.{◌≡◌, ◌∙◌, [], ◌∷◌, ◌++◌, ℕ, ◌+◌, ◌*◌, ◌<◌, ◌≤◌, List, length, map, take, slice_get, Some, None, refl, sym, ap, subst, le_refl, arith}
+use Rattle.std.proofs.Common.{◌≡◌, ◌∙◌, [], ◌∷◌, ◌++◌, ℕ, ◌+◌, List, length, map, take, slice_get, Some, sym, ap, subst, le_refl, arith}
 use Rattle.std.proofs.lemmas.List.{take_all, length-map, length-take-le}
 use Rattle.std.proofs.lemmas.Option.{slice_get_within}
 use Rattle.store_history.specs.declared.history.Commit.{Commit}
-use Rattle.store_history.specs.History.{root_of, edits_of}
-use Rattle.store_history.specs.Reads.{read_all}
+use Rattle.store_history.specs.History.{root_of}
 use Rattle.pin_store.specs.Calls.{seen_by, floor_start}
-use Rattle.block_codec.specs.declared.table.StoredTable.{StoredTable}
 use Rattle.block_reading.specs.Read.{table_in}
 use Rattle.chain_reading.proofs.Chains.{read_at, read_length}
 use Rattle.miniq_pair.specs.Heads.{head_root, told_of, HeadTold}
-use Rattle.miniq_pair.proofs.Putting.{AtEnd, at_end, few_tables, one_more}
+use Rattle.miniq_pair.proofs.Putting.{at_end, few_tables, one_more}
 use Rattle.miniq_pair.proofs.reading.head.Goals as goal
 
 pub push_table-requires : goal.push_table-requires

@@ -1,4 +1,4 @@
-use Rattle.std.proofs.Common.{◌≡◌, ◌∙◌, [], ◌∷◌, ◌++◌, ℕ, ◌+◌, ◌<◌, length, take, get_or, List, sym, ap, arith}
+use Rattle.std.proofs.Common.{◌∙◌, [], ◌∷◌, ◌++◌, length, take, get_or, List, sym, ap, arith}
 use Rattle.std.proofs.lemmas.List.{take_all, take_more, length-take-le}
 use Rattle.visit_room.specs.declared.names.MaskName.{MaskName}
 use Rattle.visit_room.specs.Heads.{last_masks, with_mask_behind}
@@ -18,7 +18,7 @@ loop-mask-preserved c = let test = c.loop-mask-test.true in let same = c.items-m
     let masks = c.args.table.now.masks in let index = c.loop-mask.mask-index in record {
       told = c.push_mask.ensures ∙ (ap (with_mask_behind _) c.loop-mask.invariant.told ∙ (mask_behind c.args.into.now c.args.table.now (take index masks) _
           ∙ ap (λ (ms : List MaskName). c.args.into.now ++ told_with c.args.table.now ms ∷ [])
-            (ap (λ (ms : List MaskName). take index masks ++ get_or ms index _ ∷ []) same ∙ sym (take_more masks index _ (omega arith)))));
+          (ap (λ (ms : List MaskName). take index masks ++ get_or ms index _ ∷ []) same ∙ sym (take_more masks index _ (omega arith)))));
     }
 
 pub returns : goal.returns
