@@ -1,0 +1,56 @@
+//! The law that the hook's store keeps.
+
+use filter_state::Edit;
+use mask_table::MaskLaw;
+use miniq_pair::HeadLaw;
+use store_history::Law;
+
+/// The law of the hook's store. Nothing is made of this type.
+pub struct HookLaw;
+
+impl Law for HookLaw {
+    ghost use Rattle.hook_law.specs.Keeping.{Keeps};
+    ghost use Rattle.hook_terms.specs.Stated.{hook_meaning};
+    ghost use Rattle.hook_terms.specs.Blocks.{hook_codec};
+    ghost use Rattle.hook_terms.proofs.Opening.{hook_opens, hook_rises};
+
+    type Entry = Edit;
+
+    ghost keeps = { Keeps hook_meaning hook_codec };
+
+    ghost opens = { hook_opens };
+
+    ghost rises = { hook_rises };
+}
+
+impl HeadLaw for HookLaw {
+    ghost use Rattle.hook_terms.specs.Told.{heads_after};
+    ghost use Rattle.hook_terms.proofs.Heading.{heads_told, heads_most};
+
+    ghost heads = { λ h k hook. heads_after h k hook };
+
+    ghost tells = { heads_told };
+
+    ghost few = { heads_most };
+}
+
+impl MaskLaw for HookLaw {
+    ghost use Rattle.hook_terms.specs.Told.{stands_at, words_after, filters_after};
+    ghost use Rattle.hook_terms.proofs.Masking.{slot_stood, mask_told};
+    ghost use Rattle.hook_terms.proofs.Bucketing.{bucket_told};
+    ghost use Rattle.hook_terms.proofs.Matching.{keys_distinct};
+
+    ghost stands = { λ h slot mask. stands_at h slot mask };
+
+    ghost words = { λ h k mask. words_after h k mask };
+
+    ghost filters = { λ h k mask. filters_after h k mask };
+
+    ghost stood = { slot_stood };
+
+    ghost tells = { mask_told };
+
+    ghost buckets = { bucket_told };
+
+    ghost distinct = { keys_distinct };
+}

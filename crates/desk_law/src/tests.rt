@@ -1,0 +1,59 @@
+//! A store with the hook's law, before any commit.
+ghost use Rattle.std.specs.Prelude.{◌≡◌, ◌<◌, ◌^◌};
+ghost use Rattle.pin_store.specs.Calls.{pin_of, IsInside, IsOutside, IsSeatOf};
+
+use crate::law::HookLaw;
+use block_codec::places::{BLOCK_WORDS, BLOCKS, READERS, ROOTS};
+use miniq_pair::head;
+use pin_store::{Reader, Shape, Steps, Store, make_store};
+use std::marker::Brand;
+use std::sync::ledger::{Blank, Ledger};
+use std::test::Fail;
+use tc_base::{Hook, Point};
+use visit_room::HeadRoom;
+
+const SHAPE: Shape = Shape {
+    blocks: BLOCKS,
+    words: BLOCK_WORDS,
+    roots: ROOTS,
+    readers: READERS,
+};
+
+fn visit_as<M: Ledger>(
+    store: &Store<HookLaw>,
+    reader: &mut Reader<HookLaw>,
+    room: &mut HeadRoom,
+    blank: Blank,
+) -> Point
+    requires store { IsSeatOf store.now reader.old.place × (store.now.shape ≡ SHAPE) }
+    requires inside { IsInside reader.old.place }
+    requires blank { (blank.name ≡ M.name) × (blank.parts ≡ M.parts) × (0 < M.parts) }
+    ensures store { IsSeatOf store.now reader.new.place }
+    ensures inside { IsInside reader.new.place }
+{
+    let mut steps = Steps::<M>::new(blank);
+    head(reader, store, Hook::Ingress, room, &mut steps)
+}
+
+// The point of what a reader is told of the ingress hook.
+fn visit(store: &Store<HookLaw>, mut reader: Reader<HookLaw>, room: &mut HeadRoom) -> Point
+    requires store { IsSeatOf store.now reader.place × (store.now.shape ≡ SHAPE) }
+    requires outside { IsOutside reader.place × (pin_of reader.place < 2 ^ 63) }
+{
+    reader.enter(store);
+    let point = visit_as::<Brand>(store, &mut reader, room, Blank::new(1));
+    reader.leave(store);
+    point
+}
+
+#[test]
+fn a_new_hook_has_no_tables(rt: HostRuntime) -> Result<(), Fail> {
+    let mut room = HeadRoom::with_room(rt.alloc())?;
+    let (store, _writer, mut readers) = make_store::<HookLaw>(rt.alloc(), SHAPE)?;
+    if let Some(reader) = readers.take() {
+        let point = visit(&store, reader, &mut room);
+        assert!(rt; point == 0);
+        assert!(rt; room.heads().is_empty());
+    }
+    Ok(())
+}
