@@ -16,7 +16,7 @@ use Rattle.capture_walk.specs.Captures.{outcomes_of, end_of, passed, counts_from
 use Rattle.batch_walk.specs.declared.walk.WalkText.{WalkText}
 use Rattle.batch_walk.specs.declared.walk.BatchWalk.{BatchWalk}
 use Rattle.batch_walk.specs.Texts.{joined, packet_lines, closing_lines, HasCount}
-use Rattle.batch_walk.specs.Walked.{summary_of, text_after, walk_text, told_text, IsWalked}
+use Rattle.batch_walk.specs.Walked.{summary_of, closing_after, text_after, walk_text, closing_text, told_text, IsWalked}
 
 counts_from-length : (serial actions : ℕ) (executed : List Execution) → length (counts_from serial actions executed) ≡ actions
 counts_from-length serial zero executed = refl
@@ -29,26 +29,32 @@ have_counts actions executed counts made told are same all =
     let many : length counts ≡ actions = ap length are ∙ counts_from-length 1 actions executed in
     subst (λ (n : ℕ). All (HasCount n) told) (sym many) (subst (λ (actions_told : List MadeAction). All (HasCount actions) actions_told) (sym same) all)
 
--- the parts of the text, as they were told of a run, are those of its outcome
-pub whole_text : (ran : Ran) (outcomes : List Outcome) (text : WalkText) (accepted : ℕ) (made : List MadeAction) (stop : Option Stop) (ends : List PacketEnd) (counts : List Count)
+-- the closing lines, as they were told of a run, are those of its outcome
+pub closing_told : (ran : Ran) (outcomes : List Outcome) (closing : List ℕ) (accepted : ℕ) (made : List MadeAction) (stop : Option Stop) (ends : List PacketEnd) (counts : List Count)
     → accepted ≡ ran.accepted → made ≡ ran.made → stop ≡ ran.stop → ends ≡ map end_of outcomes → counts ≡ counts_of ran.state.actions_made (executed_in outcomes)
-    → text.stop.items ≡ stop_shown accepted stop → text.ends.items ≡ ends → text.closing.items ≡ joined (closing_lines made counts (summary_of accepted (is_some stop) ends))
-    → told_text text ≡ text_after ran outcomes
-whole_text ran outcomes text accepted made stop ends counts e m s n k front middle back =
-    let first : text.stop.items ≡ stop_shown ran.accepted ran.stop = front ∙ ap (λ (a : ℕ). stop_shown a stop) e ∙ ap (stop_shown ran.accepted) s in
-    let second : text.ends.items ≡ map end_of outcomes = middle ∙ n in
-    let third : text.closing.items ≡ joined (closing_lines ran.made (counts_of ran.state.actions_made (executed_in outcomes)) (summary_of ran.accepted (is_some ran.stop) (map end_of outcomes))) =
+    → closing ≡ joined (closing_lines made counts (summary_of accepted (is_some stop) ends)) → closing ≡ closing_after ran outcomes
+closing_told ran outcomes closing accepted made stop ends counts e m s n k back =
     back ∙ ap (λ (x : List MadeAction). joined (closing_lines x counts (summary_of accepted (is_some stop) ends))) m
     ∙ ap (λ (x : List Count). joined (closing_lines ran.made x (summary_of accepted (is_some stop) ends))) k
     ∙ ap (λ (x : ℕ). joined (closing_lines ran.made (counts_of ran.state.actions_made (executed_in outcomes)) (summary_of x (is_some stop) ends))) e
     ∙ ap (λ (x : Option Stop). joined (closing_lines ran.made (counts_of ran.state.actions_made (executed_in outcomes)) (summary_of ran.accepted (is_some x) ends))) s
-    ∙ ap (λ (x : List PacketEnd). joined (closing_lines ran.made (counts_of ran.state.actions_made (executed_in outcomes)) (summary_of ran.accepted (is_some ran.stop) x))) n in
+    ∙ ap (λ (x : List PacketEnd). joined (closing_lines ran.made (counts_of ran.state.actions_made (executed_in outcomes)) (summary_of ran.accepted (is_some ran.stop) x))) n
+
+-- the parts of the text, as they were told of a run, are those of its outcome
+pub whole_text : (ran : Ran) (outcomes : List Outcome) (text : WalkText) (accepted : ℕ) (stop : Option Stop) (ends : List PacketEnd)
+    → accepted ≡ ran.accepted → stop ≡ ran.stop → ends ≡ map end_of outcomes
+    → text.stop.items ≡ stop_shown accepted stop → text.ends.items ≡ ends → text.closing.items ≡ closing_after ran outcomes
+    → told_text text ≡ text_after ran outcomes
+whole_text ran outcomes text accepted stop ends e s n front middle back =
+    let first : text.stop.items ≡ stop_shown ran.accepted ran.stop = front ∙ ap (λ (a : ℕ). stop_shown a stop) e ∙ ap (stop_shown ran.accepted) s in
+    let second : text.ends.items ≡ map end_of outcomes = middle ∙ n in
     ap (λ (x : List ℕ). x ++ joined (packet_lines 1 text.ends.items) ++ text.closing.items) first
     ∙ ap (λ (x : List PacketEnd). stop_shown ran.accepted ran.stop ++ joined (packet_lines 1 x) ++ text.closing.items) second
-    ∙ ap (λ (x : List ℕ). stop_shown ran.accepted ran.stop ++ joined (packet_lines 1 (map end_of outcomes)) ++ x) third
+    ∙ ap (λ (x : List ℕ). stop_shown ran.accepted ran.stop ++ joined (packet_lines 1 (map end_of outcomes)) ++ x) back
 
 -- what a walk tells of a run is what the batch gives
 pub is_walked : (ran : Ran) (hook : Hook) (packets : List Packet) (walk : BatchWalk) → walk.passed ≡ passed ran.state hook packets
-    → told_text walk.text ≡ text_after ran (outcomes_of ran.state hook packets) → walk.refused ≡ is_some ran.stop → IsWalked ran hook packets walk
-unfolding walk_text
-is_walked ran hook packets walk pass text refused = record { passed = pass; text = text; refused = refused }
+    → told_text walk.text ≡ text_after ran (outcomes_of ran.state hook packets) → walk.text.closing.items ≡ closing_after ran (outcomes_of ran.state hook packets)
+    → walk.refused ≡ is_some ran.stop → IsWalked ran hook packets walk
+unfolding walk_text closing_text
+is_walked ran hook packets walk pass text closing refused = record { passed = pass; text = text; closing = closing; refused = refused }

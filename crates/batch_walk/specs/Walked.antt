@@ -33,15 +33,22 @@ summary_of accepted refused ends = record {
   dropped = length ends - passed_count ends;
 }
 
+-- the lines behind the packets' lines
+abbrev pub closing_after : Ran → List Outcome → List ℕ
+closing_after ran outcomes =
+    joined (closing_lines ran.made (counts_of ran.state.actions_made (executed_in outcomes)) (summary_of ran.accepted (is_some ran.stop) (map end_of outcomes)))
+
 -- the refused line, if there is one, the packets' lines, and the closing ones
 abbrev pub text_after : Ran → List Outcome → List ℕ
-text_after ran outcomes =
-    stop_shown ran.accepted ran.stop ++ joined (packet_lines 1 (map end_of outcomes))
-    ++ joined (closing_lines ran.made (counts_of ran.state.actions_made (executed_in outcomes)) (summary_of ran.accepted (is_some ran.stop) (map end_of outcomes)))
+text_after ran outcomes = stop_shown ran.accepted ran.stop ++ joined (packet_lines 1 (map end_of outcomes)) ++ closing_after ran outcomes
 
 -- THE TEXT OF A WALK: each packet by the plain walk of the state that the batch leaves
 unfoldable pub walk_text : Ran → Hook → List Packet → List ℕ
 walk_text ran hook packets = text_after ran (outcomes_of ran.state hook packets)
+
+-- what such a walk counts alone
+unfoldable pub closing_text : Ran → Hook → List Packet → List ℕ
+closing_text ran hook packets = closing_after ran (outcomes_of ran.state hook packets)
 
 -- the text of these parts
 abbrev pub told_text : WalkText → List ℕ
@@ -51,4 +58,5 @@ told_text text = text.stop.items ++ joined (packet_lines 1 text.ends.items) ++ t
 pub record IsWalked (ran : Ran) (hook : Hook) (packets : List Packet) (walk : BatchWalk) : Type 0 where
   pub passed : walk.passed ≡ passed ran.state hook packets
   pub text : told_text walk.text ≡ walk_text ran hook packets
+  pub closing : walk.text.closing.items ≡ closing_text ran hook packets
   pub refused : walk.refused ≡ is_some ran.stop

@@ -14,7 +14,7 @@ use Rattle.clsact_cli.specs.declared.status.Status.{Status}
 use Rattle.clsact_cli.specs.Requests.{Names}
 use Rattle.clsact_cli.specs.Broken.{IsBroken, most_packets}
 use Rattle.clsact_cli.specs.Ends.{status_after}
-use Rattle.clsact_cli.specs.Output.{output_of}
+use Rattle.batch_walk.specs.Output.{output_of}
 
 -- these bytes stand under the name, where the shelf tells what it holds
 abbrev pub Holds : Option Held → List ℕ → List ℕ → Type 0

@@ -4,7 +4,6 @@ pub mod Command
 pub mod Delivered
 pub mod Ends
 pub mod Holdings
-pub mod Output
 pub mod Parts
 pub mod Ready
 pub mod Requests

@@ -10,7 +10,7 @@ ghost use Rattle.batch_walk.specs.Walked.{walk_text, told_text};
 ghost use Rattle.clsact_cli.specs.Requests.{names_seen, walk_of};
 ghost use Rattle.clsact_cli.specs.Ends.{status_after, IsAllDone};
 ghost use Rattle.clsact_cli.specs.Broken.{most_packets};
-ghost use Rattle.clsact_cli.specs.Output.{output_of};
+ghost use Rattle.batch_walk.specs.Output.{output_of};
 ghost use Rattle.clsact_cli.specs.Holdings.{Gives, most_commands};
 ghost use Rattle.clsact_cli.specs.Causes.{CausedTo};
 ghost use Rattle.clsact_cli.specs.Parts.{InputFails, DeliveryFails};

@@ -3,7 +3,7 @@ use Rattle.std.specs.Prelude.{is_some}
 use Rattle.batch_run.specs.Commands.{commands_in}
 use Rattle.batch_run.proofs.Serials.{all_in_range}
 use Rattle.capture_walk.specs.Captures.{outcomes_of, executed_in}
-use Rattle.batch_walk.proofs.Parts.{have_counts, whole_text, is_walked}
+use Rattle.batch_walk.proofs.Parts.{have_counts, closing_told, whole_text, is_walked}
 use Rattle.batch_walk.proofs.walk.walk_batch.Goals as goal
 
 pub text_of-requires-clause-counts : goal.text_of-requires-clause-counts
@@ -18,11 +18,13 @@ returns-clause-walked c =
     let run = c.in_ok-run.ensures in
     let ran = run.0 in
     let text = c.in_ok-text.ensures in
-    let outcomes = outcomes_of ran.state c.args.hook c.args.packets.now in (
+    let outcomes = outcomes_of ran.state c.args.hook c.args.packets.now in
+    let ends = c.in_ok-ends.ensures.ends ran.state run.1 in
+    let closing = closing_told ran outcomes c.in_ok-text.text.closing.items c.in_ok-run.run'.accepted c.in_ok-run.run'.made.items c.in_ok-run.run'.stop c.in_ok-ends.field-0.ends.items c.deref.result.now
+        run.2 run.3 run.4 ends (c.deref.ensures.value ∙ c.in_ok-ends.ensures.counts ran.state run.1) text.closing in (
       ran,
       run.5,
       is_walked ran c.args.hook c.args.packets.now _ (c.in_ok-ends.ensures.passed ran.state run.1)
-          (whole_text ran outcomes c.in_ok-text.text c.in_ok-run.run'.accepted c.in_ok-run.run'.made.items c.in_ok-run.run'.stop c.in_ok-ends.field-0.ends.items c.deref.result.now run.2 run.3 run.4 (c.in_ok-ends.ensures.ends ran.state run.1)
-          (c.deref.ensures.value ∙ c.in_ok-ends.ensures.counts ran.state run.1) text.stop text.ends text.closing)
-          (c.is_some.ensures ∙ ap is_some run.4),
+          (whole_text ran outcomes c.in_ok-text.text c.in_ok-run.run'.accepted c.in_ok-run.run'.stop c.in_ok-ends.field-0.ends.items run.2 run.4 ends text.stop text.ends closing)
+          closing (c.is_some.ensures ∙ ap is_some run.4),
     )

@@ -1,4 +1,4 @@
--- The capture that a walk puts (this project's own).
+-- The capture that a walk leaves (this project's own).
 use Rattle.tc_base.specs.declared.hook.Hook.{Hook}
 use Rattle.pcap_io.specs.declared.capture.Capture.{Capture}
 use Rattle.filter_state.specs.States.{State}
