@@ -2,6 +2,7 @@
 use Rattle.std.specs.Prelude.{◌≡◌, ℕ, List, [], ◌∷◌, ◌++◌, is_some, codes, false}
 use Rattle.tc_base.specs.declared.hook.Hook.TheVariants.{Ingress}
 use Rattle.pcap_io.specs.declared.capture.Capture.{Capture}
+use Rattle.pcap_io.specs.declared.capture.Packet.{Packet}
 use Rattle.pcap_io.specs.Written.{capture_bytes}
 use Rattle.filter_state.specs.States.{no_state}
 use Rattle.gen_files.specs.Generated.{batch_text, packets_of, job_text}
@@ -9,11 +10,15 @@ use Rattle.batch_run.specs.Commands.{commands_of}
 use Rattle.batch_run.specs.Runs.{Ran, IsRun}
 use Rattle.batch_walk.specs.Walked.{closing_text}
 use Rattle.batch_walk.specs.Output.{output_of}
-use Rattle.gen_run.specs.declared.generate.Generated.{Generated}
+use Rattle.gen_run.specs.declared.workload.Generated.{Generated}
 
--- the capture: the lowest byte first, and microseconds
+-- a capture of packets: the lowest byte first, and microseconds
+abbrev pub plain_capture : List Packet → Capture
+plain_capture packets = record { big = false; nanos = false; packets = packets }
+
+-- the capture that is made
 abbrev pub capture_of : ℕ → Capture
-capture_of filters = record { big = false; nanos = false; packets = packets_of filters }
+capture_of filters = plain_capture (packets_of filters)
 
 -- what the generated batch comes to
 abbrev pub IsRunOf : ℕ → Ran → Type 0

@@ -7,6 +7,6 @@
 //! Each call keeps nothing. Any thread may call it. Not promised: that memory suffices.
 #![tactic(auto)]
 
-mod generate;
+mod workload;
 
-pub use generate::{Generated, few_commands, generate};
+pub use workload::{Generated, few_commands, generate};
