@@ -4,6 +4,7 @@ pub mod Command
 pub mod Delivered
 pub mod Ends
 pub mod Holdings
+pub mod Made
 pub mod Parts
 pub mod Ready
 pub mod Requests
