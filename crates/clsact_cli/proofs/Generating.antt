@@ -1,6 +1,6 @@
 -- What `gen` put and wrote is what its definition says.
-use Rattle.std.proofs.Common.{◌≡◌, ◌⊎◌, inl, inr, ◌∙◌, ℕ, List, [], ◌∷◌, ◌++◌, Option, refl, ap, subst}
-use Rattle.std.specs.Prelude.{is_some, codes}
+use Rattle.std.proofs.Common.{◌≡◌, ◌⊎◌, inl, inr, ◌∙◌, ℕ, List, Option, refl, ap, subst}
+use Rattle.std.specs.Prelude.{is_some}
 use Rattle.tc_base.specs.Outside.{Held, Appended, AppendsUpTo}
 use Rattle.filter_state.specs.States.{no_state}
 use Rattle.gen_files.specs.Generated.{batch_text, job_text}
@@ -9,7 +9,7 @@ use Rattle.batch_run.specs.Commands.{commands_of}
 use Rattle.batch_run.specs.Runs.{Ran}
 use Rattle.batch_run.proofs.Outcomes.{some_ran}
 use Rattle.gen_run.specs.declared.workload.Generated.{Generated}
-use Rattle.gen_run.specs.Generated.{MadeFile, IsRunOf, IsGenerated, capture_of, output_bytes, made_files, made_text}
+use Rattle.gen_run.specs.Generated.{MadeFile, files_of, IsRunOf, IsGenerated, capture_of, made_files, made_text}
 use Rattle.clsact_cli.specs.declared.status.Status.{Status}
 use Rattle.clsact_cli.specs.Command.{Gen}
 use Rattle.clsact_cli.specs.Ends.{status_after}
@@ -18,15 +18,7 @@ use Rattle.clsact_cli.specs.Work.{Ends}
 use Rattle.clsact_cli.specs.Delivered.{Made, MadeSoFar}
 use Rattle.clsact_cli.proofs.Making.{nothing_put}
 
--- four files of these bytes
-abbrev files_of : List ℕ → List ℕ → List ℕ → List ℕ → List ℕ → List MadeFile
-files_of front batch capture job output =
-    record { name = front ++ codes ".tc"; bytes = batch }
-    ∷ record { name = front ++ codes ".pcap"; bytes = capture }
-    ∷ record { name = front ++ codes ".job"; bytes = job }
-    ∷ record { name = front ++ codes ".out.pcap"; bytes = output }
-    ∷ []
-
+-- what was made is what the definition says, file by file
 same_files : (count : ℕ) (front : List ℕ) (ran : Ran) (made : Generated) → IsGenerated count front ran made → files_in front made ≡ made_files count front ran
 same_files count front ran made is =
     ap (λ (x : List ℕ). files_of front x made.capture.items made.job.items made.output.items) is.batch

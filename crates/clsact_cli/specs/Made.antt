@@ -1,8 +1,8 @@
 -- Files that are put one after the other.
-use Rattle.std.specs.Prelude.{◌≡◌, ◌≢◌, ℕ, ◌+◌, List, [], ◌∷◌, ◌++◌, take, Option, Some, None, codes}
+use Rattle.std.specs.Prelude.{◌≡◌, ◌≢◌, ℕ, ◌+◌, List, [], ◌∷◌, take, Option, Some, None}
 use Rattle.tc_base.specs.Outside.{Held, Stands}
 use Rattle.gen_run.specs.declared.workload.Generated.{Generated}
-use Rattle.gen_run.specs.Generated.{MadeFile}
+use Rattle.gen_run.specs.Generated.{MadeFile, files_of}
 
 -- each of the files stands, where the shelf tells what it holds
 abbrev pub AllStand : Option Held → List MadeFile → Type 0
@@ -30,9 +30,4 @@ pub record PutUpTo (held_old held_new : Option Held) (files : List MadeFile) : T
 
 -- the files of a workload, as its parts give them
 abbrev pub files_in : List ℕ → Generated → List MadeFile
-files_in front made =
-    record { name = front ++ codes ".tc"; bytes = made.batch.items }
-    ∷ record { name = front ++ codes ".pcap"; bytes = made.capture.items }
-    ∷ record { name = front ++ codes ".job"; bytes = made.job.items }
-    ∷ record { name = front ++ codes ".out.pcap"; bytes = made.output.items }
-    ∷ []
+files_in front made = files_of front made.batch.items made.capture.items made.job.items made.output.items

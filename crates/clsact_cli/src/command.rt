@@ -184,7 +184,7 @@ impl<'a> Command<'a> {
         }
     }
 
-    /// Whether it runs a job, and so wants threads.
+    /// Whether it runs a job, and so may start threads.
     pub fn runs_job(&self) -> bool
         ensures { result ≡ runs_job (request self.now) }
     {

@@ -33,14 +33,18 @@ pub record MadeFile : Type 0 where
   pub name : List ℕ
   pub bytes : List ℕ
 
--- THE FILES THAT ARE MADE, in this order: the batch, the capture, the job, and what the job's run puts
-abbrev pub made_files : ℕ → List ℕ → Ran → List MadeFile
-made_files filters front ran =
-    record { name = front ++ codes ".tc"; bytes = batch_text filters }
-    ∷ record { name = front ++ codes ".pcap"; bytes = capture_bytes (capture_of filters) }
-    ∷ record { name = front ++ codes ".job"; bytes = job_text front }
-    ∷ record { name = front ++ codes ".out.pcap"; bytes = output_bytes filters ran }
+-- a batch, a capture, a job and its output as files, in this order, whose names begin with a front
+abbrev pub files_of : List ℕ → List ℕ → List ℕ → List ℕ → List ℕ → List MadeFile
+files_of front batch capture job output =
+    record { name = front ++ codes ".tc"; bytes = batch }
+    ∷ record { name = front ++ codes ".pcap"; bytes = capture }
+    ∷ record { name = front ++ codes ".job"; bytes = job }
+    ∷ record { name = front ++ codes ".out.pcap"; bytes = output }
     ∷ []
+
+-- THE FILES THAT ARE MADE: the batch, the capture, the job, and what the job's run puts
+abbrev pub made_files : ℕ → List ℕ → Ran → List MadeFile
+made_files filters front ran = files_of front (batch_text filters) (capture_bytes (capture_of filters)) (job_text front) (output_bytes filters ran)
 
 -- THE TEXT: the counters of the job's run, the summary, `end`
 abbrev pub made_text : ℕ → Ran → List ℕ
