@@ -1,5 +1,5 @@
 //! The command `gen`.
-ghost use Rattle.std.specs.Prelude.{◌≡◌, ◌⊎◌, ◌≤◌, ◌++◌, string_bytes, IfOk, IfErr, OnOk, codes};
+ghost use Rattle.std.specs.Prelude.{◌≡◌, ◌⊎◌, ◌≤◌, ◌++◌, string_bytes, IfOk, IfErr, OnOk};
 ghost use Rattle.tc_base.specs.Outside.{Appended, AppendsUpTo, OthersStay, Stands};
 ghost use Rattle.clsact_cli.specs.Command.{Gen};
 ghost use Rattle.clsact_cli.specs.Ends.{status_after, IsAllDone};
