@@ -4,7 +4,11 @@ use Rattle.std.specs.Prelude.{is_some}
 use Rattle.tc_base.specs.Outside.{Held}
 use Rattle.tc_base.specs.declared.hook.Hook.{Hook}
 use Rattle.pcap_io.specs.declared.capture.Capture.{Capture}
+use Rattle.filter_state.specs.States.{no_state}
+use Rattle.batch_run.specs.Commands.{commands_of}
 use Rattle.batch_run.specs.Runs.{Ran}
+use Rattle.batch_run.proofs.Outcomes.{one_ran}
+use Rattle.gen_files.specs.Generated.{batch_text}
 use Rattle.clsact_cli.specs.declared.status.InputKind.{InputKind}
 use Rattle.clsact_cli.specs.declared.status.InputKind.TheVariants as kinds
 use Rattle.clsact_cli.specs.declared.status.Status.{Status}
@@ -107,6 +111,22 @@ capture_stands held b c status read (inl h) = (h.1.1.bytes, h.1.1.held)
 capture_stands held b c status read (inr (inl h)) = absurd (read_within held b status read h)
 capture_stands held b c status read (inr (inr h)) = (h.3.bytes, h.3.held)
 
+-- ---- gen: what it makes lets it end
+gen_due : (told : Option Held) (count : ℕ) (front : List ℕ) (status : Status) → DueTo told (Gen count front) status → Ends told (Gen count front) status
+gen_due told count front statuses.Done due = due
+gen_due told count front (statuses.LinesRefused n) due = due
+gen_due told count front (statuses.BadInput name place kind) due = absurd due
+gen_due told count front (statuses.NotBuilt name place) due = absurd due
+gen_due told count front (statuses.ReadFault name) due = absurd due
+gen_due told count front (statuses.NotLawful line) due = absurd due
+gen_due told count front statuses.Usage due = absurd due
+gen_due told count front statuses.WriteFault due = absurd due
+gen_due told count front statuses.NoMemory due = absurd due
+
+one_gen : (told : Option Held) (count : ℕ) (front : List ℕ) (x y : Status) → Ends told (Gen count front) x → Ends told (Gen count front) y → x ≡ y
+one_gen told count front x y h k =
+    h.2 ∙ ap (λ (r : Ran). status_after (is_some r.stop)) (one_ran no_state 0 (commands_of (batch_text count)) h.0 k.0 h.1 k.1) ∙ sym k.2
+
 -- ---- the commands that are not built
 stopped_due : (told : Option Held) (r : Request) → ((status : Status) → Ends told r status → ⊥) → ((name : List ℕ) (place : ℕ) (kind : InputKind) → Breaks told r name place kind → ⊥)
     → ((name : List ℕ) (place : ℕ) → Stops told r name place → (name ≡ verb_of r) × (place ≡ 0)) → (status : Status) → DueTo told r status → status ≡ statuses.NotBuilt (verb_of r) 0
@@ -133,9 +153,7 @@ one_due held (Run j) x y h k =
 one_due held (Recheck j p) x y h k =
     let is = stopped_due (Some held) (Recheck j p) (λ s e. e) (λ n p w e. e) (λ n p e. e) in
     is x h ∙ sym (is y k)
-one_due held (Gen n p) x y h k =
-    let is = stopped_due (Some held) (Gen n p) (λ s e. e) (λ n p w e. e) (λ n p e. e) in
-    is x h ∙ sym (is y k)
+one_due held (Gen n p) x y h k = one_gen (Some held) n p x y (gen_due (Some held) n p x h) (gen_due (Some held) n p y k)
 
 -- a file whose reading is told stands, where some answer is due
 pub stands : (held : Held) (r : Request) (name : List ℕ) (status : Status) → IsRead (Some held) r name → DueTo (Some held) r status → (bytes : List ℕ) × Holds (Some held) name bytes

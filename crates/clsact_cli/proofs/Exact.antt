@@ -6,6 +6,7 @@ use Rattle.filter_state.specs.States.{no_state}
 use Rattle.batch_run.specs.Commands.{commands_of}
 use Rattle.batch_run.specs.Runs.{Ran}
 use Rattle.batch_run.proofs.Outcomes.{some_ran}
+use Rattle.gen_files.specs.Generated.{batch_text}
 use Rattle.clsact_cli.specs.declared.status.Status.{Status}
 use Rattle.clsact_cli.specs.declared.status.Status.TheVariants as statuses
 use Rattle.clsact_cli.specs.Command.{Request, Walk, Show, Run, Recheck, Gen}
@@ -87,14 +88,16 @@ owes told (Walk hook b c o) ready =
     batch_owes told (Walk hook b c o) (is_some has.0.stop) ((has.0, has.1, refl), (ready.packets, ready.capture_stands))
 owes told (Run j) ready = absurd ready
 owes told (Recheck j p) ready = absurd ready
-owes told (Gen n p) ready = absurd ready
+owes told (Gen count front) ready =
+    let has = some_ran no_state 0 (commands_of (batch_text count)) in
+    batch_owes told (Gen count front) (is_some has.0.stop) (has.0, has.1, refl)
 
 tells : (told : Option Held) (r : Request) → IsReady told r → IsSome told
 tells told (Show b) ready = subst (λ (o : Option Held). IsSome o) (sym ready.tells) refl
 tells told (Walk hook b c o) ready = subst (λ (o : Option Held). IsSome o) (sym ready.tells) refl
 tells told (Run j) ready = absurd ready
 tells told (Recheck j p) ready = absurd ready
-tells told (Gen n p) ready = absurd ready
+tells told (Gen count front) ready = ready
 
 -- where no count rose, only memory keeps an answer from being the one that is due
 quiet : {S O : Type 0} (read_faults : S → ℕ) (write_faults : S → ℕ) (faults : O → ℕ) (old new : S) (sink_old sink_new : O) (result : Status)

@@ -1,5 +1,7 @@
 pub mod Due
 pub mod Exact
+pub mod Generating
 pub mod Lines
+pub mod Making
 pub mod Readings
 pub mod Writing

@@ -60,9 +60,3 @@ FailedOutside read_faults write_faults faults old new sink_old sink_new status =
 abbrev pub IsNotBuilt : Status → Type 0
 IsNotBuilt (statuses.NotBuilt name place) = Unit {0}
 IsNotBuilt status = ⊥
-
--- a command that runs a job is told as not built, by its own word, unless memory ran out
-abbrev pub IsJobRefused : Option Request → Status → Type 0
-IsJobRefused request (statuses.NotBuilt name place) = IsSomeAnd request (λ r. Stops None r name place)
-IsJobRefused request statuses.NoMemory = Unit {0}
-IsJobRefused request status = ⊥

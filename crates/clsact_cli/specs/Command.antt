@@ -71,7 +71,7 @@ verb_of (Run job) = codes "run"
 verb_of (Recheck job report) = codes "recheck"
 verb_of (Gen count front) = codes "gen"
 
--- a command that runs a job, and so wants threads
+-- a command that runs a job, and so may start threads
 abbrev pub runs_job : Request → Bool
 runs_job (Walk hook batch capture output) = false
 runs_job (Show batch) = false

@@ -4,12 +4,14 @@ use Rattle.tc_base.specs.Outside.{Held, Appended, AppendsUpTo, OthersStay, Stand
 use Rattle.tc_base.specs.declared.hook.Hook.{Hook}
 use Rattle.batch_run.specs.Runs.{Ran}
 use Rattle.batch_show.specs.Shown.{shown}
+use Rattle.gen_run.specs.Generated.{IsRunOf, made_files, made_text}
 use Rattle.clsact_cli.specs.declared.status.Status.{Status}
 use Rattle.clsact_cli.specs.declared.status.Status.TheVariants as statuses
-use Rattle.clsact_cli.specs.Command.{Request, Walk, Show}
+use Rattle.clsact_cli.specs.Command.{Request, Walk, Show, Gen}
 use Rattle.clsact_cli.specs.Requests.{Names}
 use Rattle.clsact_cli.specs.Ends.{status_after}
 use Rattle.clsact_cli.specs.Holdings.{HasRun, Gives}
+use Rattle.clsact_cli.specs.Made.{AllStand, AllElseStay, PutUpTo}
 
 -- the text that the held batch gives was written, whole, and nothing put
 pub record Showed (held_old held_new : Option Held) (written_old written_new : Option (List ℕ)) (name : List ℕ) (status : Status) : Type 0 where
@@ -27,11 +29,21 @@ pub record Walked (held_old held_new : Option Held) (written_old written_new : O
   pub put : Stands held_new names.output output
   pub wrote : Appended written_old written_new text
 
--- ALL WAS PUT AND WRITTEN that the held files give
+-- the four files of so many filters stand, every other name holds what it held, and the text was written
+pub record Made (held_old held_new : Option Held) (written_old written_new : Option (List ℕ)) (count : ℕ) (front : List ℕ) (status : Status) : Type 0 where
+  pub ran : Ran
+  pub runs : IsRunOf count ran
+  pub ended : status ≡ status_after (is_some ran.stop)
+  pub stand : AllStand held_new (made_files count front ran)
+  pub others : AllElseStay held_old held_new (made_files count front ran)
+  pub wrote : Appended written_old written_new (made_text count ran)
+
+-- ALL WAS PUT AND WRITTEN that the words and the held files give
 abbrev pub DeliveredTo : Option Held → Option Held → Option (List ℕ) → Option (List ℕ) → Request → Status → Type 0
 DeliveredTo held_old held_new written_old written_new (Show b) status = Showed held_old held_new written_old written_new b status
 DeliveredTo held_old held_new written_old written_new (Walk hook b c o) status =
     Walked held_old held_new written_old written_new hook (record { batch = b; capture = c; output = o }) status
+DeliveredTo held_old held_new written_old written_new (Gen count front) status = Made held_old held_new written_old written_new count front status
 DeliveredTo held_old held_new written_old written_new request status = ⊥
 
 abbrev pub DeliveredIn : Option Held → Option Held → Option (List ℕ) → Option (List ℕ) → Option Request → Status → Type 0
@@ -69,12 +81,20 @@ pub record WalkedSoFar (held_old held_new : Option Held) (written_old written_ne
   pub others : OthersStay held_old held_new names.output
   pub front : (written_new ≡ written_old) ⊎ WroteFront held_old held_new written_old written_new hook names
 
+-- how far `gen` came, however it ended: its files are put one after the other, and nothing is written before all four stand
+pub record MadeSoFar (held_old held_new : Option Held) (written_old written_new : Option (List ℕ)) (count : ℕ) (front : List ℕ) : Type 0 where
+  pub ran : Ran
+  pub runs : IsRunOf count ran
+  pub put : PutUpTo held_old held_new (made_files count front ran)
+  pub front_written : (written_new ≡ written_old) ⊎ (AllStand held_new (made_files count front ran) × AppendsUpTo written_old written_new (made_text count ran))
+
 -- HOW FAR A RUN CAME, however it ended
 abbrev pub CameSoFar : Option Held → Option Held → Option (List ℕ) → Option (List ℕ) → Request → Type 0
 CameSoFar held_old held_new written_old written_new (Show b) =
     (held_new ≡ held_old) × ((written_new ≡ written_old) ⊎ ShowedFront held_old written_old written_new b)
 CameSoFar held_old held_new written_old written_new (Walk hook b c o) =
     WalkedSoFar held_old held_new written_old written_new hook (record { batch = b; capture = c; output = o })
+CameSoFar held_old held_new written_old written_new (Gen count front) = MadeSoFar held_old held_new written_old written_new count front
 CameSoFar held_old held_new written_old written_new request = LeavesAll held_old held_new written_old written_new
 
 -- the same for any words

@@ -1,6 +1,6 @@
 -- Why the parts of a run answer nothing.
 use Rattle.std.specs.Prelude.{◌≡◌, ◌⊎◌, ℕ, List, Option, Some}
-use Rattle.tc_base.specs.Outside.{Held}
+use Rattle.tc_base.specs.Outside.{Held, Rose}
 use Rattle.batch_run.specs.Commands.{Command, line_past}
 use Rattle.clsact_cli.specs.declared.status.InputKind.TheVariants as kinds
 use Rattle.clsact_cli.specs.declared.status.Status.{Status}
@@ -36,6 +36,12 @@ InputFails held read_faults failed_name old new names (statuses.BadInput name pl
     BatchBreaks (held old) names.batch name place kind ⊎ ((name ≡ names.capture) × HasCommands (held old) names.batch × HasBreak (held old) names.capture place kind)
 InputFails held read_faults failed_name old new names statuses.NoMemory = Unit {0}
 InputFails held read_faults failed_name old new names status = ⊥
+
+-- why a file was not put
+abbrev pub PutFails : {S : Type 0} → (S → ℕ) → S → S → Status → Type 0
+PutFails write_faults old new statuses.WriteFault = Rose (write_faults old) (write_faults new)
+PutFails write_faults old new statuses.NoMemory = Unit {0}
+PutFails write_faults old new status = ⊥
 
 -- why not all was put and written
 abbrev pub DeliveryFails : {S O : Type 0} → (S → ℕ) → (O → ℕ) → S → S → O → O → Status → Type 0

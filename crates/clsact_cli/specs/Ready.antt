@@ -1,8 +1,8 @@
 -- The input of a request that is held and well formed, within the limits.
-use Rattle.std.specs.Prelude.{◌≡◌, ℕ, List, Option, Some}
+use Rattle.std.specs.Prelude.{◌≡◌, ℕ, List, Option, Some, IsSome}
 use Rattle.tc_base.specs.Outside.{Held}
 use Rattle.pcap_io.specs.declared.capture.Capture.{Capture}
-use Rattle.clsact_cli.specs.Command.{Request, Walk, Show}
+use Rattle.clsact_cli.specs.Command.{Request, Walk, Show, Gen}
 use Rattle.clsact_cli.specs.Holdings.{HasBatch, HasCapture}
 
 -- the shelf tells what it holds, and the batch stands
@@ -21,7 +21,9 @@ pub record WalkReady (told : Option Held) (batch capture : List ℕ) : Type 0 wh
   pub packets : Capture
   pub capture_stands : HasCapture told capture packets
 
+-- `gen` has no input: there it is enough that the shelf tells what it holds
 abbrev pub IsReady : Option Held → Request → Type 0
 IsReady told (Show b) = ShowReady told b
 IsReady told (Walk hook b c o) = WalkReady told b c
+IsReady told (Gen count front) = IsSome told
 IsReady told request = ⊥

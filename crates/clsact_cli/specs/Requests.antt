@@ -1,5 +1,5 @@
 -- A command, as what it asks for.
-use Rattle.std.specs.Prelude.{ℕ, List}
+use Rattle.std.specs.Prelude.{ℕ, ◌≤◌, List}
 use Rattle.tc_base.specs.declared.hook.Hook.{Hook}
 use Rattle.clsact_cli.specs.declared.command.Command.{Command}
 use Rattle.clsact_cli.specs.declared.command.Command.TheVariants as commands
@@ -12,6 +12,11 @@ request (commands.Show b) = Show b.now
 request (commands.Run job) = Run job.now
 request (commands.Recheck job report) = Recheck job.now report.now
 request (commands.Gen count front) = Gen count front.now
+
+-- `gen` is asked for 1 to 4,096 filters
+abbrev pub HasFewFilters : Command → Type 0
+HasFewFilters (commands.Gen count front) = (1 ≤ count) × (count ≤ 4096)
+HasFewFilters command = Unit {0}
 
 -- the files of a walk
 pub record Names : Type 0 where

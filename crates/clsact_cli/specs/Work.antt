@@ -1,4 +1,5 @@
 -- How the files that a request names let it end. A request's input files have an order: a later one counts where those before it are held and well formed.
+-- `gen` reads no file: what it makes lets it end.
 use Rattle.std.specs.Prelude.{◌≡◌, ◌⊎◌, ℕ, List, Option, is_some}
 use Rattle.tc_base.specs.Outside.{Held}
 use Rattle.pcap_io.specs.declared.capture.Capture.{Capture}
@@ -6,7 +7,8 @@ use Rattle.batch_run.specs.Runs.{Ran}
 use Rattle.clsact_cli.specs.declared.status.InputKind.{InputKind}
 use Rattle.clsact_cli.specs.declared.status.InputKind.TheVariants as kinds
 use Rattle.clsact_cli.specs.declared.status.Status.{Status}
-use Rattle.clsact_cli.specs.Command.{Request, Walk, Show, verb_of}
+use Rattle.gen_run.specs.Generated.{IsRunOf}
+use Rattle.clsact_cli.specs.Command.{Request, Walk, Show, Gen, verb_of}
 use Rattle.clsact_cli.specs.Ends.{status_after}
 use Rattle.clsact_cli.specs.Holdings.{HasRun, HasTooManyLines, HasCommands, HasCapture, HasBreak}
 
@@ -18,6 +20,7 @@ BatchEnds told batch status = (ran : Ran) × HasRun told batch ran × (status �
 abbrev pub Ends : Option Held → Request → Status → Type 0
 Ends told (Show b) status = BatchEnds told b status
 Ends told (Walk hook b c o) status = BatchEnds told b status × ((capture : Capture) × HasCapture told c capture)
+Ends told (Gen count front) status = (ran : Ran) × IsRunOf count ran × (status ≡ status_after (is_some ran.stop))
 Ends told request status = ⊥
 
 -- the batch under its name has too many commands
@@ -40,4 +43,5 @@ IsRead told request name = ⊥
 abbrev pub Stops : Option Held → Request → List ℕ → ℕ → Type 0
 Stops told (Show b) name place = ⊥
 Stops told (Walk hook b c o) name place = ⊥
+Stops told (Gen count front) name place = ⊥
 Stops told request name place = (name ≡ verb_of request) × (place ≡ 0)

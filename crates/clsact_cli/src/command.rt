@@ -1,8 +1,8 @@
-ghost use Rattle.std.specs.Prelude.{◌≡◌};
+ghost use Rattle.std.specs.Prelude.{◌≡◌, ◌≤◌, IfSome};
 ghost use Rattle.std.specs.List.{list_all};
 ghost use Rattle.std.specs.Option.{option_map};
 ghost use Rattle.clsact_cli.specs.Command.{texts, hook_of, is_name_byte, is_front, count_of, gen_request, request_of_one, request_of_two, request_of_four, request_of, verb_of, runs_job, asks_for_job};
-ghost use Rattle.clsact_cli.specs.Requests.{request};
+ghost use Rattle.clsact_cli.specs.Requests.{request, HasFewFilters};
 
 use tc_base::Hook;
 use tc_words::read_decimal;
@@ -51,7 +51,8 @@ fn hook_named(word: &str) -> Option<Hook>
 }
 
 fn count_named(word: &str) -> Option<u32>
-    ensures { result ≡ count_of word.now }
+    ensures value { result ≡ count_of word.now }
+    ensures within { IfSome result (λ count. (1 ≤ count) × (count ≤ 4096)) }
 {
     match read_decimal(word.as_bytes(), 4096) {
         None => None,
@@ -85,7 +86,8 @@ fn may_begin_names(word: &str) -> bool
 }
 
 fn with_one<'a>(verb: &str, name: &'a str) -> Option<Command<'a>>
-    ensures { option_map request result ≡ request_of_one verb.now name.now }
+    ensures value { option_map request result ≡ request_of_one verb.now name.now }
+    ensures few { IfSome result HasFewFilters }
 {
     match verb {
         "show" => Some(Command::Show { batch: name }),
@@ -95,7 +97,9 @@ fn with_one<'a>(verb: &str, name: &'a str) -> Option<Command<'a>>
 }
 
 fn gen_command<'a>(count: Option<u32>, front: &'a str) -> Option<Command<'a>>
-    ensures { option_map request result ≡ gen_request count front.now }
+    requires { IfSome count (λ count. (1 ≤ count) × (count ≤ 4096)) }
+    ensures value { option_map request result ≡ gen_request count front.now }
+    ensures few { IfSome result HasFewFilters }
 {
     match count {
         None => None,
@@ -110,7 +114,8 @@ fn gen_command<'a>(count: Option<u32>, front: &'a str) -> Option<Command<'a>>
 }
 
 fn with_two<'a>(verb: &str, first: &'a str, second: &'a str) -> Option<Command<'a>>
-    ensures { option_map request result ≡ request_of_two verb.now first.now second.now }
+    ensures value { option_map request result ≡ request_of_two verb.now first.now second.now }
+    ensures few { IfSome result HasFewFilters }
 {
     match verb {
         "recheck" => Some(Command::Recheck {
@@ -129,7 +134,8 @@ fn with_four<'a>(
     capture: &'a str,
     output: &'a str,
 ) -> Option<Command<'a>>
-    ensures { option_map request result ≡ request_of_four verb.now hook.now batch.now capture.now output.now }
+    ensures value { option_map request result ≡ request_of_four verb.now hook.now batch.now capture.now output.now }
+    ensures few { IfSome result HasFewFilters }
 {
     if verb != "walk" {
         return None;
@@ -147,7 +153,8 @@ fn with_four<'a>(
 
 /// The command that these words are, without the program's own name, or None where they are none. It takes no memory.
 pub fn command_of(words: &[String]) -> Option<Command<'_>>
-    ensures { option_map request result ≡ request_of (texts words.now) }
+    ensures value { option_map request result ≡ request_of (texts words.now) }
+    ensures few { IfSome result HasFewFilters }
 {
     match words {
         [verb, name] => with_one(verb.as_str(), name.as_str()),
@@ -177,7 +184,7 @@ impl<'a> Command<'a> {
         }
     }
 
-    /// Whether it runs a job, and so wants threads.
+    /// Whether it runs a job, and so may start threads.
     pub fn runs_job(&self) -> bool
         ensures { result ≡ runs_job (request self.now) }
     {

@@ -5,11 +5,13 @@
 //! in `specs/` give. `plain` is the part that runs no job, and always returns.
 //!
 //! From the words to the lines: `command` reads the words; `input` fetches and reads the files in their order, where the
-//! first fault ends the run; `run_show` and `run_walk` do what one command asks for, `text` writes, and `tool` picks the one.
-//! A batch is applied and shown by the crate `batch_show`, and applied and walked by `batch_walk`. `main` adds the process
-//! around it: files, standard output, the text of a status, the exit number.
+//! first fault ends the run; `run_show`, `run_walk` and `run_gen` do what one command asks for, `text` writes, and `tool`
+//! picks the one. A batch is applied and shown by the crate `batch_show`, and applied and walked by `batch_walk`; what `gen`
+//! makes comes of `gen_run`. `main` adds the process around it: files, standard output, the text of a status, the exit
+//! number.
 //!
-//! One thread calls all of this. Only `tool` may start others, for a job, and while no job is built it starts none.
+//! One thread calls all of this. Only `tool` may start others, for a job; `gen` walks on lists, and while `run` isn't built
+//! none is started.
 //!
 //! Not promised: that memory suffices, what a real file or terminal holds, and the texts of statuses, which are tested.
 #![tactic(auto)]
@@ -17,6 +19,7 @@
 mod command;
 mod input;
 mod messages;
+mod run_gen;
 mod run_show;
 mod run_walk;
 mod status;

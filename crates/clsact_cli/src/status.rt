@@ -58,7 +58,7 @@ pub enum Status {
     ReadFault {
         name: Bytes,
     },
-    /// The output capture or the text could not be written.
+    /// The output capture, a file of `gen` or the text could not be written.
     WriteFault,
     /// Memory ran out.
     NoMemory,

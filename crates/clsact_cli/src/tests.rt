@@ -196,3 +196,20 @@ fn a_fault_at_a_show_is_told(rt: HostRuntime) -> Result<(), Fail> {
     assert!(rt; out.bytes().is_empty());
     Ok(())
 }
+
+#[test]
+fn faults_at_a_gen_are_told(rt: HostRuntime) -> Result<(), Fail> {
+    let names = ["x.tc", "x.pcap", "x.job", "x.out.pcap"];
+    // Where call k fails, the k - 1 files before it stand.
+    for (call, made) in [(1, 0), (2, 1), (3, 2), (4, 3)] {
+        let mut held = MemShelf::new(rt.alloc(), numbers(rt.alloc(), &[call])?);
+        let mut out = MemSink::new(rt.alloc(), numbers(rt.alloc(), &[])?);
+        let status = run(&rt, &["gen", "1", "x"], &mut held, &mut out)?;
+        assert_eq!(rt; status.as_str(), "5 cannot write");
+        for (index, name) in names.iter().enumerate() {
+            assert_eq!(rt; held.get(name).is_some(), index < made);
+        }
+        assert!(rt; out.bytes().is_empty());
+    }
+    Ok(())
+}
