@@ -5,7 +5,7 @@ use mask_table::MaskLaw;
 use miniq_pair::HeadLaw;
 use store_history::Law;
 
-/// The law of the hook's store. Nothing is made of this type.
+/// The law of the hook's store: what `hook_law` asks of its commits, at this project's terms. Nothing is made of this type.
 pub struct HookLaw;
 
 impl Law for HookLaw {
@@ -23,6 +23,7 @@ impl Law for HookLaw {
     ghost rises = { hook_rises };
 }
 
+// The tables of a hook are those of the plain state. A sound state has few.
 impl HeadLaw for HookLaw {
     ghost use Rattle.hook_terms.specs.Told.{heads_after};
     ghost use Rattle.hook_terms.proofs.Heading.{heads_told, heads_most};
@@ -34,6 +35,8 @@ impl HeadLaw for HookLaw {
     ghost few = { heads_most };
 }
 
+// A mask stands where a head names it. Its words and its filters are those of the plain state, and each filter has its actions at the slots
+// to which the commits put them.
 impl MaskLaw for HookLaw {
     ghost use Rattle.hook_terms.specs.Told.{stands_at, words_after, filters_after};
     ghost use Rattle.hook_terms.proofs.Masking.{slot_stood, mask_told};

@@ -4,13 +4,15 @@ ghost use Rattle.pin_store.specs.Calls.{pin_of, IsInside, IsOutside, IsSeatOf};
 
 use crate::law::HookLaw;
 use block_codec::places::{BLOCK_WORDS, BLOCKS, READERS, ROOTS};
+use flow_fields::Key;
+use mask_table::lookup;
 use miniq_pair::head;
 use pin_store::{Reader, Shape, Steps, Store, make_store};
 use std::marker::Brand;
 use std::sync::ledger::{Blank, Ledger};
 use std::test::Fail;
 use tc_base::{Hook, Point};
-use visit_room::HeadRoom;
+use visit_room::{HeadRoom, Hit};
 
 const SHAPE: Shape = Shape {
     blocks: BLOCKS,
@@ -24,7 +26,7 @@ fn visit_as<M: Ledger>(
     reader: &mut Reader<HookLaw>,
     room: &mut HeadRoom,
     blank: Blank,
-) -> Point
+) -> (Point, bool)
     requires store { IsSeatOf store.now reader.old.place × (store.now.shape ≡ SHAPE) }
     requires inside { IsInside reader.old.place }
     requires blank { (blank.name ≡ M.name) × (blank.parts ≡ M.parts) × (0 < M.parts) }
@@ -32,27 +34,30 @@ fn visit_as<M: Ledger>(
     ensures inside { IsInside reader.new.place }
 {
     let mut steps = Steps::<M>::new(blank);
-    head(reader, store, Hook::Ingress, room, &mut steps)
+    let point = head(reader, store, Hook::Ingress, room, &mut steps);
+    let key = Key { words: [0; 14] };
+    let (found, _) = lookup(reader, store, 0, &key, &mut Hit::new(), &mut steps);
+    (point, found)
 }
 
-// The point of what a reader is told of the ingress hook.
-fn visit(store: &Store<HookLaw>, mut reader: Reader<HookLaw>, room: &mut HeadRoom) -> Point
+// The point of what a reader is told of the ingress hook, and whether the mask at slot 0 has a filter.
+fn visit(store: &Store<HookLaw>, mut reader: Reader<HookLaw>, room: &mut HeadRoom) -> (Point, bool)
     requires store { IsSeatOf store.now reader.place × (store.now.shape ≡ SHAPE) }
     requires outside { IsOutside reader.place × (pin_of reader.place < 2 ^ 63) }
 {
     reader.enter(store);
-    let point = visit_as::<Brand>(store, &mut reader, room, Blank::new(1));
+    let told = visit_as::<Brand>(store, &mut reader, room, Blank::new(1));
     reader.leave(store);
-    point
+    told
 }
 
 #[test]
-fn a_new_hook_has_no_tables(rt: HostRuntime) -> Result<(), Fail> {
+fn a_new_hook_has_nothing(rt: HostRuntime) -> Result<(), Fail> {
     let mut room = HeadRoom::with_room(rt.alloc())?;
     let (store, _writer, mut readers) = make_store::<HookLaw>(rt.alloc(), SHAPE)?;
     if let Some(reader) = readers.take() {
-        let point = visit(&store, reader, &mut room);
-        assert!(rt; point == 0);
+        let told = visit(&store, reader, &mut room);
+        assert!(rt; told == (0, false));
         assert!(rt; room.heads().is_empty());
     }
     Ok(())

@@ -1,5 +1,5 @@
 -- What the root of a bucket tells a reader that has read the mask's record.
-use Rattle.std.proofs.Common.{◌≡◌, ℕ, ◌+◌, ◌*◌, ◌/◌, ◌%◌, ◌==◌, ◌<◌, ◌≤◌, Bool, true, false, List, [], ◌∷◌, ◌++◌, length, map, take, slice_get, Some, refl, ap, sym, ◌∙◌, subst, arith, le_refl}
+use Rattle.std.proofs.Common.{◌≡◌, ℕ, ◌/◌, ◌%◌, ◌==◌, ◌<◌, ◌≤◌, Bool, true, false, List, [], ◌∷◌, ◌++◌, length, map, take, slice_get, Some, refl, ap, sym, ◌∙◌, subst, arith, le_refl}
 use mathlib.Core.List.{map-map}
 use Rattle.std.specs.Prelude.{slice_index, if◌then◌else◌}
 use Rattle.std.proofs.lemmas.List.{map-append}
@@ -19,7 +19,7 @@ use Rattle.hook_law.specs.Places as places
 use Rattle.hook_law.specs.Records.{MaskRecord, FilterRecord, StatedFilter, stated_filter}
 use Rattle.hook_law.specs.Chains as chains
 use Rattle.hook_law.specs.Meaning as law
-use Rattle.hook_law.specs.Standing.{Region, Bucket, region_of, IsRowAt, Stands}
+use Rattle.hook_law.specs.Standing.{Region, Bucket, region_of, IsRowAt}
 use Rattle.hook_law.specs.Telling.{Tells}
 use Rattle.hook_law.specs.Keeping.{Keeps}
 use Rattle.hook_law.specs.Slots.{slotted}
@@ -27,7 +27,7 @@ use Rattle.hook_law.proofs.Growing.{some_is}
 use Rattle.hook_law.proofs.Points.{tells_all}
 use Rattle.hook_law.proofs.Pushing.{last_at_end}
 use Rattle.hook_law.proofs.Slots.{bucket_slotted}
-use Rattle.mask_table.specs.Buckets.{mask_root, bucket_root, bucket_of}
+use Rattle.mask_table.specs.Buckets.{mask_root, bucket_of}
 use Rattle.mask_table.specs.Told.{edits_by, TellsBucket, BucketTold}
 use Rattle.mask_table.proofs.Limits.{IsWithin, within}
 use Rattle.hook_terms.specs.Stated.{filters_at, hook_meaning}
@@ -94,7 +94,7 @@ filters_there : (h : List (Commit Edit)) (b n : ℕ) (q : Region) (bucket row k 
 filters_there h b n q bucket row k fs kept low o read are = let late = o.late in
     let now = filters_at (law.state_at hook_meaning (edits_of h) k) q.mask in let there = chains.bucket_of hash_of q.size bucket now in
     let is = bucket_slotted hook_meaning hook_codec h b o.at (places.bucket_root row (places.place_of bucket)) q bucket fs now kept (omega arith) o.made (row, o.row_at, refl)
-        (subst (λ (z : Named). read_all hook_codec.filter z.chain ≡ Some fs) o.same read) are in
+    (subst (λ (z : Named). read_all hook_codec.filter z.chain ≡ Some fs) o.same read) are in
     ap (map stored_filter) is ∙ (map-map stored_filter (slotted hook_codec h) there ∙ (sym (in_bucket h q.size bucket now)
     ∙ ap (λ (s : State). bucket_of q.size bucket (map (with_slots h) (filters_at s q.mask))) (state_is (edits_of h) k)))
 
@@ -119,7 +119,14 @@ bucket_told h b n slot serial bucket mask kept low high at read less =
     let named = root_of (take n h) (mask_root slot) in let q = region_of slot serial named.stamp (mask_record mask) in
     let row = slice_index mask.rows (bucket / 16) in let there = row_there mask bucket (within named.chain mask read) less in
     let o = bucket_stood h b n q bucket row kept low high record {
-      mask = mask_record mask; at_mask = at; read = first_maps mask_record mask_of_words named.chain mask read; stamped = refl; sized = refl; inside = less; there = there.0; small = there.1;
+      mask = mask_record mask;
+      at_mask = at;
+      read = first_maps mask_record mask_of_words named.chain mask read;
+      stamped = refl;
+      sized = refl;
+      inside = less;
+      there = there.0;
+      small = there.1;
     } in
     let later = root_of (take o.at h) (mask_root slot) in
     let record_there = first_mapped mask_record mask_of_words later.chain o.row_at.mask o.row_at.read in record {

@@ -1,5 +1,5 @@
 -- A hook of a sound state has as many tables as its rows, and so 256 at most.
-use Rattle.std.proofs.Common.{◌≡◌, ℕ, suc, ◌≤◌, ◌==◌, Bool, true, false, cond, List, [], ◌∷◌, length, map, refl, ap, sym, ◌∙◌, subst, arith, eqb-true, eq-eqb}
+use Rattle.std.proofs.Common.{◌≡◌, ℕ, suc, ◌≤◌, ◌==◌, Bool, true, false, List, [], ◌∷◌, length, refl, ap, sym, ◌∙◌, subst, arith, eq-eqb}
 use Rattle.std.specs.Prelude.{filter, nat_lt, if◌then◌else◌}
 use Rattle.std.proofs.lemmas.Bool.{false≢true, ne_eqb}
 use Rattle.std.proofs.lemmas.Bool.Decides.{nat_tests}
@@ -27,10 +27,10 @@ use Rattle.walk_rules.specs.Heads.{head_with, in_front, with_row, heads_in, head
 masks_apart : (x y : Row) → GoTogether x y → row_before y x ≡ true → x.mask_serial ≡ y.mask_serial → ⊥
 masks_apart x y go before same = let t = go.same_table (go.same_mask same).0 in
     let level : row_before y x ≡ false = ap (λ g. place_before g y.chain y.pref y.mask_serial x.hook x.chain x.pref x.mask_serial) (sym t.0)
-        ∙ ap (λ g. place_before x.hook g y.pref y.mask_serial x.hook x.chain x.pref x.mask_serial) (sym t.1)
-        ∙ ap (λ g. place_before x.hook x.chain g y.mask_serial x.hook x.chain x.pref x.mask_serial) (sym t.2)
-        ∙ ap (λ g. place_before x.hook x.chain x.pref g x.hook x.chain x.pref x.mask_serial) (sym same)
-        ∙ one_place x.hook x.chain x.pref x.mask_serial in
+    ∙ ap (λ g. place_before x.hook g y.pref y.mask_serial x.hook x.chain x.pref x.mask_serial) (sym t.1)
+    ∙ ap (λ g. place_before x.hook x.chain g y.mask_serial x.hook x.chain x.pref x.mask_serial) (sym t.2)
+    ∙ ap (λ g. place_before x.hook x.chain x.pref g x.hook x.chain x.pref x.mask_serial) (sym same)
+    ∙ one_place x.hook x.chain x.pref x.mask_serial in
     false≢true (sym level ∙ before)
 
 placed_at : (x y : Row) (ys : List Row) → GoTogether x y → SameRows (x ∷ ys) (placed row_before x ys) → (b : Bool) → row_before y x ≡ b
@@ -110,9 +110,12 @@ none_among n rows all = ap (is_among n) (tables_are rows) ∙ (any_map (λ m. m 
 
 others : (h : Hook) (x y : Row) (rows : List Row) → Each (λ (z : Row). z.hook ≡ h) (x ∷ y ∷ rows) → EachPair GoTogether (x ∷ y ∷ rows) → InOrder row_before (x ∷ y ∷ rows)
     → (y.table ≡ x.table → ⊥) → Each (λ (z : Row). z.table ≡ x.table → ⊥) (y ∷ rows)
-others h x y rows hook pairs order differ = (differ, each_both (λ z. (z.hook ≡ h) × GoTogether x z) (λ z. row_before z y ≡ false) (λ z. z.table ≡ x.table → ⊥)
-    (λ z both behind. other_table h x y z hook.0 hook.1.0 both.0 pairs.0.0 both.1 order.0.0 behind differ) rows
-    (each_both (λ z. z.hook ≡ h) (GoTogether x) (λ z. (z.hook ≡ h) × GoTogether x z) (λ z a b. (a, b)) rows hook.1.1 pairs.0.1) order.1.0)
+others h x y rows hook pairs order differ = (
+  differ,
+  each_both (λ z. (z.hook ≡ h) × GoTogether x z) (λ z. row_before z y ≡ false) (λ z. z.table ≡ x.table → ⊥)
+      (λ z both behind. other_table h x y z hook.0 hook.1.0 both.0 pairs.0.0 both.1 order.0.0 behind differ) rows
+      (each_both (λ z. z.hook ≡ h) (GoTogether x) (λ z. (z.hook ≡ h) × GoTogether x z) (λ z a b. (a, b)) rows hook.1.1 pairs.0.1) order.1.0,
+)
 
 heads_few : (h : Hook) (rows : List Row) → Each (λ (z : Row). z.hook ≡ h) rows → EachPair GoTogether rows → InOrder row_before rows → length (heads_in rows) ≤ length (distinct (tables_of rows))
 heads_few h [] hook pairs order = omega arith

@@ -13,7 +13,7 @@ use Rattle.walk_rules.specs.Heads.{heads_on}
 use Rattle.block_codec.specs.declared.table.StoredTable.{StoredTable}
 use Rattle.block_reading.specs.Read.{table_in}
 use Rattle.hook_law.specs.Places as places
-use Rattle.hook_law.specs.Records.{StatedTable, TableRecord, serials_of, stated_table}
+use Rattle.hook_law.specs.Records.{StatedTable, serials_of, stated_table}
 use Rattle.hook_law.specs.Standing.{Head}
 use Rattle.hook_law.specs.Keeping.{Keeps}
 use Rattle.hook_law.proofs.Growing.{some_is}

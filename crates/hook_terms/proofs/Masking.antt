@@ -1,5 +1,5 @@
 -- What the root at a mask's slot tells a reader.
-use Rattle.std.proofs.Common.{◌≡◌, ℕ, ◌-◌, ◌≤◌, ◌⊎◌, inl, inr, List, length, map, take, Some, ap, sym, ◌∙◌, subst, le_refl}
+use Rattle.std.proofs.Common.{◌≡◌, ℕ, ◌-◌, ◌≤◌, inl, inr, List, length, take, ap, sym, ◌∙◌, subst, le_refl}
 use Rattle.std.proofs.lemmas.List.{length-map}
 use Rattle.store_history.specs.declared.history.Commit.{Commit}
 use Rattle.store_history.specs.History.{root_of, edits_of}
@@ -7,7 +7,6 @@ use Rattle.filter_state.specs.declared.edit.Edit.{Edit}
 use Rattle.filter_state.specs.States.{State}
 use Rattle.state_parts.specs.Parts.{words_of}
 use Rattle.flow_mask.specs.Sizes.{size_of}
-use Rattle.block_codec.specs.declared.mask.StoredMask.{StoredMask}
 use Rattle.block_reading.specs.Read.{mask_of_words}
 use Rattle.hook_law.specs.Records.{MaskRecord}
 use Rattle.hook_law.specs.Meaning as law

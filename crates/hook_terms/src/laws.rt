@@ -1,11 +1,13 @@
-//! What holds of every list of commits that keeps the law.
-ghost use Rattle.std.specs.Prelude.{ℕ, ◌≤◌, List, [], length};
+//! What holds of this meaning, and of every list of commits that keeps the law.
+ghost use Rattle.std.specs.Prelude.{◌≡◌, ◌≤◌, ℕ, List, [], length, option_map};
 ghost use Rattle.store_history.specs.declared.history.Commit.{Commit};
 ghost use Rattle.filter_state.specs.declared.edit.Edit.{Edit};
+ghost use Rattle.filter_state.specs.States.{State};
 ghost use Rattle.filter_state.specs.Sound.{Sound};
+ghost use Rattle.state_parts.specs.Parts.{params_at};
 ghost use Rattle.hook_law.specs.Meaning.{StartsEmpty};
 ghost use Rattle.hook_law.specs.Keeping.{Keeps};
-ghost use Rattle.hook_terms.specs.Stated.{hook_meaning};
+ghost use Rattle.hook_terms.specs.Stated.{ActionTerms, action_at, hook_meaning};
 ghost use Rattle.hook_terms.specs.Blocks.{hook_codec};
 ghost use Rattle.hook_terms.specs.Told.{state_after_edits};
 
@@ -18,4 +20,9 @@ pub fn opens_at_nothing()
 /// The state after any number of the edits that commits carry is sound.
 pub fn states_stay_sound()
     ensures { (h : List (Commit Edit)) (b k : ℕ) → Keeps hook_meaning hook_codec h b → b ≤ length h → Sound (state_after_edits h k) }
+{}
+
+/// What the law reads of an action has the parameters that the state has.
+pub fn actions_have_their_parameters()
+    ensures { (s : State) (serial : ℕ) → option_map (λ (terms : ActionTerms). terms.params) (action_at s serial) ≡ params_at s serial }
 {}

@@ -1,9 +1,9 @@
-//! What the law speaks of.
+//! What the law of this project's hook speaks of.
 
 use filter_state::Edit;
 use hook_law::Terms;
 
-/// The terms of this project's hook. Nothing is made of this type.
+/// The terms of this project's hook, for the functions of `hook_law`. Nothing is made of this type.
 pub struct HookTerms;
 
 impl Terms for HookTerms {
