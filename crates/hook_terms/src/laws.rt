@@ -3,9 +3,10 @@ ghost use Rattle.std.specs.Prelude.{◌≡◌, ◌≤◌, ℕ, List, [], length,
 ghost use Rattle.store_history.specs.declared.history.Commit.{Commit};
 ghost use Rattle.filter_state.specs.declared.edit.Edit.{Edit};
 ghost use Rattle.filter_state.specs.States.{State};
+ghost use Rattle.filter_state.specs.Journals.{state_at};
 ghost use Rattle.filter_state.specs.Sound.{Sound};
 ghost use Rattle.state_parts.specs.Parts.{params_at};
-ghost use Rattle.hook_law.specs.Meaning.{StartsEmpty};
+ghost use Rattle.hook_law.specs.Meaning as law;
 ghost use Rattle.hook_law.specs.Keeping.{Keeps};
 ghost use Rattle.hook_terms.specs.Stated.{ActionTerms, action_at, hook_meaning};
 ghost use Rattle.hook_terms.specs.Blocks.{hook_codec};
@@ -13,13 +14,14 @@ ghost use Rattle.hook_terms.specs.Told.{state_after_edits};
 
 /// The law holds of no commits, so that a store can be made with it.
 pub fn opens_at_nothing()
-    ensures empty { StartsEmpty hook_meaning }
+    ensures empty { law.StartsEmpty hook_meaning }
     ensures keeps { Keeps hook_meaning hook_codec [] 0 }
 {}
 
-/// The state after any number of the edits that commits carry is sound.
+/// The law's state at a point is the plain state after so many edits, and after those that commits carry it is sound.
 pub fn states_stay_sound()
-    ensures { (h : List (Commit Edit)) (b k : ℕ) → Keeps hook_meaning hook_codec h b → b ≤ length h → Sound (state_after_edits h k) }
+    ensures plain { (edits : List Edit) (k : ℕ) → law.state_at hook_meaning edits k ≡ state_at k edits }
+    ensures sound { (h : List (Commit Edit)) (b k : ℕ) → Keeps hook_meaning hook_codec h b → b ≤ length h → Sound (state_after_edits h k) }
 {}
 
 /// What the law reads of an action has the parameters that the state has.
