@@ -46,7 +46,7 @@ module _ {E S N P : Type 0} (K : Meaning E S N P) (R : Codec N P) where
       let o = told K R h b n (bucket_root row (place_of i)) (Bucket q i) k low high
       (row, record { mask = mask; at_mask = at; read = read; stamped = refl; sized = refl; inside = less; there = there; small = small }, refl) in
       let s = o.stood in let e = s.2 in let same : s.0 ≡ row = omega arith in
-      record { at = o.at; late = o.late; made = o.made; stood = subst (IsRowAt R (take o.at h) q i) same s.1; tells = o.tells }
+      record { at = o.at; late = o.late; made = o.made; stood = subst (IsRowAt R (take o.at h) q i) same s.1; same = o.same; tells = o.tells }
 
   -- the state at a point has the words of a record that tells it, and the record's size fits
   record_tells : (edits : List E) (m : ℕ) (named : Named) (point p : ℕ) (mask : MaskRecord) → Tells K R edits (Mask m) named point

@@ -109,6 +109,7 @@ module _ {E S N P : Type 0} (K : Meaning E S N P) (R : Codec N P) where
     late = o.1;
     made = o.2;
     stood = o.3;
+    same = o.4;
     tells = tells_all K R h o.0 x (root_of h r) (subst (λ (z : Named). Tells K R (edits_of (take o.0 h)) x z (point_of (take o.0 h))) (sym o.4) ((k.present o.0 (omega arith) o.2).tells r x o.3));
   }
 

@@ -25,6 +25,7 @@ module _ {E S N P : Type 0} (K : Meaning E S N P) (R : Codec N P) where
     pub late : n ≤ at
     pub made : at ≤ length h
     pub stood : Stands K R (take at h) r role
+    pub same : root_of h r ≡ root_of (take at h) r
     pub tells : Tells K R (edits_of h) role (root_of h r) (point_of (take at h))
 
   -- the root of a bucket tells the region's bucket up to the point of a later time at which the region's record had it in this row;
@@ -34,4 +35,5 @@ module _ {E S N P : Type 0} (K : Meaning E S N P) (R : Codec N P) where
     pub late : n ≤ at
     pub made : at ≤ length h
     pub stood : IsRowAt R (take at h) q k row
+    pub same : root_of h (bucket_root row (place_of k)) ≡ root_of (take at h) (bucket_root row (place_of k))
     pub tells : Tells K R (edits_of h) (Bucket q k) (root_of h (bucket_root row (place_of k))) (point_of (take at h))
