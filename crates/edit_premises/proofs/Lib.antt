@@ -1,0 +1,14 @@
+pub mod Stepping
+pub mod Accepted
+pub mod Stating
+pub mod Indexes
+pub mod Acting
+pub mod Unfiltered
+pub mod Marking
+pub mod Made
+pub mod OfFilters
+pub mod OneHandle
+pub mod Masks
+pub mod OneMask
+pub mod Words
+pub mod Heading
