@@ -2,7 +2,10 @@
 ghost use Rattle.std.specs.Prelude.{◌≡◌};
 ghost use Rattle.block_reading.specs.Read.{filter_in, mask_of_words, table_in, action_of_words};
 
-use block_codec::{StoredAction, StoredFilter, StoredMask, StoredTable, read_action, read_filter, read_mask, read_table};
+use block_codec::{
+    StoredAction, StoredFilter, StoredMask, StoredTable, read_action, read_filter, read_mask,
+    read_table,
+};
 
 /// The filter whose words these are, or None where they are those of none.
 pub fn filter_in(words: &[u64; 40]) -> Option<StoredFilter>
