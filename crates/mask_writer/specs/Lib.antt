@@ -1,0 +1,4 @@
+pub mod Kept
+pub mod Changes
+pub mod Inserting
+pub mod Forgetting

@@ -1,0 +1,168 @@
+//! The writer of all masks of a store.
+ghost use Rattle.std.specs.Prelude.{◌≡◌, ◌≤◌, ℕ, slice_index_or, None, IfOk};
+ghost use Rattle.mask_writer.specs.declared.mirror.KeptMask.{KeptMask};
+ghost use Rattle.mask_writer.specs.Kept.{Stands};
+
+use crate::blocks::Blocks;
+use crate::buckets::place_in;
+use crate::gathering::{gather, gather_mask};
+use crate::mirror::Mirror;
+use crate::number_room::NumberRoom;
+use crate::putting::put_in_front;
+use block_codec::StoredFilter;
+use block_codec::places::BUCKET_ROOTS;
+use pin_store::{Shape, Store, Writer};
+use std::alloc::Global;
+use store_history::{EditName, Law};
+use tc_base::{NoMemory, Point};
+
+/// Changes the masks of a store, and keeps what it committed of them. One serves all masks of a store.
+#[derive(Drop)]
+pub struct MaskWriter {
+    mirror: Mirror,
+    chain: NumberRoom,
+    left_blocks: NumberRoom,
+    left_rows: NumberRoom,
+}
+
+impl MaskWriter {
+    ghost use Rattle.std.specs.Prelude.{◌≢◌, ◌<◌, ◌+◌, ◌++◌, ◌∷◌, List, [], length, slice_index, slice_set, Some};
+    ghost use Rattle.store_history.specs.declared.history.Named.{Named};
+    ghost use Rattle.store_history.specs.History.{root_of};
+    ghost use Rattle.pin_store.specs.declared.shape.Shape.{Shape};
+    ghost use Rattle.pin_store.specs.Layout.{block_words, commit_of};
+    ghost use Rattle.pin_store.specs.Sheets.{base_of, IsSameButCells};
+    ghost use Rattle.pin_store.specs.Calls.{seen_by, sheet_of, IsSeatOf, IsUnnamed};
+    ghost use Rattle.block_codec.specs.Filters.{IsStorableFilter};
+    ghost use Rattle.mask_writer.specs.Kept.{Spells, HoldsChain, BucketAt, IsKept, AreOwn};
+    ghost use Rattle.mask_writer.specs.Inserting.{root_for, insert_at};
+    ghost use Rattle.mask_writer.specs.Forgetting.{bucket_blocks};
+
+    /// Takes the room for the masks of a store of this shape. No mask stands. No other call takes memory.
+    pub fn with_room(alloc: Global, _shape: Shape) -> Result<MaskWriter, NoMemory>
+        requires { (_shape.words ≡ 40) × (16384 ≤ _shape.blocks) × (141315 ≤ _shape.roots) }
+        ensures empty { IfOk result (λ made. (slot : ℕ) → slice_index_or made.mirror.slots.items slot None ≡ None) }
+        ensures kept { IfOk result (λ made. (shape : Shape) (cells : List ℕ) (roots : ℕ → Named) → IsKept made.mirror shape cells roots) }
+        ensures left { IfOk result (λ made. (made.left_blocks ≡ []) × (made.left_rows ≡ [])) }
+    {
+        Ok(MaskWriter {
+            mirror: Mirror::with_room(alloc)?,
+            chain: NumberRoom::with_room(alloc)?,
+            left_blocks: NumberRoom::with_room(alloc)?,
+            left_rows: NumberRoom::with_room(alloc)?,
+        })
+    }
+
+    // Makes the one commit by which the root of the bucket at a place names the chain that begins with a number, and keeps that.
+    fn name_chain<L: Law, E: EditName<L::Entry>>(
+        &mut self,
+        writer: &mut Writer<L>,
+        store: &Store<L>,
+        place: u32,
+        number: u32,
+        edit: Point,
+    )
+        requires store { IsSeatOf store.now writer.old.place }
+        requires shape { (store.now.shape.words ≡ 40) × (16384 ≤ store.now.shape.blocks) × (141315 ≤ store.now.shape.roots) }
+        requires place { place < 131072 }
+        requires kept { IsKept self.old.mirror store.now.shape (sheet_of writer.old.place).cells (root_of (seen_by writer.old.place)) }
+        requires chain { (own : BucketAt self.old.mirror (10243 + place)) × (blocks : List ℕ)
+            × HoldsChain self.old.mirror store.now.shape (sheet_of writer.old.place).cells own.kept.mask.size own.bucket number blocks
+            × AreOwn self.old.mirror (root_of (seen_by writer.old.place)) (10243 + place) blocks }
+        requires lawful { (blocks : List ℕ) → Spells self.old.mirror.next.items number blocks → L.keeps
+            (seen_by writer.old.place ++ commit_of store.now.shape (sheet_of writer.old.place).cells (10243 + place) blocks edit (Some edit) E.edit ∷ [])
+            (base_of (sheet_of writer.old.place)) }
+        ensures store { IsSeatOf store.now writer.new.place }
+        ensures seen { (blocks : List ℕ) → Spells self.old.mirror.next.items number blocks → seen_by writer.new.place
+            ≡ seen_by writer.old.place ++ commit_of store.now.shape (sheet_of writer.old.place).cells (10243 + place) blocks edit (Some edit) E.edit ∷ [] }
+        ensures sheet { sheet_of writer.new.place ≡ sheet_of writer.old.place }
+        ensures kept { IsKept self.new.mirror store.now.shape (sheet_of writer.new.place).cells (root_of (seen_by writer.new.place)) }
+        ensures masks { self.new.mirror.slots.items ≡ self.old.mirror.slots.items }
+        ensures left { (self.new.left_blocks ≡ self.old.left_blocks) × (self.new.left_rows ≡ self.old.left_rows) }
+    {
+        self.chain.clear();
+        gather(&mut self.chain, &self.mirror.next, number);
+        let chain = self.chain.as_slice();
+        writer.commit::<E>(store, BUCKET_ROOTS + place, chain, edit, Some(edit));
+        self.mirror.begin(place, number);
+    }
+
+    /// Puts a filter into the mask at a slot: fills the given block, and makes the one commit that names it in front of the chain of its
+    /// bucket. The commit carries the edit that `E` names, under its number.
+    ///
+    /// The mask has no filter with that handle or key. The law must hold of all commits with this one.
+    pub fn insert<L: Law, E: EditName<L::Entry>>(
+        &mut self,
+        writer: &mut Writer<L>,
+        store: &Store<L>,
+        slot: u32,
+        filter: &StoredFilter,
+        given: &Blocks,
+        edit: Point,
+    )
+        requires store { IsSeatOf store.now writer.old.place }
+        requires shape { (store.now.shape.words ≡ 40) × (16384 ≤ store.now.shape.blocks) × (141315 ≤ store.now.shape.roots) }
+        requires slot { slot < 8192 }
+        requires stands { (kept : KeptMask) × Stands self.old.mirror slot kept }
+        requires storable { IsStorableFilter filter.now }
+        requires given { (length given.now.blocks ≡ 1) × (slice_index given.now.blocks 0 < 16384) }
+        requires free { IsUnnamed (base_of (sheet_of writer.old.place)) (seen_by writer.old.place) (slice_index given.now.blocks 0) }
+        requires kept { IsKept self.old.mirror store.now.shape (sheet_of writer.old.place).cells (root_of (seen_by writer.old.place)) }
+        requires lawful { (kept : KeptMask) → Stands self.old.mirror slot kept → L.keeps
+            (seen_by writer.old.place ++ insert_at (seen_by writer.old.place) (root_for kept.mask filter.now) (slice_index given.now.blocks 0) filter.now edit E.edit ∷ [])
+            (base_of (sheet_of writer.old.place)) }
+        ensures store { IsSeatOf store.now writer.new.place }
+        ensures seen { (kept : KeptMask) → Stands self.old.mirror slot kept → seen_by writer.new.place
+            ≡ seen_by writer.old.place ++ insert_at (seen_by writer.old.place) (root_for kept.mask filter.now) (slice_index given.now.blocks 0) filter.now edit E.edit ∷ [] }
+        ensures sheet { IsSameButCells (sheet_of writer.old.place) (sheet_of writer.new.place) }
+        ensures others { (other : ℕ) → other ≢ slice_index given.now.blocks 0 → other < store.now.shape.blocks
+            → block_words store.now.shape (sheet_of writer.new.place).cells other ≡ block_words store.now.shape (sheet_of writer.old.place).cells other }
+        ensures kept { IsKept self.new.mirror store.now.shape (sheet_of writer.new.place).cells (root_of (seen_by writer.new.place)) }
+        ensures masks { self.new.mirror.slots.items ≡ self.old.mirror.slots.items }
+        ensures left { (self.new.left_blocks ≡ []) × (self.new.left_rows ≡ []) }
+    {
+        let block = given.blocks.as_slice()[0];
+        let place = place_in(&self.mirror, slot, &filter.key);
+        let next = self.mirror.first[place as usize];
+        put_in_front(&mut self.mirror, writer, store, block, filter, next);
+        self.name_chain::<L, E>(writer, store, place, block + 1, edit);
+        self.left_blocks.clear();
+        self.left_rows.clear();
+    }
+
+    /// Takes the mask at a slot out of the writer. It makes no commit: the caller sees to it that no head names the slot any more.
+    pub fn forget(&mut self, slot: u32)
+        requires slot { slot < 8192 }
+        requires stands { (kept : KeptMask) × Stands self.old.mirror slot kept }
+        requires kept { (shape : Shape) × (cells : List ℕ) × (roots : ℕ → Named) × IsKept self.old.mirror shape cells roots }
+        ensures gone { self.new.mirror.slots.items ≡ slice_set self.old.mirror.slots.items slot None }
+        ensures kept { (shape : Shape) (cells : List ℕ) (roots : ℕ → Named) → IsKept self.old.mirror shape cells roots → IsKept self.new.mirror shape cells roots }
+        ensures blocks { (kept : KeptMask) (shape : Shape) (cells : List ℕ) (roots : ℕ → Named) → Stands self.old.mirror slot kept → IsKept self.old.mirror shape cells roots
+            → self.new.left_blocks ≡ kept.block ∷ bucket_blocks roots kept.mask kept.mask.size }
+        ensures rows { (kept : KeptMask) → Stands self.old.mirror slot kept → self.new.left_rows ≡ kept.mask.rows }
+    {
+        self.left_blocks.clear();
+        self.left_rows.clear();
+        gather_mask(
+            &mut self.left_blocks,
+            &mut self.left_rows,
+            &self.mirror,
+            slot,
+        );
+        self.mirror.forget(slot);
+    }
+
+    /// The blocks that the last changing call took out of the masks.
+    pub fn left_blocks(&self) -> &[u32]
+        ensures { result.now ≡ self.now.left_blocks }
+    {
+        self.left_blocks.as_slice()
+    }
+
+    /// The rows that the last changing call took out of the masks.
+    pub fn left_rows(&self) -> &[u32]
+        ensures { result.now ≡ self.now.left_rows }
+    {
+        self.left_rows.as_slice()
+    }
+}
