@@ -53,7 +53,7 @@ filter_in words = if is_filter words then Some (filter_read words) else None
 
 -- ---- a mask
 abbrev pub is_row : ℕ → Bool
-is_row row = nat_lt row 8192
+is_row number = nat_lt number 8192
 
 abbrev pub is_mask : List ℕ → Bool
 is_mask words =
