@@ -1,0 +1,2 @@
+//! A whole mask that comes to stand at a slot.
+#![tactic(auto)]
