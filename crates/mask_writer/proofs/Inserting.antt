@@ -13,14 +13,14 @@ use Rattle.block_codec.specs.Blocks.{block}
 use Rattle.block_codec.specs.Filters.{filter_words, IsFilterBlock}
 use Rattle.block_codec.specs.Masks.{IsStorableMask}
 use Rattle.mask_table.specs.Buckets.{bucket_for}
-use Rattle.mask_writer.specs.declared.mirror.Mirror.{Mirror}
-use Rattle.mask_writer.specs.declared.mirror.KeptMask.{KeptMask}
-use Rattle.mask_writer.specs.Kept.{bucket_at, Stands, Spells, HoldsChain, BucketAt, Names, KeepsBucket, IsKept, AreOwn}
-use Rattle.mask_writer.specs.Changes.{IsFilled}
-use Rattle.mask_writer.specs.Inserting.{root_for, insert_at}
-use Rattle.mask_writer.proofs.Spelling.{same_blocks}
-use Rattle.mask_writer.proofs.Chains.{first_spelled, first_link_of, spelled_low, links_same}
-use Rattle.mask_writer.proofs.Keeping.{at_root, names_each, bucket_with}
+use Rattle.mask_mirror.specs.declared.mirror.Mirror.{Mirror}
+use Rattle.mask_mirror.specs.declared.mirror.KeptMask.{KeptMask}
+use Rattle.mask_mirror.specs.Kept.{bucket_at, Stands, Spells, HoldsChain, BucketAt, Names, KeepsBucket, IsKept, AreOwn}
+use Rattle.mask_mirror.specs.Changes.{IsFilled}
+use Rattle.mask_mirror.specs.Changing.{root_for, insert_at}
+use Rattle.mask_mirror.proofs.Spelling.{same_blocks}
+use Rattle.mask_mirror.proofs.Chains.{first_spelled, first_link_of, spelled_low, links_same}
+use Rattle.mask_mirror.proofs.Keeping.{at_root, names_each, bucket_with}
 
 some_buckets : (mask : StoredMask) → IsStorableMask mask → 0 < mask.size
 some_buckets mask is = let size = is.size in grind (arith, nat_tests)

@@ -1,16 +1,13 @@
 //! The writer of all masks of a store.
 ghost use Rattle.std.specs.Prelude.{◌≡◌, ◌≤◌, ℕ, slice_index_or, None, IfOk};
-ghost use Rattle.mask_writer.specs.declared.mirror.KeptMask.{KeptMask};
-ghost use Rattle.mask_writer.specs.Kept.{Stands};
+ghost use Rattle.mask_mirror.specs.Lists.{age_of};
+ghost use Rattle.mask_mirror.specs.declared.mirror.KeptMask.{KeptMask};
+ghost use Rattle.mask_mirror.specs.Kept.{Stands};
 
 use crate::blocks::Blocks;
-use crate::buckets::place_in;
-use crate::gathering::{gather, gather_mask};
-use crate::mirror::Mirror;
-use crate::number_room::NumberRoom;
-use crate::putting::put_in_front;
 use block_codec::StoredFilter;
 use block_codec::places::BUCKET_ROOTS;
+use mask_mirror::{Mirror, NumberRoom, gather_mask, name_chain, place_in, put_in_front};
 use pin_store::{Shape, Store, Writer};
 use std::alloc::Global;
 use store_history::{EditName, Law};
@@ -19,10 +16,17 @@ use tc_base::{NoMemory, Point};
 /// Changes the masks of a store, and keeps what it committed of them. One serves all masks of a store.
 #[derive(Drop)]
 pub struct MaskWriter {
-    mirror: Mirror,
-    chain: NumberRoom,
-    left_blocks: NumberRoom,
-    left_rows: NumberRoom,
+    pub(crate) mirror: Mirror,
+    pub(crate) chain: NumberRoom,
+    pub(crate) left_blocks: NumberRoom,
+    pub(crate) left_rows: NumberRoom,
+}
+
+// The age of the first filter that an edit brings.
+fn first_age(edit: Point) -> u64
+    ensures { result ≡ age_of edit 0 }
+{
+    u64::from(edit) << 32
 }
 
 impl MaskWriter {
@@ -34,9 +38,12 @@ impl MaskWriter {
     ghost use Rattle.pin_store.specs.Sheets.{base_of, IsSameButCells};
     ghost use Rattle.pin_store.specs.Calls.{seen_by, sheet_of, IsSeatOf, IsUnnamed};
     ghost use Rattle.block_codec.specs.Filters.{IsStorableFilter};
-    ghost use Rattle.mask_writer.specs.Kept.{Spells, HoldsChain, BucketAt, IsKept, AreOwn};
-    ghost use Rattle.mask_writer.specs.Inserting.{root_for, insert_at};
-    ghost use Rattle.mask_writer.specs.Forgetting.{bucket_blocks};
+    ghost use Rattle.mask_mirror.specs.Kept.{Spells, HoldsChain, BucketAt, IsKept, AreOwn};
+    ghost use Rattle.mask_mirror.specs.Lists.{HasFilters};
+    ghost use Rattle.mask_mirror.specs.Changes.{IsRenamed};
+    ghost use Rattle.block_codec.specs.declared.filter.StoredFilter.{StoredFilter};
+    ghost use Rattle.mask_mirror.specs.Changing.{root_for, insert_at};
+    ghost use Rattle.mask_mirror.specs.Forgetting.{bucket_blocks};
 
     /// Takes the room for the masks of a store of this shape. No mask stands. No other call takes memory.
     pub fn with_room(alloc: Global, _shape: Shape) -> Result<MaskWriter, NoMemory>
@@ -54,7 +61,7 @@ impl MaskWriter {
     }
 
     // Makes the one commit by which the root of the bucket at a place names the chain that begins with a number, and keeps that.
-    fn name_chain<L: Law, E: EditName<L::Entry>>(
+    fn rename_bucket<L: Law, E: EditName<L::Entry>>(
         &mut self,
         writer: &mut Writer<L>,
         store: &Store<L>,
@@ -77,13 +84,20 @@ impl MaskWriter {
             ≡ seen_by writer.old.place ++ commit_of store.now.shape (sheet_of writer.old.place).cells (10243 + place) blocks edit (Some edit) E.edit ∷ [] }
         ensures sheet { sheet_of writer.new.place ≡ sheet_of writer.old.place }
         ensures kept { IsKept self.new.mirror store.now.shape (sheet_of writer.new.place).cells (root_of (seen_by writer.new.place)) }
+        ensures renamed { IsRenamed self.old.mirror self.new.mirror place number }
         ensures masks { self.new.mirror.slots.items ≡ self.old.mirror.slots.items }
         ensures left { (self.new.left_blocks ≡ self.old.left_blocks) × (self.new.left_rows ≡ self.old.left_rows) }
     {
-        self.chain.clear();
-        gather(&mut self.chain, &self.mirror.next, number);
-        let chain = self.chain.as_slice();
-        writer.commit::<E>(store, BUCKET_ROOTS + place, chain, edit, Some(edit));
+        name_chain::<L, E>(
+            &mut self.chain,
+            &self.mirror,
+            writer,
+            store,
+            BUCKET_ROOTS + place,
+            number,
+            edit,
+            Some(edit),
+        );
         self.mirror.begin(place, number);
     }
 
@@ -119,13 +133,24 @@ impl MaskWriter {
             → block_words store.now.shape (sheet_of writer.new.place).cells other ≡ block_words store.now.shape (sheet_of writer.old.place).cells other }
         ensures kept { IsKept self.new.mirror store.now.shape (sheet_of writer.new.place).cells (root_of (seen_by writer.new.place)) }
         ensures masks { self.new.mirror.slots.items ≡ self.old.mirror.slots.items }
+        // the mask has one filter more, the last, where no edit of this number or a later one brought one of them
+        ensures list { (last : ℕ) (fs : List StoredFilter) → HasFilters self.old.mirror slot last fs → last < edit → HasFilters self.new.mirror slot edit (fs ++ filter.now ∷ []) }
+        ensures lists { (other last : ℕ) (fs : List StoredFilter) → other ≢ slot → HasFilters self.old.mirror other last fs → HasFilters self.new.mirror other last fs }
         ensures left { (self.new.left_blocks ≡ []) × (self.new.left_rows ≡ []) }
     {
         let block = given.blocks.as_slice()[0];
         let place = place_in(&self.mirror, slot, &filter.key);
         let next = self.mirror.first[place as usize];
-        put_in_front(&mut self.mirror, writer, store, block, filter, next);
-        self.name_chain::<L, E>(writer, store, place, block + 1, edit);
+        put_in_front(
+            &mut self.mirror,
+            writer,
+            store,
+            block,
+            filter,
+            first_age(edit),
+            next,
+        );
+        self.rename_bucket::<L, E>(writer, store, place, block + 1, edit);
         self.left_blocks.clear();
         self.left_rows.clear();
     }
@@ -137,6 +162,7 @@ impl MaskWriter {
         requires kept { (shape : Shape) × (cells : List ℕ) × (roots : ℕ → Named) × IsKept self.old.mirror shape cells roots }
         ensures gone { self.new.mirror.slots.items ≡ slice_set self.old.mirror.slots.items slot None }
         ensures kept { (shape : Shape) (cells : List ℕ) (roots : ℕ → Named) → IsKept self.old.mirror shape cells roots → IsKept self.new.mirror shape cells roots }
+        ensures lists { (other last : ℕ) (fs : List StoredFilter) → other ≢ slot → HasFilters self.old.mirror other last fs → HasFilters self.new.mirror other last fs }
         ensures blocks { (kept : KeptMask) (shape : Shape) (cells : List ℕ) (roots : ℕ → Named) → Stands self.old.mirror slot kept → IsKept self.old.mirror shape cells roots
             → self.new.left_blocks ≡ kept.block ∷ bucket_blocks roots kept.mask kept.mask.size }
         ensures rows { (kept : KeptMask) → Stands self.old.mirror slot kept → self.new.left_rows ≡ kept.mask.rows }
@@ -149,7 +175,7 @@ impl MaskWriter {
             &self.mirror,
             slot,
         );
-        self.mirror.forget(slot);
+        self.mirror.place(slot, None);
     }
 
     /// The blocks that the last changing call took out of the masks.

@@ -6,9 +6,9 @@ use Rattle.pin_store.specs.Layout.{commit_of}
 use Rattle.pin_store.specs.Sheets.{base_of}
 use Rattle.pin_store.specs.Calls.{seen_by, sheet_of, IsUnnamed}
 use Rattle.pin_store.proofs.Sound.{base_low}
-use Rattle.mask_writer.specs.Kept.{HoldsChain, BucketAt, AreOwn}
-use Rattle.mask_writer.specs.Inserting.{root_for, insert_at}
-use Rattle.mask_writer.proofs.Keeping.{same_base, same_kept, unnamed_now}
+use Rattle.mask_mirror.specs.Kept.{HoldsChain, BucketAt, AreOwn}
+use Rattle.mask_mirror.specs.Changing.{root_for, insert_at}
+use Rattle.mask_mirror.proofs.Keeping.{same_base, same_kept, unnamed_now}
 use Rattle.mask_writer.proofs.Inserting.{chain_ready, commit_is}
 use Rattle.mask_writer.proofs.mask_writer.MaskWriter.insert.Goals as goal
 
@@ -18,8 +18,8 @@ place_in-place-requires-clause-storable g c = λ kept stands. (c.requires.kept.m
 pub put_in_front-requires-clause-free : goal.put_in_front-requires-clause-free
 put_in_front-requires-clause-free g c = subst (IsUnnamed (base_of (sheet_of c.args.writer.now.place)) (seen_by c.args.writer.now.place)) (ap (λ (bs : List ℕ). get_or bs 0 0) (sym c.as_slice.ensures)) c.requires.free
 
-pub name_chain-requires-clause-chain : goal.name_chain-requires-clause-chain
-name_chain-requires-clause-chain g c =
+pub rename_bucket-requires-clause-chain : goal.rename_bucket-requires-clause-chain
+rename_bucket-requires-clause-chain g c =
     let mirror = c.args.self.now.mirror in let shape = c.args.store.now.shape in let h = seen_by c.args.writer.now.place in let old = sheet_of c.args.writer.now.place in
     let b = get_or c.as_slice.result.now 0 0 in let given : get_or c.args.given.now.blocks 0 0 ≡ b = ap (λ (bs : List ℕ). get_or bs 0 0) (sym c.as_slice.ensures) in
     let kept = c.requires.stands.0 in let stands = c.requires.stands.1 in let filter = c.args.filter.now in
@@ -32,8 +32,8 @@ name_chain-requires-clause-chain g c =
     × AreOwn mirror2 (root_of more) (10243 + place) blocks) (sym p.seen)
     (chain_ready mirror mirror2 shape old.cells new.cells h c.args.slot b kept filter place next c.requires.kept stands free at was p.filled p.chain)
 
-pub name_chain-requires-clause-lawful : goal.name_chain-requires-clause-lawful
-name_chain-requires-clause-lawful g c = λ blocks s.
+pub rename_bucket-requires-clause-lawful : goal.rename_bucket-requires-clause-lawful
+rename_bucket-requires-clause-lawful g c = λ blocks s.
     let mirror = c.args.self.now.mirror in let shape = c.args.store.now.shape in let h = seen_by c.args.writer.now.place in let old = sheet_of c.args.writer.now.place in
     let b = get_or c.as_slice.result.now 0 0 in let given : get_or c.args.given.now.blocks 0 0 ≡ b = ap (λ (bs : List ℕ). get_or bs 0 0) (sym c.as_slice.ensures) in
     let kept = c.requires.stands.0 in let stands = c.requires.stands.1 in let filter = c.args.filter.now in
@@ -59,4 +59,4 @@ returns-clause-seen g c = λ more there.
     let chain = chain_ready mirror mirror2 shape old.cells new.cells h c.args.slot b kept filter place next c.requires.kept stands free at was p.filled p.chain in
     let same = same_kept mirror c.args.slot c.args.slot kept more refl stands there in
     let one = commit_is mirror mirror2 shape old.cells new.cells h c.args.slot b kept filter place next c.requires.kept stands free at was p.filled p.words p.chain chain.1 chain.2.spelled c.args.edit g.E.EditName.edit ∙ (λ t. insert_at h (root_for (same t).mask filter) (sym given t) filter c.args.edit g.E.EditName.edit) in
-    c.name_chain.ensures.seen chain.1 chain.2.spelled ∙ (λ t. p.seen t ++ one t ∷ [])
+    c.rename_bucket.ensures.seen chain.1 chain.2.spelled ∙ (λ t. p.seen t ++ one t ∷ [])

@@ -1,4 +1,4 @@
-use Rattle.mask_writer.proofs.Keeping.{kept_none}
+use Rattle.mask_mirror.proofs.Keeping.{kept_none}
 use Rattle.mask_writer.proofs.mask_writer.MaskWriter.with_room.Goals as goal
 
 pub returns-clause-kept : goal.returns-clause-kept

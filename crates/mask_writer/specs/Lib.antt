@@ -1,4 +1,0 @@
-pub mod Kept
-pub mod Changes
-pub mod Inserting
-pub mod Forgetting
