@@ -88,3 +88,7 @@ own_keys h b keeps = by_last (λ (x : List (Commit Change)). (k : ℕ) → HaveO
 pub keys_distinct : (h : List (Commit Change)) (b k serial one other : ℕ) (f g : StoredFilter) → Keeps h b → b ≤ length h → slice_get (filters_after h k) one ≡ Some f → slice_get (filters_after h k) other ≡ Some g
     → f.key.words ≡ g.key.words → one ≡ other
 keys_distinct h b k serial one other f g keeps low e d same = own_keys h b keeps k one other f g e d same
+
+-- no commits keep it
+pub nothing_kept : Keeps [] 0
+nothing_kept n c e = absurd (cc e)
