@@ -48,8 +48,13 @@ pub record IsReady {E : Type 0} (mirror : Mirror) (shape : Shape) (cells : List 
   pub spare : IsUnnamed base h block
   pub apart : IsAmong block (blocks_of xs) → ⊥
 
--- the filters that an edit brings, from its `place`th on, in given blocks, the first into the first, as far as both go
-abbrev pub brought : ℕ → ℕ → List ℕ → List StoredFilter → List Laid
-brought edit place [] fs = []
-brought edit place (b ∷ bs) [] = []
-brought edit place (b ∷ bs) (f ∷ fs) = record { block = b; filter = f; age = age_of edit place } ∷ brought edit (place + 1) bs fs
+-- filters with ages in given blocks, the first in the first, as far as both go
+abbrev pub laid_in : List ℕ → List Dated → List Laid
+laid_in [] ds = []
+laid_in (b ∷ bs) [] = []
+laid_in (b ∷ bs) (d ∷ ds) = record { block = b; filter = d.filter; age = d.age } ∷ laid_in bs ds
+
+-- the filters that an edit brings, from its `place`th on, with their ages
+abbrev pub dated_by : ℕ → ℕ → List StoredFilter → List Dated
+dated_by edit place [] = []
+dated_by edit place (f ∷ fs) = record { age = age_of edit place; filter = f } ∷ dated_by edit (place + 1) fs

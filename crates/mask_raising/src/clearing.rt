@@ -18,6 +18,7 @@ pub fn clear_buckets(mirror: &mut Mirror, mask: &StoredMask)
     requires rows { AreFreeRows mirror.old mask.now.rows }
     requires kept { (shape : Shape) × (cells : List ℕ) × (roots : ℕ → Named) × IsKept mirror.old shape cells roots }
     ensures masks { mirror.new.slots.items ≡ mirror.old.slots.items }
+    ensures dates { (mirror.new.filters.items ≡ mirror.old.filters.items) × (mirror.new.ages.items ≡ mirror.old.ages.items) }
     ensures laid { (shape : Shape) (cells : List ℕ) → IsLaid mirror.new shape cells mask.now [] }
     ensures kept { (shape : Shape) (cells : List ℕ) (roots : ℕ → Named) → IsKept mirror.old shape cells roots → IsKept mirror.new shape cells roots }
     ensures lists { (slot last : ℕ) (fs : List StoredFilter) → HasFilters mirror.old slot last fs → HasFilters mirror.new slot last fs }

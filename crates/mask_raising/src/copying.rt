@@ -1,5 +1,5 @@
 //! A mask copied, and a block filled with its record.
-ghost use Rattle.std.specs.Prelude.{◌≡◌, ◌≢◌, ℕ, ◌<◌, None};
+ghost use Rattle.std.specs.Prelude.{◌≡◌, ◌≢◌, ℕ, ◌<◌, ◌≤◌, length, None};
 ghost use Rattle.pin_store.specs.Layout.{block_words};
 ghost use Rattle.pin_store.specs.Sheets.{base_of, IsSameButCells};
 ghost use Rattle.pin_store.specs.Calls.{seen_by, sheet_of, IsSeatOf, IsUnnamed};
@@ -9,19 +9,27 @@ use block_codec::{RowNumbers, StoredMask, write_mask};
 use pin_store::{Store, Writer};
 use store_history::Law;
 
+/// The list of these rows, 64 at most.
+pub fn rows_of(rows: &[u32]) -> RowNumbers
+    requires { length rows.now ≤ 64 }
+    ensures { result ≡ rows.now }
+{
+    let mut list = RowNumbers::new();
+    for row in rows {
+        list.push(*row);
+    }
+    list
+}
+
 /// The same mask once more.
 pub fn copy_of_mask(mask: &StoredMask) -> StoredMask
     ensures { result ≡ mask.now }
 {
-    let mut rows = RowNumbers::new();
-    for row in mask.rows.items() {
-        rows.push(*row);
-    }
     StoredMask {
         serial: mask.serial,
         size: mask.size,
         mask: mask.mask,
-        rows,
+        rows: rows_of(mask.rows.items()),
     }
 }
 

@@ -10,8 +10,8 @@ ghost use Rattle.block_codec.specs.Masks.{IsStorableMask};
 ghost use Rattle.mask_table.specs.Buckets.{IsAmong};
 ghost use Rattle.mask_mirror.specs.Kept.{IsKept};
 ghost use Rattle.mask_mirror.specs.Given.{AreGiven, AreFreeRows};
-ghost use Rattle.mask_mirror.specs.Lists.{age_of, HasFilters};
-ghost use Rattle.mask_raising.specs.Laid.{Laid, blocks_of, brought, IsLaid};
+ghost use Rattle.mask_mirror.specs.Lists.{age_of, kept_in, HasFilters};
+ghost use Rattle.mask_raising.specs.Laid.{Laid, blocks_of, laid_in, dated_by, IsLaid};
 
 use block_codec::{StoredFilter, StoredMask};
 use mask_mirror::{Mirror, place_for, put_in_front};
@@ -44,6 +44,7 @@ pub fn lay<L: Law>(
     ensures others { (other : ℕ) → other ≢ block → other < store.now.shape.blocks
         → block_words store.now.shape (sheet_of writer.new.place).cells other ≡ block_words store.now.shape (sheet_of writer.old.place).cells other }
     ensures masks { mirror.new.slots.items ≡ mirror.old.slots.items }
+    ensures dated { (c : ℕ) → c ≢ block → kept_in mirror.new c ≡ kept_in mirror.old c }
     ensures laid { (xs : List Laid) → (IsAmong block (blocks_of xs) → ⊥) → IsLaid mirror.old store.now.shape (sheet_of writer.old.place).cells mask.now xs
         → IsLaid mirror.new store.now.shape (sheet_of writer.new.place).cells mask.now (xs ++ record { block = block; filter = filter.now; age = age } ∷ []) }
     ensures kept { IsKept mirror.new store.now.shape (sheet_of writer.new.place).cells (root_of (seen_by writer.new.place)) }
@@ -88,7 +89,7 @@ pub fn lay_all<L: Law>(
     ensures others { (other : ℕ) → (IsAmong other blocks.now → ⊥) → other < store.now.shape.blocks
         → block_words store.now.shape (sheet_of writer.new.place).cells other ≡ block_words store.now.shape (sheet_of writer.old.place).cells other }
     ensures masks { mirror.new.slots.items ≡ mirror.old.slots.items }
-    ensures laid { IsLaid mirror.new store.now.shape (sheet_of writer.new.place).cells mask.now (brought edit 0 blocks.now filters.now) }
+    ensures laid { IsLaid mirror.new store.now.shape (sheet_of writer.new.place).cells mask.now (laid_in blocks.now (dated_by edit 0 filters.now)) }
     ensures kept { IsKept mirror.new store.now.shape (sheet_of writer.new.place).cells (root_of (seen_by writer.new.place)) }
     ensures lists { (slot last : ℕ) (fs : List StoredFilter) → HasFilters mirror.old slot last fs → HasFilters mirror.new slot last fs }
 {

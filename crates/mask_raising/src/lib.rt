@@ -8,7 +8,7 @@
 //! First in the mirror and in blocks alone, with no commit. The mask's buckets are cleared (`clear_buckets`), and each filter is put in
 //! front of its bucket's chain, in a block that no root names (`lay`). What was laid so far, in which order and with which ages, is
 //! `IsLaid` in specs/. Then the commits, by `raise`: the root of each bucket, the empty ones too, and at last the slot's. `make_mask` does it
-//! all for filters that are new; who moves filters from one mask to another calls the steps, and gives `lay` the ages that they had.
+//! all for filters that are new; who moves filters from one mask to another calls the steps, and `lay_copies` gives them the ages that they had.
 //!
 //! # Why the slot's root comes last
 //!
@@ -37,11 +37,13 @@ mod laying;
 mod making;
 mod naming;
 mod raising;
+mod relaying;
 #[cfg(test)]
 mod tests;
 
 pub use clearing::clear_buckets;
-pub use copying::copy_of_mask;
+pub use copying::{copy_of_mask, rows_of};
 pub use laying::{lay, lay_all};
 pub use making::make_mask;
 pub use raising::raise;
+pub use relaying::lay_copies;

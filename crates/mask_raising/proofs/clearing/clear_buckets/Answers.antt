@@ -13,6 +13,8 @@ loop-bucket-preserved c =
     let aside = place_aside mirror w.0 w.1 w.2 (i.kept w.0 w.1 w.2 w.3) mask c.requires.mask (free_rows_same c.args.mirror.now mirror mask.rows i.slots c.requires.rows) k place c.loop-bucket-test.true at in
     record {
       slots = b.slots ∙ i.slots;
+      filters = b.filters ∙ i.filters;
+      ages = b.ages ∙ i.ages;
       cleared = λ j less. zero_at mirror c.begin.new.self place (bucket_at mask j) c.place_of.ensures.small renamed
           (λ far. let other : j ≢ k = λ is. far (ap (bucket_at mask) is ∙ sym at) in i.cleared j (omega arith));
       kept = λ shape cells roots keeps. kept_aside mirror c.begin.new.self place 0 renamed aside shape cells roots (i.kept shape cells roots keeps);

@@ -1,4 +1,5 @@
-use Rattle.std.proofs.Common.{◌+◌}
+use Rattle.std.proofs.Common.{◌∙◌, ℕ, ◌+◌, List, get_or, Option, None, ap}
+use Rattle.block_codec.specs.declared.filter.StoredFilter.{StoredFilter}
 use Rattle.store_history.specs.History.{root_of}
 use Rattle.pin_store.specs.Calls.{seen_by, sheet_of}
 use Rattle.mask_table.specs.Buckets.{bucket_for}
@@ -27,3 +28,7 @@ returns-clause-lists g c = λ slot last fs has. let mask = c.args.mask.now in le
     has_aside mid c.begin.new.self c.place_for-place.result (c.args.block + 1) (record { slots = b.slots; next = b.next; filters = b.filters; ages = b.ages; first = b.first })
     (place_aside mid shape cells roots p.kept mask c.requires.mask (free_rows_same c.args.mirror.now mid mask.rows p.filled.slots c.requires.rows) (bucket_for mask.size key) c.place_for-place.result (bucket_within mask c.requires.mask key) c.place_for-place.ensures.place)
     slot last fs (p.lists slot last fs has)
+
+pub returns-clause-dated : goal.returns-clause-dated
+returns-clause-dated g c = λ k away. let p = c.put_in_front.ensures in let b = c.begin.ensures in let age = p.filled.ages k away in let filter = p.filled.filters k away in
+    λ t. ((ap (λ (xs : List ℕ). get_or xs k 0) b.ages ∙ age) t, (ap (λ (fs : List (Option StoredFilter)). get_or fs k None) b.filters ∙ filter) t)

@@ -7,7 +7,7 @@ use Rattle.block_codec.specs.declared.filter.StoredFilter.{StoredFilter}
 use Rattle.mask_table.specs.Buckets.{IsAmong}
 use Rattle.mask_mirror.specs.Kept.{IsKept}
 use Rattle.mask_mirror.specs.Lists.{HasFilters}
-use Rattle.mask_raising.specs.Laid.{brought, IsLaid}
+use Rattle.mask_raising.specs.Laid.{laid_in, dated_by, IsLaid}
 use Rattle.mask_raising.proofs.laying.lay_all.Given as goal
 
 abbrev pub invariant-loop-place : goal.invariant-loop-place
@@ -18,7 +18,7 @@ invariant-loop-place g l = record {
   others : (other : ℕ) → (IsAmong other l.blocks → ⊥) → other < l.store.shape.blocks
       → block_words l.store.shape (sheet_of l.writer.place).cells other ≡ block_words l.store.shape (sheet_of l.initial.writer.place).cells other;
   slots : l.mirror.slots.items ≡ l.initial.mirror.slots.items;
-  laid : IsLaid l.mirror l.store.shape (sheet_of l.writer.place).cells l.mask (brought l.edit 0 l.blocks (take l.place l.filters));
+  laid : IsLaid l.mirror l.store.shape (sheet_of l.writer.place).cells l.mask (laid_in l.blocks (take l.place (dated_by l.edit 0 l.filters)));
   kept : IsKept l.mirror l.store.shape (sheet_of l.writer.place).cells (root_of (seen_by l.writer.place));
   lists : (slot last : ℕ) (fs : List StoredFilter) → HasFilters l.initial.mirror slot last fs → HasFilters l.mirror slot last fs;
 }
