@@ -1,0 +1,6 @@
+pub mod MaskReads
+pub mod Tested
+pub mod InBuckets
+pub mod Rewriting
+pub mod Spending
+pub mod WholeMask
