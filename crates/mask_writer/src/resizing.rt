@@ -1,5 +1,5 @@
 //! Masks that get another number of buckets.
-ghost use Rattle.std.specs.Prelude.{◌≡◌, ◌≤◌, ℕ, length};
+ghost use Rattle.std.specs.Prelude.{◌≡◌, ◌<◌, ◌≤◌, ℕ, length, drop};
 ghost use Rattle.block_codec.specs.declared.mask.StoredMask.{StoredMask};
 ghost use Rattle.mask_mirror.specs.declared.mirror.KeptMask.{KeptMask};
 ghost use Rattle.mask_mirror.specs.Kept.{Stands};
@@ -33,8 +33,16 @@ fn resized_mask(mirror: &Mirror, slot: u32, size: u32, rows: &[u32]) -> StoredMa
     }
 }
 
+// All blocks but the first.
+fn behind_first(blocks: &[u32]) -> &[u32]
+    requires { 1 ≤ length blocks.now }
+    ensures { result.now ≡ drop 1 blocks.now }
+{
+    &blocks[1..]
+}
+
 impl MaskWriter {
-    ghost use Rattle.std.specs.Prelude.{◌≢◌, ◌<◌, ◌+◌, ◌*◌, ◌++◌, ◌∷◌, List, take, slice_index, slice_set, Some, IsTrue, ⊥};
+    ghost use Rattle.std.specs.Prelude.{◌≢◌, ◌+◌, ◌*◌, ◌++◌, ◌∷◌, List, take, slice_index, slice_set, Some, IsTrue};
     ghost use Rattle.store_history.specs.History.{root_of};
     ghost use Rattle.pin_store.specs.Layout.{block_words};
     ghost use Rattle.pin_store.specs.Sheets.{base_of, IsSameButCells};
@@ -91,8 +99,8 @@ impl MaskWriter {
             &self.mirror,
             slot,
         );
-        let left = &self.left_blocks.as_slice()[1..];
-        in_order(&mut self.chain, &self.mirror, slot, left);
+        let filled = behind_first(self.left_blocks.as_slice());
+        in_order(&mut self.chain, &self.mirror, slot, filled);
         clear_buckets(&mut self.mirror, mask);
         let from = self.chain.as_slice();
         lay_copies(&mut self.mirror, writer, store, mask, from, blocks);
