@@ -1,0 +1,4 @@
+pub mod Reading
+pub mod Buckets
+pub mod Among
+pub mod Putting
