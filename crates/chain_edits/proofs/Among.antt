@@ -1,5 +1,5 @@
 -- What is among the elements of a list, and lists that have no number in common.
-use Rattle.std.proofs.Common.{◌≡◌, ◌≢◌, ◌∙◌, ◌⊎◌, inl, inr, ℕ, zero, suc, Bool, true, false, eqb, List, [], ◌∷◌, ◌++◌, take, drop, slice_get, Some, refl, sym, subst, eq-eqb}
+use Rattle.std.proofs.Common.{◌≡◌, ◌≢◌, ◌∙◌, ◌⊎◌, inl, inr, ℕ, zero, suc, Bool, true, false, eqb, List, [], ◌∷◌, ◌++◌, map, take, drop, slice_get, Some, refl, sym, subst, eq-eqb}
 use Rattle.std.specs.List.{IsDistinct, AllByRecursion}
 use Rattle.std.proofs.lemmas.Bool.{true≢false}
 use Rattle.mask_table.specs.Buckets.{IsAmong}
@@ -39,6 +39,12 @@ module _ {A : Type 0} where
   among_drop x zero xs k e = (k, e)
   among_drop x (suc n) [] k e = absurd (cc e)
   among_drop x (suc n) (y ∷ ys) k e = let r = among_drop x n ys k e in (suc r.0, r.1)
+
+-- what is among the results comes from one
+pub among_map : {A B : Type 0} (f : A → B) (y : B) (xs : List A) (k : ℕ) → slice_get (map f xs) k ≡ Some y → (x : A) × (slice_get xs k ≡ Some x) × (f x ≡ y)
+among_map f y [] k e = absurd (cc e)
+among_map f y (x ∷ xs) zero e = (x, refl, cc e)
+among_map f y (x ∷ xs) (suc k) e = among_map f y xs k e
 
 -- ---- numbers that are all different
 not_again : (x : ℕ) (xs : List ℕ) → AllByRecursion (λ y. eqb x y ≡ false) xs → (k : ℕ) → slice_get xs k ≡ Some x → ⊥
