@@ -8,6 +8,7 @@ use Rattle.store_history.specs.Reads.{read_all}
 use Rattle.pin_store.specs.declared.shape.Shape.{Shape}
 use Rattle.pin_store.specs.Layout.{block_words, links_of}
 use Rattle.block_codec.specs.declared.filter.StoredFilter.{StoredFilter}
+use Rattle.block_codec.specs.declared.mask.StoredMask.{StoredMask}
 use Rattle.block_reading.specs.Read.{filter_in}
 use Rattle.mask_table.specs.Buckets.{bucket_root}
 use Rattle.mask_mirror.specs.declared.mirror.Mirror.{Mirror}
@@ -84,3 +85,15 @@ module _ (mirror : Mirror) (shape : Shape) (cells : List ℕ) (roots : ℕ → N
         counted = long;
         blocks_are = ap (map (λ (l : Link). l.block)) named ∙ (link_blocks shape cells was.blocks ∙ sym same);
       }
+
+-- ---- what was found
+module _ (roots : ℕ → Named) (mask : StoredMask) (handle place count : ℕ) (blocks : List ℕ) (found : IsFound roots mask handle place count blocks) where
+  pub front_read : read_all filter_in (take count (roots (10243 + place)).chain) ≡ Some found.front
+  front_read = ap (λ (n : ℕ). read_all filter_in (take n (roots (10243 + place)).chain)) (sym found.counted) ∙ found.there.before
+
+  pub front_is : (front : List StoredFilter) → read_all filter_in (take count (roots (10243 + place)).chain) ≡ Some front → front ≡ found.front
+  front_is front e = let both : Some front ≡ Some found.front = sym e ∙ front_read in cc both
+
+  -- the blocks up to the filter's
+  pub blocks_left : (left : List ℕ) → left ≡ take (count + 1) blocks → left ≡ map (λ (l : Link). l.block) (take (length found.front + 1) (roots (10243 + place)).chain)
+  blocks_left left e = e ∙ ((λ t. take (sym found.counted t + 1) (sym found.blocks_are t)) ∙ take-map (λ (l : Link). l.block) (length found.front + 1) (roots (10243 + place)).chain)

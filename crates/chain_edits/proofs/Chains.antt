@@ -20,6 +20,7 @@ use Rattle.mask_mirror.specs.declared.mirror.KeptMask.{KeptMask}
 use Rattle.mask_mirror.specs.Kept.{bucket_at, Stands, Spells, HoldsFilter, HoldFilters, HoldsChain, BucketAt, Names, KeepsBucket, IsKept}
 use Rattle.mask_mirror.specs.Changing.{root_for}
 use Rattle.mask_mirror.specs.Linked.{placed, linked}
+use Rattle.mask_mirror.proofs.Spelling.{few_blocks}
 use Rattle.mask_mirror.proofs.Keeping.{at_root, names_each}
 use Rattle.mask_mirror.proofs.Chains.{first_link_of, spelled_low, block_there}
 use Rattle.chain_edits.specs.Finding.{IsFound}
@@ -89,6 +90,9 @@ module _ (mirror : Mirror) (shape : Shape) (cells : List ℕ) (roots : ℕ → N
   pub within : count < length blocks
   within = slice_get_within blocks count found.there.link.block (block_there shape cells blocks count found.there.link link_at)
 
+  pub short : count < 16384
+  short = let inside = within in let few = few_blocks mirror.next.items (get_or mirror.first.items place 0) blocks chain.spelled in omega arith
+
   pub there : slice_get blocks count ≡ Some (get_or blocks count 0)
   there = slice_get-get_or blocks count 0 within
 
@@ -114,9 +118,6 @@ module _ (mirror : Mirror) (shape : Shape) (cells : List ℕ) (roots : ℕ → N
       let words = link_words shape cells blocks count found.there.link link_at ∙ ap (block_words shape cells) (sym same) in
       let both : Some h.1.filter ≡ Some found.filter = sym read ∙ (ap filter_in (sym words) ∙ found.there.read) in
       h.1.kept ∙ both
-
-  pub before_read : read_all filter_in (take count (roots (10243 + place)).chain) ≡ Some found.front
-  before_read = ap (λ (n : ℕ). read_all filter_in (take n (roots (10243 + place)).chain)) (sym found.counted) ∙ found.there.before
 
   pub front_kept : (front : List StoredFilter) → read_all filter_in (take count (roots (10243 + place)).chain) ≡ Some front → map (λ (b : ℕ). get_or mirror.filters.items b None) (take count blocks) ≡ map Some front
   front_kept front e =

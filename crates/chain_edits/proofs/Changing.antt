@@ -51,6 +51,11 @@ pub commit_is : {E : Type 0} (h : List (Commit E)) (shape : Shape) (cells : List
     → commit_of shape cells (10243 + place) bs number (Some number) edit ≡ rewrite_at h (10243 + place) given fs count number edit
 commit_is h shape cells place count given bs fs number edit links = λ t. record { root = 10243 + place; named = record { chain = links t; stamp = number }; edit = Some (number, edit) }
 
+-- and such commits are the same where their parts are
+pub same_commit : {E : Type 0} (h : List (Commit E)) (root root2 : ℕ) (given given2 : List ℕ) (fs fs2 : List StoredFilter) (count count2 number : ℕ) (edit : E) → root ≡ root2 → given ≡ given2 → fs ≡ fs2 → count ≡ count2
+    → rewrite_at h root given fs count number edit ≡ rewrite_at h root2 given2 fs2 count2 number edit
+same_commit h root root2 given given2 fs fs2 count count2 number edit a b c d = λ t. rewrite_at h (a t) (b t) (c t) (d t) number edit
+
 module _ (mirror mirror1 : Mirror) (shape : Shape) (old new : List ℕ) (roots : ℕ → Named) (slot : ℕ) (kept : KeptMask) (stands : Stands mirror slot kept) (keeps : IsKept mirror shape old roots) (handle place count : ℕ) (blocks : List ℕ)
     (found : IsFound roots kept.mask handle place count blocks) (given : List ℕ) (more : List StoredFilter) (age number : ℕ) (free : (b : ℕ) → IsAmong b given → (root : ℕ) → Names roots root b → ⊥)
     (put : ArePut mirror mirror1 shape old new given (map (kept_in mirror) (take count blocks) ++ aged age more) (get_or mirror.next.items (get_or blocks count 0) 0) number) where

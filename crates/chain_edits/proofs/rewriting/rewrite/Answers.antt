@@ -14,7 +14,8 @@ use Rattle.mask_mirror.specs.Lists.{kept_in}
 use Rattle.mask_mirror.proofs.Keeping.{unnamed_now}
 use Rattle.chain_edits.specs.Putting.{listed, aged, ArePut}
 use Rattle.chain_edits.proofs.Among.{among_take}
-use Rattle.chain_edits.proofs.Chains.{names, low, has, within, there, before_read, in_bucket}
+use Rattle.chain_edits.proofs.Buckets.{front_read}
+use Rattle.chain_edits.proofs.Chains.{names, low, has, within, there, in_bucket}
 use Rattle.chain_edits.proofs.Changing.{listed_few, commit_is, chain_ready, links_new, lists_stay, list_changed}
 use Rattle.chain_edits.proofs.rewriting.rewrite.Goals as goal
 
@@ -80,7 +81,7 @@ rename-requires-clause-lawful g c = λ bs s.
     let put = subst (λ (n : ℕ). ArePut mirror mirror1 shape old.cells new.cells given (map (kept_in mirror) (take count blocks) ++ aged age more) n number) is p.put in
     let free = λ (x : ℕ) (i : IsAmong x given). unnamed_now (base_of old) h x (base_low old c.args.writer.now.sound) (c.requires.given.free i.0 x i.1) in
     let of = λ (f : StoredFilter) (i : IsAmong f more). in_bucket mirror shape old.cells (root_of h) w.0 w.2 w.3 c.requires.kept w.1 place count blocks w.4 f (w.5 f i) in
-    let read = before_read mirror shape old.cells (root_of h) w.0 w.2 w.3 c.requires.kept w.1 place count blocks w.4 in
+    let read = front_read (root_of h) w.2.mask w.1 place count blocks w.4 in
     let links = links_new mirror mirror1 shape old.cells new.cells (root_of h) w.0 w.2 w.3 c.requires.kept w.1 place count blocks w.4 given more age number free put c.requires.shape.1 of w.4.front read bs s in
     let one = commit_is h shape new.cells place count given bs (w.4.front ++ more) c.args.edit g.E.EditName.edit links in
     subst (g.L.Law.keeps (seen_by c.put_edited-number.new.writer.place ++ commit_of shape new.cells (10243 + place) bs c.args.edit (Some c.args.edit) g.E.EditName.edit ∷ [])) (sym (base_same old new p.sheet))
