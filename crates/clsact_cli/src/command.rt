@@ -1,7 +1,7 @@
 ghost use Rattle.std.specs.Prelude.{◌≡◌, ◌≤◌, IfSome};
 ghost use Rattle.std.specs.List.{list_all};
 ghost use Rattle.std.specs.Option.{option_map};
-ghost use Rattle.clsact_cli.specs.Command.{texts, hook_of, is_name_byte, is_front, count_of, gen_request, request_of_one, request_of_two, request_of_four, request_of, verb_of, runs_job, asks_for_job};
+ghost use Rattle.clsact_cli.specs.Command.{texts, hook_of, is_name_byte, is_front, count_of, gen_request, request_of_one, request_of_two, request_of_four, request_of, verb_of};
 ghost use Rattle.clsact_cli.specs.Requests.{request, HasFewFilters};
 
 use tc_base::Hook;
@@ -182,22 +182,5 @@ impl<'a> Command<'a> {
             Command::Recheck { .. } => "recheck",
             Command::Gen { .. } => "gen",
         }
-    }
-
-    /// Whether it runs a job, and so may start threads.
-    pub fn runs_job(&self) -> bool
-        ensures { result ≡ runs_job (request self.now) }
-    {
-        matches!(self, Command::Run { .. } | Command::Gen { .. })
-    }
-}
-
-/// Whether these words are a command that runs a job.
-pub fn asks_for_job(words: &[String]) -> bool
-    ensures { result ≡ asks_for_job (request_of (texts words.now)) }
-{
-    match command_of(words) {
-        None => false,
-        Some(command) => command.runs_job(),
     }
 }

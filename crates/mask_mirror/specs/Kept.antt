@@ -7,7 +7,7 @@ use Rattle.pin_store.specs.declared.shape.Shape.{Shape}
 use Rattle.pin_store.specs.Layout.{block_words, links_of, first_of, block_in}
 use Rattle.block_codec.specs.declared.filter.StoredFilter.{StoredFilter}
 use Rattle.block_codec.specs.declared.mask.StoredMask.{StoredMask}
-use Rattle.block_codec.specs.Filters.{IsFilterBlock}
+use Rattle.block_codec.specs.Filters.{IsStorableFilter, IsFilterBlock}
 use Rattle.block_codec.specs.Masks.{IsMaskBlock}
 use Rattle.mask_table.specs.Buckets.{mask_root, bucket_root, bucket_for}
 use Rattle.mask_mirror.specs.declared.mirror.Mirror.{Mirror}
@@ -25,6 +25,13 @@ Stands mirror slot kept = slice_index_or mirror.slots.items slot None ≡ Some k
 abbrev pub Spells : List ℕ → ℕ → List ℕ → Type 0
 Spells next number [] = number ≡ 0
 Spells next number (b ∷ blocks) = (number ≡ b + 1) × (b < 16384) × Spells next (slice_index next b) blocks
+
+-- a filter is kept for a block of the pool, and may be stored
+pub record HasFilter (filters : List (Option StoredFilter)) (b : ℕ) : Type 0 where
+  pub pool : b < 16384
+  pub filter : StoredFilter
+  pub kept : slice_index_or filters b None ≡ Some filter
+  pub storable : IsStorableFilter filter
 
 -- the block has the filter that is kept for it, which belongs into that bucket of so many
 pub record HoldsFilter (filters : List (Option StoredFilter)) (shape : Shape) (cells : List ℕ) (size bucket b : ℕ) (link : Option ℕ) : Type 0 where

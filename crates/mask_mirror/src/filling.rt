@@ -1,10 +1,12 @@
-//! A block filled with a filter.
-ghost use Rattle.std.specs.Prelude.{◌≡◌, ◌≢◌, ℕ, ◌<◌};
+//! A block filled with a filter, and the filter that is kept for a block.
+ghost use Rattle.std.specs.Prelude.{◌≡◌, ◌≢◌, ℕ, ◌<◌, slice_index_or, Some, None};
 ghost use Rattle.pin_store.specs.Layout.{block_words};
 ghost use Rattle.pin_store.specs.Sheets.{base_of, IsSameButCells};
 ghost use Rattle.pin_store.specs.Calls.{seen_by, sheet_of, IsSeatOf, IsUnnamed};
 ghost use Rattle.block_codec.specs.Filters.{IsStorableFilter, IsFilterBlock};
+ghost use Rattle.mask_mirror.specs.Kept.{HasFilter};
 
+use crate::mirror::Mirror;
 use block_codec::{StoredFilter, write_filter};
 use pin_store::{Store, Writer};
 use store_history::Law;
@@ -46,5 +48,16 @@ pub fn copy_of(filter: &StoredFilter) -> StoredFilter
         handle: filter.handle,
         key: filter.key,
         actions,
+    }
+}
+
+/// The filter that is kept for a block, once more.
+pub fn kept_filter(mirror: &Mirror, block: u32) -> StoredFilter
+    requires { HasFilter mirror.now.filters.items block }
+    ensures { slice_index_or mirror.now.filters.items block None ≡ Some result }
+{
+    match &mirror.filters[block as usize] {
+        Some(filter) => copy_of(filter),
+        None => unreachable!(),
     }
 }

@@ -1,5 +1,7 @@
 -- A filter in front of a bucket's chain: the chain may be named, and the commit that names it is that of an insertion.
-use Rattle.std.proofs.Common.{◌≡◌, ◌≢◌, ◌∙◌, ℕ, zero, suc, ◌+◌, ◌<◌, List, ◌∷◌, get_or, slice_get, Some, refl, sym, ap, subst, arith}
+use Rattle.std.proofs.Common.{◌≡◌, ◌≢◌, ◌∙◌, ℕ, zero, suc, ◌+◌, ◌<◌, Bool, if◌then◌else◌, List, [], ◌∷◌, ◌++◌, map, get_or, slice_get, Option, Some, None, refl, sym, ap, subst, arith, get_or-set_same, eq-eqb}
+use Rattle.std.proofs.lemmas.Bool.{ne_eqb}
+use Rattle.std.proofs.lemmas.List.{map-append}
 use Rattle.std.proofs.lemmas.Nat.{mod_below}
 use Rattle.std.proofs.lemmas.Bool.Decides.{nat_tests}
 use Rattle.flow_mask.specs.Hashes.{hash_of}
@@ -12,15 +14,18 @@ use Rattle.block_codec.specs.declared.mask.StoredMask.{StoredMask}
 use Rattle.block_codec.specs.Blocks.{block}
 use Rattle.block_codec.specs.Filters.{filter_words, IsFilterBlock}
 use Rattle.block_codec.specs.Masks.{IsStorableMask}
-use Rattle.mask_table.specs.Buckets.{bucket_for}
+use Rattle.mask_table.specs.Buckets.{bucket_root, bucket_for}
 use Rattle.mask_mirror.specs.declared.mirror.Mirror.{Mirror}
 use Rattle.mask_mirror.specs.declared.mirror.KeptMask.{KeptMask}
 use Rattle.mask_mirror.specs.Kept.{bucket_at, Stands, Spells, HoldsChain, BucketAt, Names, KeepsBucket, IsKept, AreOwn}
-use Rattle.mask_mirror.specs.Changes.{IsFilled}
+use Rattle.mask_mirror.specs.Changes.{IsFilled, IsRenamed}
+use Rattle.mask_mirror.specs.Lists.{Dated, age_of, Rises, kept_in, kept_as, dated_in, HasFilters}
 use Rattle.mask_mirror.specs.Changing.{root_for, insert_at}
 use Rattle.mask_mirror.proofs.Spelling.{same_blocks}
-use Rattle.mask_mirror.proofs.Chains.{first_spelled, first_link_of, spelled_low, links_same}
-use Rattle.mask_mirror.proofs.Keeping.{at_root, names_each, bucket_with}
+use Rattle.mask_mirror.proofs.Chains.{first_spelled, first_link_of, spelled_low, links_same, spells_same}
+use Rattle.mask_mirror.proofs.Keeping.{at_root, names_each, bucket_with, same_kept}
+use Rattle.mask_mirror.proofs.Lasting.{SameChain, kept_same, chain_renamed, lists_renamed, has_rewritten}
+use Rattle.mask_mirror.proofs.Dates.{dated_append, rises_append}
 
 some_buckets : (mask : StoredMask) → IsStorableMask mask → 0 < mask.size
 some_buckets mask is = let size = is.size in grind (arith, nat_tests)
@@ -83,3 +88,83 @@ module _ {E : Type 0} (mirror mirror2 : Mirror) (shape : Shape) (old new : List 
       let is = same_blocks mirror2.next.items (b + 1) (b + 1) blocks (b ∷ before.blocks) refl s (more kept.mask.size before.blocks apart old_chain).spelled in
       let links = ap (links_of shape new) is ∙ links_new there in
       (λ t. record { root = 10243 + place; named = record { chain = links t; stamp = number }; edit = Some (number, edit) }) ∙ ap (λ (r : ℕ). insert_at h r b filter number edit) own.same
+
+  -- the mask's filters, once the chain is named as well
+  module _ (age edit : ℕ) (mirror3 : Mirror) (renamed : IsRenamed mirror2 mirror3 place (b + 1)) (keeps2 : IsKept mirror2 shape new (root_of h)) (low : place < 131072)
+      (dated : kept_in mirror2 b ≡ (age, Some filter)) (age_is : age ≡ age_of edit 0) (lists : (other last : ℕ) (fs : List StoredFilter) → HasFilters mirror other last fs → HasFilters mirror2 other last fs) where
+    pub others_have : (other last : ℕ) (fs : List StoredFilter) → other ≢ slot → HasFilters mirror other last fs → HasFilters mirror3 other last fs
+    unfolding own_new
+    others_have other last fs away has = lists_renamed mirror2 mirror3 place (b + 1) renamed shape new (root_of h) keeps2 own_new other last fs away (lists other last fs has)
+
+    abbrev newest : Dated
+    newest = record { age = age; filter = filter }
+
+    in_other : (size bucket other : ℕ) (ds : List Dated) → bucket_for size filter.key.words ≡ bucket → other ≢ bucket → dated_in size other (ds ++ newest ∷ []) ≡ dated_in size other ds
+    in_other size bucket other ds is away = dated_append size other ds (newest ∷ [])
+        ∙ ap (λ (t : Bool). (if t then kept_as newest ∷ [] else []) ++ dated_in size other ds) (ne_eqb (bucket_for size filter.key.words) other (λ e. away (sym e ∙ is)))
+
+    in_own : (size : ℕ) (ds : List Dated) → dated_in size (bucket_for size filter.key.words) (ds ++ newest ∷ []) ≡ kept_as newest ∷ dated_in size (bucket_for size filter.key.words) ds
+    in_own size ds = let bucket = bucket_for size filter.key.words in dated_append size bucket ds (newest ∷ [])
+        ∙ ap (λ (t : Bool). (if t then kept_as newest ∷ [] else []) ++ dated_in size bucket ds) (eq-eqb bucket bucket refl)
+
+    module _ (more : Extends) (last : ℕ) (fs : List StoredFilter) (has2 : HasFilters mirror2 slot last fs) (later : last < edit) where
+      abbrev mask : StoredMask
+      mask = has2.kept.mask
+
+      abbrev bucket : ℕ
+      bucket = bucket_for mask.size filter.key.words
+
+      same : kept.mask ≡ mask
+      same = ap (λ (m : KeptMask). m.mask) (same_kept mirror2 slot slot kept has2.kept refl (ap (λ (xs : List (Option KeptMask)). get_or xs slot None) filled.slots ∙ stands) has2.stands)
+
+      at2 : place ≡ bucket_at mask bucket
+      at2 = subst (λ (m : StoredMask). place ≡ bucket_at m (bucket_for m.size filter.key.words)) same at
+
+      less : bucket < mask.size
+      less = subst (λ (m : StoredMask). bucket_for m.size filter.key.words < m.size) same own.within
+
+      abbrev own2 : BucketAt mirror2 (10243 + place)
+      own2 = record { slot = slot; bucket = bucket; kept = has2.kept; stands = has2.stands; within = less; same = ap (λ (k : ℕ). 10243 + k) at2 ∙ sym (at_root mask bucket) }
+
+      spelled2 : Spells mirror2.next.items next before.blocks
+      spelled2 = spells_same mirror.next.items mirror2.next.items next before.blocks (λ k c e. filled.next c (apart k c e)) old_chain.spelled
+
+      first2 : next ≡ get_or mirror2.first.items (bucket_at mask bucket) 0
+      first2 = was ∙ (ap (λ (xs : List ℕ). get_or xs place 0) (sym filled.first) ∙ ap (λ (k : ℕ). get_or mirror2.first.items k 0) at2)
+
+      stands3 : Stands mirror3 slot has2.kept
+      stands3 = ap (λ (xs : List (Option KeptMask)). get_or xs slot None) renamed.slots ∙ has2.stands
+
+      first3 : get_or mirror3.first.items (bucket_at mask bucket) 0 ≡ b + 1
+      first3 = let long = mirror2.first_long in ap (λ (k : ℕ). get_or mirror3.first.items k 0) (sym at2)
+          ∙ (ap (λ (xs : List ℕ). get_or xs place 0) renamed.first ∙ get_or-set_same mirror2.first.items place (b + 1) 0 (omega arith))
+
+      spelled3 : Spells mirror3.next.items (get_or mirror3.first.items (bucket_at mask bucket) 0) (b ∷ before.blocks)
+      spelled3 = subst (λ (k : ℕ). Spells mirror3.next.items k (b ∷ before.blocks)) (sym first3)
+          (subst (λ (xs : List ℕ). Spells xs (b + 1) (b ∷ before.blocks)) (sym renamed.next) (more kept.mask.size before.blocks apart old_chain).spelled)
+
+      kept_still : (c : ℕ) → kept_in mirror3 c ≡ kept_in mirror2 c
+      kept_still c t = (get_or (renamed.ages t) c 0, get_or (renamed.filters t) c None)
+
+      own3 : map (kept_in mirror3) (b ∷ before.blocks) ≡ dated_in mask.size bucket (has2.dated ++ newest ∷ [])
+      own3 = kept_same mirror2 mirror3 (b ∷ before.blocks) (λ k c e. kept_still c)
+          ∙ ((λ t. dated t ∷ has2.buckets bucket before.blocks less (subst (λ (k : ℕ). Spells mirror2.next.items k before.blocks) first2 spelled2) t)
+          ∙ sym (in_own mask.size has2.dated))
+
+      others3 : (other : ℕ) → other ≢ bucket → other < mask.size → SameChain mirror2 mirror3 (bucket_at mask other)
+      others3 other away inside = let this = bucket_root mask other in
+          chain_renamed mirror2 mirror3 place (b + 1) renamed shape new (root_of h) keeps2 this (record { slot = slot; bucket = other; kept = has2.kept; stands = has2.stands; within = inside; same = refl })
+          (λ e. away (keeps2.apart (10243 + place) (record { slot = slot; bucket = other; kept = has2.kept; stands = has2.stands; within = inside; same = sym e }) own2).1)
+
+      rise3 : Rises 0 (age_of (edit + 1) 0) (has2.dated ++ newest ∷ [])
+      rise3 = rises_append 0 (age_of (last + 1) 0) (age_of (edit + 1) 0) has2.dated (newest ∷ []) has2.rise (omega (arith, age_is), omega (arith, age_is))
+
+      list : map (λ (d : Dated). d.filter) (has2.dated ++ newest ∷ []) ≡ fs ++ filter ∷ []
+      list = map-append (λ (d : Dated). d.filter) has2.dated (newest ∷ []) ∙ ap (λ (xs : List StoredFilter). xs ++ filter ∷ []) has2.filters
+
+      longer : HasFilters mirror3 slot edit (map (λ (d : Dated). d.filter) (has2.dated ++ newest ∷ []))
+      longer = has_rewritten mirror2 mirror3 slot last edit fs has2 (has2.dated ++ newest ∷ []) bucket (b ∷ before.blocks) stands3 spelled3 own3 others3 (λ other away. in_other mask.size bucket other has2.dated refl away) rise3
+
+    pub mask_has : Extends → (last : ℕ) (fs : List StoredFilter) → HasFilters mirror slot last fs → last < edit → HasFilters mirror3 slot edit (fs ++ filter ∷ [])
+    mask_has more last fs has later = let has2 = lists slot last fs has in
+        subst (HasFilters mirror3 slot edit) (list more last fs has2 later) (longer more last fs has2 later)

@@ -1,4 +1,4 @@
-use Rattle.std.proofs.Common.{◌≡◌, ◌∙◌, ℕ, ◌+◌, List, ◌++◌, ◌∷◌, [], Some, refl, sym, subst}
+use Rattle.std.proofs.Common.{◌+◌, List, Some, refl, sym, subst}
 use Rattle.store_history.specs.declared.history.Commit.{Commit}
 use Rattle.store_history.specs.History.{root_of}
 use Rattle.pin_store.specs.declared.view.Sheet.{Sheet}
@@ -16,6 +16,6 @@ returns-clause-kept g c = let chain = c.requires.chain.2 in let bs = c.requires.
     let h = seen_by c.args.writer.now.place in let b = c.begin.ensures in let n = c.name_chain.ensures in
     let one : Commit g.row.L-Entry.Denot = commit_of shape cells (10243 + c.args.place) bs c.args.edit (Some c.args.edit) g.E.EditName.edit in
     let whole = kept_renamed c.args.self.now.mirror c.begin.new.self shape cells h one c.args.place c.args.number bs own refl
-        (record { slots = b.slots; next = b.next; filters = b.filters; ages = b.ages; first = b.first }) c.requires.kept chain refl c.requires.chain.3 in
+    (record { slots = b.slots; next = b.next; filters = b.filters; ages = b.ages; first = b.first }) c.requires.kept chain refl c.requires.chain.3 in
     subst (λ (d : Sheet). IsKept c.begin.new.self shape d.cells (root_of (seen_by c.name_chain.new.writer.place))) (sym n.sheet)
     (subst (λ (more : List (Commit g.row.L-Entry.Denot)). IsKept c.begin.new.self shape cells (root_of more)) (sym (n.seen bs chain.spelled)) whole)

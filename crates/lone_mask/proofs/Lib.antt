@@ -1,0 +1,4 @@
+pub mod Growing
+pub mod Right
+pub mod Past
+pub mod Asked

@@ -1,0 +1,5 @@
+pub mod Orders
+pub mod Buckets
+pub mod ChainsRead
+pub mod Placing
+pub mod KeptChains

@@ -1,0 +1,6 @@
+//! One mask of a store is tried: filters are put into it and taken out of it, and readers look keys up meanwhile.
+#![tactic(auto)]
+
+mod law;
+
+pub use law::LoneLaw;
