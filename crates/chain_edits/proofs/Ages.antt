@@ -1,6 +1,5 @@
 -- A mask's filters with their ages, as one is taken out, or another of its age takes its place.
-use Rattle.std.proofs.Common.{◌≡◌, ◌≢◌, ◌∙◌, ◌⊎◌, inl, inr, ℕ, zero, suc, ◌+◌, ◌≤◌, ◌==◌, Bool, true, false, List, [], ◌∷◌, ◌++◌, length, map, take, drop, slice_get, Option, Some, if◌then◌else◌, refl, sym, ap, subst, arith, eqb-true, eq-eqb, ne_eqb}
-use mathlib.Core.List.{append-nil}
+use Rattle.std.proofs.Common.{◌≡◌, ◌≢◌, ◌∙◌, ◌⊎◌, inl, inr, ℕ, zero, suc, ◌≤◌, ◌==◌, Bool, true, false, List, [], ◌∷◌, ◌++◌, length, map, take, drop, slice_get, Option, Some, if◌then◌else◌, refl, sym, ap, subst, arith, eqb-true, eq-eqb, ne_eqb}
 use Rattle.std.proofs.lemmas.List.{map-append}
 use Rattle.block_codec.specs.declared.filter.StoredFilter.{StoredFilter}
 use Rattle.mask_table.specs.Buckets.{bucket_for, IsAmong}
@@ -104,8 +103,8 @@ the_one size bucket handle n age filter before one behind none_before none_behin
     let all = dated_append size bucket before (one ∷ behind) in
     let test = (bucket_for size one.filter.key.words == bucket) in
     let b = between test (kept_as one) (age, Some filter) (dated_in size bucket behind) (dated_in size bucket before) n
-        (none_in size bucket handle behind none_behind age filter named) (none_in size bucket handle before none_before age filter named)
-        (subst (λ (xs : List (ℕ × Option StoredFilter)). slice_get xs n ≡ Some (age, Some filter)) all e) in record {
+    (none_in size bucket handle behind none_behind age filter named) (none_in size bucket handle before none_before age filter named)
+    (subst (λ (xs : List (ℕ × Option StoredFilter)). slice_get xs n ≡ Some (age, Some filter)) all e) in record {
       hashed = eqb-true (bucket_for size one.filter.key.words) bucket b.tested;
       same_age = ap (λ (p : ℕ × Option StoredFilter). p.0) b.same;
       front = ap (take n) all ∙ b.before;

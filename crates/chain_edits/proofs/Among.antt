@@ -1,5 +1,5 @@
 -- What is among the elements of a list, and lists that have no number in common.
-use Rattle.std.proofs.Common.{◌≡◌, ◌≢◌, ◌∙◌, ◌⊎◌, inl, inr, ℕ, zero, suc, Bool, true, false, eqb, List, [], ◌∷◌, ◌++◌, map, take, drop, slice_get, Some, refl, sym, subst, eq-eqb}
+use Rattle.std.proofs.Common.{◌≡◌, ◌∙◌, ◌⊎◌, inl, inr, ℕ, zero, suc, false, eqb, List, [], ◌∷◌, ◌++◌, map, take, drop, slice_get, Some, refl, sym, subst, eq-eqb}
 use Rattle.std.specs.List.{IsDistinct, AllByRecursion}
 use Rattle.std.proofs.lemmas.Bool.{true≢false}
 use Rattle.mask_table.specs.Buckets.{IsAmong}

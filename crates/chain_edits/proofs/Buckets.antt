@@ -1,5 +1,5 @@
 -- The filter that a reader finds in a bucket's chain is kept there, and the other way round.
-use Rattle.std.proofs.Common.{◌≡◌, ◌∙◌, ℕ, ◌+◌, ◌<◌, List, [], ◌∷◌, length, map, take, get_or, slice_get, Option, Some, None, refl, sym, ap, subst, arith}
+use Rattle.std.proofs.Common.{◌≡◌, ◌∙◌, ℕ, ◌+◌, ◌<◌, List, [], ◌∷◌, length, map, take, get_or, slice_get, Some, None, refl, sym, ap, subst, arith}
 use Rattle.std.proofs.lemmas.List.{length-map, length-take-le, take-map}
 use Rattle.std.proofs.lemmas.Option.{slice_get_within}
 use Rattle.store_history.specs.declared.history.Link.{Link}
@@ -10,10 +10,9 @@ use Rattle.pin_store.specs.Layout.{block_words, links_of}
 use Rattle.block_codec.specs.declared.filter.StoredFilter.{StoredFilter}
 use Rattle.block_codec.specs.declared.mask.StoredMask.{StoredMask}
 use Rattle.block_reading.specs.Read.{filter_in}
-use Rattle.mask_table.specs.Buckets.{bucket_root}
 use Rattle.mask_mirror.specs.declared.mirror.Mirror.{Mirror}
 use Rattle.mask_mirror.specs.declared.mirror.KeptMask.{KeptMask}
-use Rattle.mask_mirror.specs.Kept.{bucket_at, Stands, Spells, BucketAt, KeepsBucket, IsKept}
+use Rattle.mask_mirror.specs.Kept.{bucket_at, Stands, Spells, IsKept}
 use Rattle.mask_mirror.specs.Changing.{FilterAt}
 use Rattle.mask_mirror.proofs.Keeping.{at_root}
 use Rattle.mask_mirror.proofs.Chains.{link_there, block_there}

@@ -14,10 +14,10 @@ use Rattle.block_codec.specs.declared.filter.StoredFilter.{StoredFilter}
 use Rattle.block_codec.specs.Blocks.{block}
 use Rattle.block_codec.specs.Filters.{filter_words}
 use Rattle.block_reading.specs.Read.{filter_in}
-use Rattle.mask_table.specs.Buckets.{bucket_root, bucket_for, IsAmong}
+use Rattle.mask_table.specs.Buckets.{bucket_for}
 use Rattle.mask_mirror.specs.declared.mirror.Mirror.{Mirror}
 use Rattle.mask_mirror.specs.declared.mirror.KeptMask.{KeptMask}
-use Rattle.mask_mirror.specs.Kept.{bucket_at, Stands, Spells, HoldsFilter, HoldFilters, HoldsChain, BucketAt, Names, KeepsBucket, IsKept}
+use Rattle.mask_mirror.specs.Kept.{bucket_at, Stands, Spells, HoldFilters, HoldsChain, BucketAt, Names, KeepsBucket, IsKept}
 use Rattle.mask_mirror.specs.Changing.{root_for}
 use Rattle.mask_mirror.specs.Linked.{placed, linked}
 use Rattle.mask_mirror.proofs.Spelling.{few_blocks}

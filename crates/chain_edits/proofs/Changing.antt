@@ -1,5 +1,5 @@
 -- What a bucket's chain and the masks' filters become as blocks are put in front of what is behind a filter, and the bucket's root names them.
-use Rattle.std.proofs.Common.{◌≡◌, ◌≢◌, ◌∙◌, ◌⊎◌, inl, inr, ℕ, zero, suc, ◌+◌, ◌<◌, ◌≤◌, Bool, true, false, eqb, List, [], ◌∷◌, ◌++◌, length, map, take, drop, get_or, slice_get, Option, Some, None, refl, sym, ap, subst, arith, eqb-true, get_or-set_other, get_or-set_same}
+use Rattle.std.proofs.Common.{◌≡◌, ◌≢◌, ◌∙◌, ◌⊎◌, inl, inr, ℕ, suc, ◌+◌, ◌<◌, ◌≤◌, Bool, true, false, eqb, List, [], ◌∷◌, ◌++◌, length, map, take, drop, get_or, slice_get, Option, Some, None, refl, sym, ap, subst, arith, eqb-true, get_or-set_other, get_or-set_same}
 use Rattle.std.specs.Borrow.{Bor}
 use Rattle.std.specs.Option.{option_map}
 use Rattle.std.proofs.lemmas.Bool.{eqb-false}
@@ -208,7 +208,7 @@ module _ (mirror mirror1 : Mirror) (shape : Shape) (old new : List ℕ) (roots :
         let parts = split_at has.dated earlier gone later has.filters in
         let same = same_kept mirror slot slot has.kept kept refl has.stands stands in
         let all = subst (λ (ds : List Dated). (bucket : ℕ) (bs : List ℕ) → bucket < kept.mask.size → Spells mirror.next.items (get_or mirror.first.items (bucket_at kept.mask bucket) 0) bs → map (kept_in mirror) bs ≡ dated_in kept.mask.size bucket ds) parts.whole
-            (subst (λ (m : KeptMask). (bucket : ℕ) (bs : List ℕ) → bucket < m.mask.size → Spells mirror.next.items (get_or mirror.first.items (bucket_at m.mask bucket) 0) bs → map (kept_in mirror) bs ≡ dated_in m.mask.size bucket has.dated) same has.buckets) in
+        (subst (λ (m : KeptMask). (bucket : ℕ) (bs : List ℕ) → bucket < m.mask.size → Spells mirror.next.items (get_or mirror.first.items (bucket_at m.mask bucket) 0) bs → map (kept_in mirror) bs ≡ dated_in m.mask.size bucket has.dated) same has.buckets) in
         let none_before = λ (f : StoredFilter) (i : IsAmong f (map (λ (d : Dated). d.filter) parts.before)). let j = subst (IsAmong f) parts.earlier_is i in none f (among_left f earlier later j.0 j.1) in
         let none_behind = λ (f : StoredFilter) (i : IsAmong f (map (λ (d : Dated). d.filter) parts.behind)). none f (among_right f earlier later (subst (IsAmong f) parts.later_is i)) in
         let only = is_only few is_age parts.before parts.one parts.behind all none_before none_behind in

@@ -1,5 +1,5 @@
 -- Blocks that come to have filters, in front of a chain that is kept (this project's own).
-use Rattle.std.specs.Prelude.{◌≡◌, ℕ, ◌<◌, ◌≤◌, List, [], ◌∷◌, ◌++◌, map, slice_get, slice_index, slice_index_or, Option, Some, None}
+use Rattle.std.specs.Prelude.{◌≡◌, ℕ, ◌<◌, List, [], ◌∷◌, ◌++◌, map, slice_get, slice_index, slice_index_or, Option, Some, None}
 use Rattle.std.specs.Borrow.{Bor}
 use Rattle.pin_store.specs.declared.shape.Shape.{Shape}
 use Rattle.pin_store.specs.Layout.{block_words}

@@ -28,8 +28,8 @@ fn has_handle(mirror: &Mirror, block: u32, handle: u32) -> bool
     }
 }
 
-// How many of the blocks stand in front of the first one with such a filter.
-fn count_before(mirror: &Mirror, blocks: &[u32], handle: u32) -> Option<usize>
+// How many of the blocks stand in front of one with such a filter, or None where there is none.
+pub(crate) fn count_before(mirror: &Mirror, blocks: &[u32], handle: u32) -> Option<usize>
     requires { All (λ b. b < 16384) blocks.now }
     ensures found { IfSome result (λ count. (b : ℕ) × (slice_get blocks.now count ≡ Some b) × HasHandle mirror.now.filters.items handle b) }
     ensures none { result ≡ None → (place b : ℕ) → slice_get blocks.now place ≡ Some b → HasHandle mirror.now.filters.items handle b → ⊥ }
@@ -42,7 +42,7 @@ fn count_before(mirror: &Mirror, blocks: &[u32], handle: u32) -> Option<usize>
     None
 }
 
-// Puts the chain of the bucket at a place into the room, and answers how many of its filters stand in front of the first one with the handle.
+// Puts the chain of the bucket at a place into the room, and answers how many of its filters stand in front of one with the handle, if there is one.
 fn look(room: &mut NumberRoom, mirror: &Mirror, place: u32, handle: u32) -> Option<usize>
     requires small { place < 131072 }
     requires spelled { (blocks : List ℕ) × Spells mirror.now.next.items (slice_index mirror.now.first.items place) blocks }
@@ -72,7 +72,7 @@ fn find_among(room: &mut NumberRoom, mirror: &Mirror, kept: &KeptMask, handle: u
     unreachable!()
 }
 
-/// Finds the first filter with a handle of the mask at a slot, which has one, and puts the chain of its bucket into the room.
+/// Finds a filter with a handle in the mask at a slot, which has one, and puts the chain of its bucket into the room.
 pub fn find(room: &mut NumberRoom, mirror: &Mirror, slot: u32, handle: u32) -> Found
     requires slot { slot < 8192 }
     requires there { (kept : KeptMask) × (shape : Shape) × (cells : List ℕ) × (roots : ℕ → Named) × (root : ℕ) × (front : List StoredFilter) × (filter : StoredFilter)
@@ -87,7 +87,7 @@ pub fn find(room: &mut NumberRoom, mirror: &Mirror, slot: u32, handle: u32) -> F
     }
 }
 
-/// How many filters stand in front of the first one with a handle in the bucket at a place, which has one. The bucket's chain is put into the
+/// How many filters stand in front of one with a handle in the bucket at a place, which has one. The bucket's chain is put into the
 /// room.
 pub fn find_in(room: &mut NumberRoom, mirror: &Mirror, place: u32, handle: u32) -> usize
     requires small { place < 131072 }

@@ -1,4 +1,4 @@
-use Rattle.std.proofs.Common.{◌≡◌, ◌∙◌, ℕ, ◌+◌, List, [], ◌∷◌, ◌++◌, length, map, take, refl, sym, ap, subst, arith}
+use Rattle.std.proofs.Common.{◌∙◌, ℕ, ◌+◌, List, [], ◌∷◌, ◌++◌, length, map, take, refl, sym, ap, subst, arith}
 use Rattle.store_history.specs.declared.history.Link.{Link}
 use Rattle.store_history.specs.declared.history.Commit.{Commit}
 use Rattle.store_history.specs.History.{root_of}
@@ -58,7 +58,7 @@ rewrite-requires-clause-lawful g c = λ front read.
     let there = subst (λ (r : ℕ). FilterAt (root_of h) w.0.mask handle r f.front f.filter) root f.there in
     let same = front_is (root_of h) w.0.mask handle place count c.find_in-front.new.room f front read in
     let one = same_commit h (10243 + place) (root_for w.0.mask filter) c.as_slice-2.result.now c.args.given.now (front ++ filter ∷ []) (f.front ++ filter ∷ []) count (length f.front) c.args.edit g.E.EditName.edit
-        root c.as_slice-2.ensures (ap (λ (fs : List StoredFilter). fs ++ filter ∷ []) same) (sym f.counted) in
+    root c.as_slice-2.ensures (ap (λ (fs : List StoredFilter). fs ++ filter ∷ []) same) (sym f.counted) in
     subst (λ (k : Commit g.row.L-Entry.Denot). g.L.Law.keeps (h ++ k ∷ []) (base_of old)) (sym one) (c.requires.lawful w.0 f.front f.filter w.3 there)
 
 pub overflow_add-front : goal.overflow_add-front
@@ -80,10 +80,14 @@ returns-clause-done g c = λ kept stands.
     let f = c.find_in-front.ensures.found c.args.slot kept shape old.cells (root_of h) w.1 w.2 stands c.requires.kept at in
     let seen = c.rewrite.ensures.seen f.front (front_read (root_of h) kept.mask handle place count c.find_in-front.new.room f) in
     let one = same_commit h (10243 + place) (root_for kept.mask filter) c.as_slice-2.result.now c.args.given.now (f.front ++ filter ∷ []) (f.front ++ filter ∷ []) count (length f.front) c.args.edit g.E.EditName.edit
-        root c.as_slice-2.ensures refl (sym f.counted) in
-    let left = blocks_left (root_of h) kept.mask handle place count c.find_in-front.new.room f c.truncate.new.self c.truncate.ensures in
-    (f.front, f.filter, subst (λ (r : ℕ). FilterAt (root_of h) kept.mask handle r f.front f.filter) root f.there, seen ∙ ap (λ (k : Commit g.row.L-Entry.Denot). h ++ k ∷ []) one,
-    left ∙ ap (λ (r : ℕ). map (λ (l : Link). l.block) (take (length f.front + 1) (root_of h r).chain)) root)
+    root c.as_slice-2.ensures refl (sym f.counted) in
+    let left = blocks_left (root_of h) kept.mask handle place count c.find_in-front.new.room f c.truncate.new.self c.truncate.ensures in (
+      f.front,
+      f.filter,
+      subst (λ (r : ℕ). FilterAt (root_of h) kept.mask handle r f.front f.filter) root f.there,
+      seen ∙ ap (λ (k : Commit g.row.L-Entry.Denot). h ++ k ∷ []) one,
+      left ∙ ap (λ (r : ℕ). map (λ (l : Link). l.block) (take (length f.front + 1) (root_of h r).chain)) root,
+    )
 
 pub returns-clause-others : goal.returns-clause-others
 returns-clause-others g c = λ other out less.

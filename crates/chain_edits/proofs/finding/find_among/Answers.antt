@@ -3,7 +3,7 @@ use mathlib.Core.Logic.{dite}
 use native.Mathlib.Decide.{dec_le}
 use Rattle.mask_mirror.specs.Kept.{bucket_at, Spells}
 use Rattle.mask_mirror.proofs.Forgetting.{bucket}
-use Rattle.chain_edits.proofs.Buckets.{IsInBucket, is_kept, is_found}
+use Rattle.chain_edits.proofs.Buckets.{is_kept, is_found}
 use Rattle.chain_edits.proofs.finding.find_among.Goals as goal
 
 pub place_of-place-requires-clause-storable : goal.place_of-place-requires-clause-storable

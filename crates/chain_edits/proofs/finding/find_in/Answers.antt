@@ -1,4 +1,4 @@
-use Rattle.std.proofs.Common.{◌≡◌, ◌∙◌, ℕ, ◌+◌, List, get_or, slice_get, Some, sym, subst, arith}
+use Rattle.std.proofs.Common.{◌≡◌, ℕ, ◌+◌, List, get_or, slice_get, Some, sym, subst, arith}
 use Rattle.mask_mirror.specs.Kept.{bucket_at, Spells}
 use Rattle.mask_mirror.proofs.Keeping.{at_root}
 use Rattle.chain_edits.proofs.Buckets.{is_kept, is_found}

@@ -1,4 +1,4 @@
-use Rattle.std.proofs.Common.{◌≡◌, ◌∙◌, ℕ, ◌+◌, List, ◌++◌, ◌∷◌, [], Some, refl, sym, ap, subst}
+use Rattle.std.proofs.Common.{◌+◌, List, Some, refl, sym, subst}
 use Rattle.store_history.specs.declared.history.Commit.{Commit}
 use Rattle.store_history.specs.History.{root_of}
 use Rattle.pin_store.specs.declared.view.Sheet.{Sheet}

@@ -1,0 +1,141 @@
+//! Filters that are taken out of masks, and others that take their places.
+
+use crate::blocks::Blocks;
+use crate::mask_writer::MaskWriter;
+use block_codec::StoredFilter;
+use chain_edits::{exchange, take_out};
+use pin_store::{Store, Writer};
+use store_history::{EditName, Law};
+use tc_base::Point;
+
+impl MaskWriter {
+    ghost use Rattle.std.specs.Prelude.{◌≡◌, ◌≢◌, ℕ, ◌+◌, ◌<◌, ◌≤◌, ◌++◌, ◌∷◌, [], List, length, map, take};
+    ghost use Rattle.store_history.specs.declared.history.Link.{Link};
+    ghost use Rattle.store_history.specs.History.{root_of};
+    ghost use Rattle.pin_store.specs.Layout.{block_words};
+    ghost use Rattle.pin_store.specs.Sheets.{base_of, IsSameButCells};
+    ghost use Rattle.pin_store.specs.Calls.{seen_by, sheet_of, IsSeatOf};
+    ghost use Rattle.block_codec.specs.declared.filter.StoredFilter.{StoredFilter};
+    ghost use Rattle.block_codec.specs.Filters.{IsStorableFilter};
+    ghost use Rattle.mask_table.specs.Buckets.{IsAmong};
+    ghost use Rattle.mask_mirror.specs.declared.mirror.KeptMask.{KeptMask};
+    ghost use Rattle.mask_mirror.specs.Kept.{Stands, IsKept};
+    ghost use Rattle.mask_mirror.specs.Lists.{HasFilters};
+    ghost use Rattle.mask_mirror.specs.Given.{AreGiven};
+    ghost use Rattle.mask_mirror.specs.Changing.{FilterAt, root_for, remove_at, replace_at, HasNone};
+
+    /// Takes the filter with a handle out of the mask at a slot: fills the given blocks with the later filters of its bucket, which stand in
+    /// front of it, and makes the one commit that names these in front of what was behind it. The commit carries the edit that `E`
+    /// names, under its number.
+    ///
+    /// The mask has such a filter, and as many blocks are given as its bucket has later ones. The law must hold of all commits with this one.
+    pub fn remove<L: Law, E: EditName<L::Entry>>(
+        &mut self,
+        writer: &mut Writer<L>,
+        store: &Store<L>,
+        slot: u32,
+        handle: u32,
+        given: &Blocks,
+        edit: Point,
+    )
+        requires store { IsSeatOf store.now writer.old.place }
+        requires shape { (store.now.shape.words ≡ 40) × (16384 ≤ store.now.shape.blocks) × (141315 ≤ store.now.shape.roots) }
+        requires slot { slot < 8192 }
+        requires there { (kept : KeptMask) × (root : ℕ) × (front : List StoredFilter) × (filter : StoredFilter)
+            × Stands self.old.mirror slot kept × FilterAt (root_of (seen_by writer.old.place)) kept.mask handle root front filter }
+        requires many { (kept : KeptMask) (root : ℕ) (front : List StoredFilter) (filter : StoredFilter) → Stands self.old.mirror slot kept
+            → FilterAt (root_of (seen_by writer.old.place)) kept.mask handle root front filter → length given.now.blocks ≡ length front }
+        requires given { AreGiven (base_of (sheet_of writer.old.place)) (seen_by writer.old.place) given.now.blocks }
+        requires kept { IsKept self.old.mirror store.now.shape (sheet_of writer.old.place).cells (root_of (seen_by writer.old.place)) }
+        requires lawful { (kept : KeptMask) (root : ℕ) (front : List StoredFilter) (filter : StoredFilter) → Stands self.old.mirror slot kept
+            → FilterAt (root_of (seen_by writer.old.place)) kept.mask handle root front filter
+            → L.keeps (seen_by writer.old.place ++ remove_at (seen_by writer.old.place) root given.now.blocks front edit E.edit ∷ []) (base_of (sheet_of writer.old.place)) }
+        ensures store { IsSeatOf store.now writer.new.place }
+        ensures done { (kept : KeptMask) → Stands self.old.mirror slot kept → (root : ℕ) × (front : List StoredFilter) × (filter : StoredFilter)
+            × FilterAt (root_of (seen_by writer.old.place)) kept.mask handle root front filter
+            × (seen_by writer.new.place ≡ seen_by writer.old.place ++ remove_at (seen_by writer.old.place) root given.now.blocks front edit E.edit ∷ [])
+            × (self.new.left_blocks ≡ map (λ (l : Link). l.block) (take (length front + 1) (root_of (seen_by writer.old.place) root).chain)) }
+        ensures sheet { IsSameButCells (sheet_of writer.old.place) (sheet_of writer.new.place) }
+        ensures others { (other : ℕ) → (IsAmong other given.now.blocks → ⊥) → other < store.now.shape.blocks
+            → block_words store.now.shape (sheet_of writer.new.place).cells other ≡ block_words store.now.shape (sheet_of writer.old.place).cells other }
+        ensures kept { IsKept self.new.mirror store.now.shape (sheet_of writer.new.place).cells (root_of (seen_by writer.new.place)) }
+        ensures masks { self.new.mirror.slots.items ≡ self.old.mirror.slots.items }
+        // the mask goes on without the filter, where no other has its handle
+        ensures list { (last : ℕ) (earlier : List StoredFilter) (filter : StoredFilter) (later : List StoredFilter)
+            → HasFilters self.old.mirror slot last (earlier ++ filter ∷ later) → filter.handle ≡ handle → HasNone handle (earlier ++ later)
+            → HasFilters self.new.mirror slot last (earlier ++ later) }
+        ensures lists { (other last : ℕ) (fs : List StoredFilter) → other ≢ slot → HasFilters self.old.mirror other last fs → HasFilters self.new.mirror other last fs }
+        ensures left_rows { self.new.left_rows ≡ [] }
+    {
+        take_out::<L, E>(
+            &mut self.chain,
+            &mut self.left_blocks,
+            &mut self.mirror,
+            writer,
+            store,
+            slot,
+            handle,
+            &given.blocks,
+            edit,
+        );
+        self.left_rows.clear();
+    }
+
+    /// Puts a filter in the place of the one with its handle and key in the mask at a slot: fills the given blocks with the later filters of
+    /// its bucket and with the new one, and makes the one commit that names these in front of what was behind the old one. The
+    /// commit carries the edit that `E` names, under its number.
+    ///
+    /// The mask has such a filter, and one more block is given than its bucket has later ones. The law must hold of all commits with this one.
+    pub fn replace<L: Law, E: EditName<L::Entry>>(
+        &mut self,
+        writer: &mut Writer<L>,
+        store: &Store<L>,
+        slot: u32,
+        filter: &StoredFilter,
+        given: &Blocks,
+        edit: Point,
+    )
+        requires store { IsSeatOf store.now writer.old.place }
+        requires shape { (store.now.shape.words ≡ 40) × (16384 ≤ store.now.shape.blocks) × (141315 ≤ store.now.shape.roots) }
+        requires slot { slot < 8192 }
+        requires storable { IsStorableFilter filter.now }
+        requires there { (kept : KeptMask) × (front : List StoredFilter) × (old : StoredFilter)
+            × Stands self.old.mirror slot kept × FilterAt (root_of (seen_by writer.old.place)) kept.mask filter.now.handle (root_for kept.mask filter.now) front old }
+        requires many { (kept : KeptMask) (front : List StoredFilter) (old : StoredFilter) → Stands self.old.mirror slot kept
+            → FilterAt (root_of (seen_by writer.old.place)) kept.mask filter.now.handle (root_for kept.mask filter.now) front old → length given.now.blocks ≡ length front + 1 }
+        requires given { AreGiven (base_of (sheet_of writer.old.place)) (seen_by writer.old.place) given.now.blocks }
+        requires kept { IsKept self.old.mirror store.now.shape (sheet_of writer.old.place).cells (root_of (seen_by writer.old.place)) }
+        requires lawful { (kept : KeptMask) (front : List StoredFilter) (old : StoredFilter) → Stands self.old.mirror slot kept
+            → FilterAt (root_of (seen_by writer.old.place)) kept.mask filter.now.handle (root_for kept.mask filter.now) front old
+            → L.keeps (seen_by writer.old.place ++ replace_at (seen_by writer.old.place) (root_for kept.mask filter.now) given.now.blocks front filter.now edit E.edit ∷ []) (base_of (sheet_of writer.old.place)) }
+        ensures store { IsSeatOf store.now writer.new.place }
+        ensures done { (kept : KeptMask) → Stands self.old.mirror slot kept → (front : List StoredFilter) × (old : StoredFilter)
+            × FilterAt (root_of (seen_by writer.old.place)) kept.mask filter.now.handle (root_for kept.mask filter.now) front old
+            × (seen_by writer.new.place ≡ seen_by writer.old.place ++ replace_at (seen_by writer.old.place) (root_for kept.mask filter.now) given.now.blocks front filter.now edit E.edit ∷ [])
+            × (self.new.left_blocks ≡ map (λ (l : Link). l.block) (take (length front + 1) (root_of (seen_by writer.old.place) (root_for kept.mask filter.now)).chain)) }
+        ensures sheet { IsSameButCells (sheet_of writer.old.place) (sheet_of writer.new.place) }
+        ensures others { (other : ℕ) → (IsAmong other given.now.blocks → ⊥) → other < store.now.shape.blocks
+            → block_words store.now.shape (sheet_of writer.new.place).cells other ≡ block_words store.now.shape (sheet_of writer.old.place).cells other }
+        ensures kept { IsKept self.new.mirror store.now.shape (sheet_of writer.new.place).cells (root_of (seen_by writer.new.place)) }
+        ensures masks { self.new.mirror.slots.items ≡ self.old.mirror.slots.items }
+        // the filter stands where the old one stood, where no other has its handle
+        ensures list { (last : ℕ) (earlier : List StoredFilter) (old : StoredFilter) (later : List StoredFilter)
+            → HasFilters self.old.mirror slot last (earlier ++ old ∷ later) → old.handle ≡ filter.now.handle → old.key.words ≡ filter.now.key.words
+            → HasNone filter.now.handle (earlier ++ later) → HasFilters self.new.mirror slot last (earlier ++ filter.now ∷ later) }
+        ensures lists { (other last : ℕ) (fs : List StoredFilter) → other ≢ slot → HasFilters self.old.mirror other last fs → HasFilters self.new.mirror other last fs }
+        ensures left_rows { self.new.left_rows ≡ [] }
+    {
+        exchange::<L, E>(
+            &mut self.chain,
+            &mut self.left_blocks,
+            &mut self.mirror,
+            writer,
+            store,
+            slot,
+            filter,
+            &given.blocks,
+            edit,
+        );
+        self.left_rows.clear();
+    }
+}
