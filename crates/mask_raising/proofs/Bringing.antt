@@ -17,7 +17,7 @@ use Rattle.mask_mirror.specs.Given.{AreGiven}
 use Rattle.mask_mirror.specs.Linked.{placed, raise_commits}
 use Rattle.mask_mirror.specs.Lists.{Dated, age_of, Rises, kept_as}
 use Rattle.mask_mirror.proofs.Dates.{rises_lower}
-use Rattle.mask_raising.specs.Laid.{places, dates, filters_of, blocks_of, laid_in, dated_by, IsLaid, IsReady}
+use Rattle.mask_raising.specs.Laid.{places, dates, filters_of, laid_blocks, laid_in, dated_by, IsLaid, IsReady}
 
 -- ---- lists of different numbers
 pub same_place : (bs : List ℕ) → IsDistinct eqb bs → (i j c : ℕ) → slice_get bs i ≡ Some c → slice_get bs j ≡ Some c → i ≡ j
@@ -60,14 +60,14 @@ pub laid_next : (i b : ℕ) (d : Dated) (bs : List ℕ) (ds : List Dated) → sl
 laid_next i b d bs ds e g = let more : i + 1 ≡ suc i = omega arith in sym (ap (λ (n : ℕ). laid_in bs (take n ds)) more ∙ laid_more i b d bs ds e g)
 
 -- each is in a given block
-pub laid_at : (c : ℕ) (bs : List ℕ) (ds : List Dated) → IsAmong c (blocks_of (laid_in bs ds)) → (place : ℕ) × (place < length ds) × (slice_get bs place ≡ Some c)
+pub laid_at : (c : ℕ) (bs : List ℕ) (ds : List Dated) → IsAmong c (laid_blocks (laid_in bs ds)) → (place : ℕ) × (place < length ds) × (slice_get bs place ≡ Some c)
 laid_at c [] ds (place, e) = absurd (cc e)
 laid_at c (b ∷ bs) [] (place, e) = absurd (cc e)
 laid_at c (b ∷ bs) (d ∷ ds) (zero, e) = (0, omega arith, e)
 laid_at c (b ∷ bs) (d ∷ ds) (suc place, e) = let r = laid_at c bs ds (place, e) in let low = r.1 in (suc r.0, omega arith, r.2)
 
 -- a later block is another one
-pub laid_apart : (i b : ℕ) (bs : List ℕ) (ds : List Dated) → IsDistinct eqb bs → slice_get bs i ≡ Some b → i ≤ length ds → IsAmong b (blocks_of (laid_in bs (take i ds))) → ⊥
+pub laid_apart : (i b : ℕ) (bs : List ℕ) (ds : List Dated) → IsDistinct eqb bs → slice_get bs i ≡ Some b → i ≤ length ds → IsAmong b (laid_blocks (laid_in bs (take i ds))) → ⊥
 laid_apart i b bs ds different e low among =
     let r = laid_at b bs (take i ds) among in let before = r.1 in let long = length-take-le i ds low in let same = same_place bs different r.0 i b r.2 e in absurd (omega arith)
 
@@ -108,7 +108,7 @@ module _ {E : Type 0} (mirror : Mirror) (shape : Shape) (cells : List ℕ) (mask
         free = λ b among. let r = laid_at b bs ds among in given.free r.0 b r.2;
         low = given.pool n (get_or bs n 0) last;
         spare = given.free n (get_or bs n 0) last;
-        apart = subst (λ (gs : List Dated). IsAmong (get_or bs n 0) (blocks_of (laid_in bs gs)) → ⊥) (take-length ds) (laid_apart n (get_or bs n 0) bs ds given.different last (omega arith));
+        apart = subst (λ (gs : List Dated). IsAmong (get_or bs n 0) (laid_blocks (laid_in bs gs)) → ⊥) (take-length ds) (laid_apart n (get_or bs n 0) bs ds given.different last (omega arith));
       }
 
   -- also for a copy of the mask, and where commits and base are told by another seat

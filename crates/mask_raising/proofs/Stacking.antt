@@ -22,7 +22,7 @@ use Rattle.mask_mirror.proofs.Chains.{first_link_of}
 use Rattle.mask_mirror.proofs.Dates.{dated_append}
 use Rattle.mask_mirror.proofs.Keeping.{at_root, place_low, chain_same}
 use Rattle.mask_mirror.proofs.Lasting.{kept_same}
-use Rattle.mask_raising.specs.Laid.{Laid, places, dates, blocks_of, blocks_in, IsLaid}
+use Rattle.mask_raising.specs.Laid.{Laid, places, dates, laid_blocks, blocks_in, IsLaid}
 use Rattle.mask_raising.proofs.Aside.{bucket_once, chain_stays, all_stay}
 
 -- ---- those of a bucket
@@ -59,20 +59,20 @@ split x (z ∷ zs) ys (suc place) e = more (split x zs ys place e)
     more (inl a) = inl (suc a.0, a.1)
     more (inr b) = inr b
 
-pub in_blocks : (size bucket : ℕ) (xs : List Laid) (c : ℕ) → IsAmong c (blocks_in size bucket xs) → IsAmong c (blocks_of xs)
+pub in_blocks : (size bucket : ℕ) (xs : List Laid) (c : ℕ) → IsAmong c (blocks_in size bucket xs) → IsAmong c (laid_blocks xs)
 in_blocks size bucket [] c i = i
 in_blocks size bucket (x ∷ xs) c i =
     let own = cond (eqb (bucket_for size x.filter.key.words) bucket) (places (x ∷ [])) [] in
     let there : slice_get (blocks_in size bucket xs ++ map (λ (p : Placed). p.block) own) i.0 ≡ Some c = subst (λ (bs : List ℕ). slice_get bs i.0 ≡ Some c) (map-append (λ (p : Placed). p.block) (placed_in size bucket (places xs)) own) i.1 in
     pick (in_blocks size bucket xs c) (split c (blocks_in size bucket xs) (map (λ (p : Placed). p.block) own) i.0 there)
   where
-    one : (t : Bool) → IsAmong c (map (λ (p : Placed). p.block) (cond t (places (x ∷ [])) [])) → IsAmong c (blocks_of (x ∷ xs))
+    one : (t : Bool) → IsAmong c (map (λ (p : Placed). p.block) (cond t (places (x ∷ [])) [])) → IsAmong c (laid_blocks (x ∷ xs))
     one true (zero, e) = (0, e)
     one true (suc place, e) = absurd (cc e)
     one false (place, e) = absurd (cc e)
 
-    pick : (IsAmong c (blocks_in size bucket xs) → IsAmong c (blocks_of xs)) → IsAmong c (blocks_in size bucket xs) ⊎ IsAmong c (map (λ (p : Placed). p.block) (cond (eqb (bucket_for size x.filter.key.words) bucket) (places (x ∷ [])) []))
-        → IsAmong c (blocks_of (x ∷ xs))
+    pick : (IsAmong c (blocks_in size bucket xs) → IsAmong c (laid_blocks xs)) → IsAmong c (blocks_in size bucket xs) ⊎ IsAmong c (map (λ (p : Placed). p.block) (cond (eqb (bucket_for size x.filter.key.words) bucket) (places (x ∷ [])) []))
+        → IsAmong c (laid_blocks (x ∷ xs))
     pick more (inl a) = let r = more a in (suc r.0, r.1)
     pick more (inr b) = one (eqb (bucket_for size x.filter.key.words) bucket) b
 
@@ -118,10 +118,10 @@ laid_none mirror mask zero_first shape cells = record {
 }
 
 -- ---- as a block is filled that has none of them, what was laid stays
-pub laid_filled : (mirror : Mirror) (shape : Shape) (old new : List ℕ) (b : ℕ) (mask : StoredMask) (xs : List Laid) → IsFilled mirror mirror shape old new b → (IsAmong b (blocks_of xs) → ⊥) → IsLaid mirror shape old mask xs → IsLaid mirror shape new mask xs
+pub laid_filled : (mirror : Mirror) (shape : Shape) (old new : List ℕ) (b : ℕ) (mask : StoredMask) (xs : List Laid) → IsFilled mirror mirror shape old new b → (IsAmong b (laid_blocks xs) → ⊥) → IsLaid mirror shape old mask xs → IsLaid mirror shape new mask xs
 laid_filled mirror shape old new b mask xs filled apart laid = record {
   chain = λ bucket less. chain_same mirror mirror shape old new b filled mask.size bucket (get_or mirror.first.items (bucket_at mask bucket) 0) (blocks_in mask.size bucket xs)
-      (λ k c e is. apart (subst (λ (x : ℕ). IsAmong x (blocks_of xs)) is (in_blocks mask.size bucket xs c (k, e)))) (laid.chain bucket less);
+      (λ k c e is. apart (subst (λ (x : ℕ). IsAmong x (laid_blocks xs)) is (in_blocks mask.size bucket xs c (k, e)))) (laid.chain bucket less);
   kept = laid.kept;
 }
 
@@ -129,7 +129,7 @@ laid_filled mirror shape old new b mask xs filled apart laid = record {
 module _ (mirror mid mirror2 : Mirror) (shape : Shape) (old new : List ℕ) (mask : StoredMask) (filter : StoredFilter) (b age place number : ℕ) (xs : List Laid)
     (storable : IsStorableMask mask) (different : IsDistinct eqb mask.rows) (some : bucket_for mask.size filter.key.words < mask.size)
     (filled : IsFilled mirror mid shape old new b) (begun : IsRenamed mid mirror2 place (b + 1)) (at : place ≡ bucket_at mask (bucket_for mask.size filter.key.words))
-    (was : number ≡ get_or mirror.first.items place 0) (dated : kept_in mid b ≡ (age, Some filter)) (apart : IsAmong b (blocks_of xs) → ⊥) (laid : IsLaid mirror shape old mask xs)
+    (was : number ≡ get_or mirror.first.items place 0) (dated : kept_in mid b ≡ (age, Some filter)) (apart : IsAmong b (laid_blocks xs) → ⊥) (laid : IsLaid mirror shape old mask xs)
     (extends : (blocks : List ℕ) → ((k c : ℕ) → slice_get blocks k ≡ Some c → c ≢ b) → HoldsChain mirror shape old mask.size (bucket_for mask.size filter.key.words) number blocks
     → HoldsChain mid shape new mask.size (bucket_for mask.size filter.key.words) (b + 1) (b ∷ blocks)) where
   abbrev own : ℕ
@@ -139,7 +139,7 @@ module _ (mirror mid mirror2 : Mirror) (shape : Shape) (old new : List ℕ) (mas
   more = xs ++ record { block = b; filter = filter; age = age } ∷ []
 
   away : (bucket k c : ℕ) → slice_get (blocks_in mask.size bucket xs) k ≡ Some c → c ≢ b
-  away bucket k c e is = apart (subst (λ (x : ℕ). IsAmong x (blocks_of xs)) is (in_blocks mask.size bucket xs c (k, e)))
+  away bucket k c e is = apart (subst (λ (x : ℕ). IsAmong x (laid_blocks xs)) is (in_blocks mask.size bucket xs c (k, e)))
 
   abbrev first_at : Mirror → ℕ → ℕ
   first_at m bucket = get_or m.first.items (bucket_at mask bucket) 0

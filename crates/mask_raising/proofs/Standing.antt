@@ -22,7 +22,7 @@ use Rattle.mask_mirror.specs.Lists.{age_of, Rises, kept_in, HasFilters}
 use Rattle.mask_mirror.proofs.Spelling.{same_blocks}
 use Rattle.mask_mirror.proofs.Chains.{block_there}
 use Rattle.mask_mirror.proofs.Keeping.{unnamed_now, kept_filled}
-use Rattle.mask_raising.specs.Laid.{Laid, places, dates, filters_of, blocks_of, blocks_in, IsLaid, IsReady}
+use Rattle.mask_raising.specs.Laid.{Laid, places, dates, filters_of, laid_blocks, blocks_in, IsLaid, IsReady}
 use Rattle.mask_raising.proofs.Aside.{bucket_once, bucket_aside, chain_stays, bucket_stays, all_stay, has_stays}
 use Rattle.mask_raising.proofs.Stacking.{in_blocks, links_laid, laid_filled}
 use Rattle.mask_raising.proofs.Committing.{other_root, own_root}
@@ -59,7 +59,7 @@ module _ (mirror mirror2 : Mirror) (slot : ℕ) (new : KeptMask) (small : slot <
   module _ (shape : Shape) (cells : List ℕ) (roots roots2 : ℕ → Named) (xs : List Laid)
       (first : mirror2.first.items ≡ mirror.first.items) (next : mirror2.next.items ≡ mirror.next.items) (filters : mirror2.filters.items ≡ mirror.filters.items)
       (is : IsMaskBlock (block_words shape cells new.block) (new.mask, None)) (low : new.block < 16384) (rows : AreFreeRows mirror new.mask.rows)
-      (keeps : IsKept mirror shape cells roots) (laid : IsLaid mirror shape cells new.mask xs) (free : (b : ℕ) → IsAmong b (blocks_of xs) → (root : ℕ) → Names roots root b → ⊥)
+      (keeps : IsKept mirror shape cells roots) (laid : IsLaid mirror shape cells new.mask xs) (free : (b : ℕ) → IsAmong b (laid_blocks xs) → (root : ℕ) → Names roots root b → ⊥)
       (others : (r : ℕ) → r ≢ mask_root slot → ((k : ℕ) → k < new.mask.size → r ≢ bucket_root new.mask k) → (roots2 r).chain ≡ (roots r).chain)
       (owns : (k : ℕ) → k < new.mask.size → (roots2 (bucket_root new.mask k)).chain ≡ links_of shape cells (blocks_in new.mask.size k xs))
       (names : (roots2 (mask_root slot)).chain ≡ links_of shape cells (new.block ∷ [])) where

@@ -26,8 +26,8 @@ dates xs = map (λ x. record { age = x.age; filter = x.filter }) xs
 abbrev pub filters_of : List Laid → List StoredFilter
 filters_of xs = map (λ x. x.filter) xs
 
-abbrev pub blocks_of : List Laid → List ℕ
-blocks_of xs = map (λ x. x.block) xs
+abbrev pub laid_blocks : List Laid → List ℕ
+laid_blocks xs = map (λ x. x.block) xs
 
 -- the blocks of those of a bucket, of so many, the latest first
 abbrev pub blocks_in : ℕ → ℕ → List Laid → List ℕ
@@ -43,10 +43,10 @@ pub record IsLaid (mirror : Mirror) (shape : Shape) (cells : List ℕ) (mask : S
 -- they were laid into blocks that no chain has had since the base, and so is a block for the mask's record, which is another one
 pub record IsReady {E : Type 0} (mirror : Mirror) (shape : Shape) (cells : List ℕ) (mask : StoredMask) (base : ℕ) (h : List (Commit E)) (block : ℕ) (xs : List Laid) : Type 0 where
   pub laid : IsLaid mirror shape cells mask xs
-  pub free : (b : ℕ) → IsAmong b (blocks_of xs) → IsUnnamed base h b
+  pub free : (b : ℕ) → IsAmong b (laid_blocks xs) → IsUnnamed base h b
   pub low : block < 16384
   pub spare : IsUnnamed base h block
-  pub apart : IsAmong block (blocks_of xs) → ⊥
+  pub apart : IsAmong block (laid_blocks xs) → ⊥
 
 -- filters with ages in given blocks, the first in the first, as far as both go
 abbrev pub laid_in : List ℕ → List Dated → List Laid

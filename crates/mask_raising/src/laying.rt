@@ -11,7 +11,7 @@ ghost use Rattle.mask_table.specs.Buckets.{IsAmong};
 ghost use Rattle.mask_mirror.specs.Kept.{IsKept};
 ghost use Rattle.mask_mirror.specs.Given.{AreGiven, AreFreeRows};
 ghost use Rattle.mask_mirror.specs.Lists.{age_of, kept_in, HasFilters};
-ghost use Rattle.mask_raising.specs.Laid.{Laid, blocks_of, laid_in, dated_by, IsLaid};
+ghost use Rattle.mask_raising.specs.Laid.{Laid, laid_blocks, laid_in, dated_by, IsLaid};
 
 use block_codec::{StoredFilter, StoredMask};
 use mask_mirror::{Mirror, place_for, put_in_front};
@@ -45,7 +45,7 @@ pub fn lay<L: Law>(
         → block_words store.now.shape (sheet_of writer.new.place).cells other ≡ block_words store.now.shape (sheet_of writer.old.place).cells other }
     ensures masks { mirror.new.slots.items ≡ mirror.old.slots.items }
     ensures dated { (c : ℕ) → c ≢ block → kept_in mirror.new c ≡ kept_in mirror.old c }
-    ensures laid { (xs : List Laid) → (IsAmong block (blocks_of xs) → ⊥) → IsLaid mirror.old store.now.shape (sheet_of writer.old.place).cells mask.now xs
+    ensures laid { (xs : List Laid) → (IsAmong block (laid_blocks xs) → ⊥) → IsLaid mirror.old store.now.shape (sheet_of writer.old.place).cells mask.now xs
         → IsLaid mirror.new store.now.shape (sheet_of writer.new.place).cells mask.now (xs ++ record { block = block; filter = filter.now; age = age } ∷ []) }
     ensures kept { IsKept mirror.new store.now.shape (sheet_of writer.new.place).cells (root_of (seen_by writer.new.place)) }
     ensures lists { (slot last : ℕ) (fs : List StoredFilter) → HasFilters mirror.old slot last fs → HasFilters mirror.new slot last fs }

@@ -25,6 +25,7 @@
 
 mod blocks;
 mod mask_writer;
+mod raising;
 mod removing;
 mod resizing;
 #[cfg(test)]
