@@ -24,7 +24,7 @@ use Rattle.mask_mirror.proofs.Spelling.{few_blocks}
 use Rattle.mask_mirror.proofs.Keeping.{at_root, names_each}
 use Rattle.mask_mirror.proofs.Chains.{first_link_of, spelled_low, block_there}
 use Rattle.chain_edits.specs.Finding.{IsFound}
-use Rattle.chain_edits.specs.Putting.{HasFilter}
+use Rattle.mask_mirror.specs.Kept.{HasFilter}
 use Rattle.chain_edits.proofs.Reading.{reads_as, held, first_read, link_words}
 use Rattle.chain_edits.proofs.Buckets.{link_blocks}
 

@@ -16,7 +16,8 @@ use Rattle.mask_mirror.specs.Changes.{IsFilled}
 use Rattle.mask_mirror.specs.Lists.{kept_in}
 use Rattle.mask_mirror.specs.Given.{AreGiven}
 use Rattle.mask_mirror.proofs.Lasting.{kept_same}
-use Rattle.chain_edits.specs.Putting.{HasFilter, AreApart, AreOfBucket, AreFilled, ArePut}
+use Rattle.mask_mirror.specs.Kept.{HasFilter}
+use Rattle.chain_edits.specs.Putting.{AreApart, AreOfBucket, AreFilled, ArePut}
 use Rattle.chain_edits.proofs.Among.{among_left, among_right, among_either, among_take, among_drop, different_left, different_right, different_apart}
 
 -- none

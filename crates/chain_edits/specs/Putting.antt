@@ -1,10 +1,9 @@
 -- Blocks that come to have filters, in front of a chain that is kept (this project's own).
-use Rattle.std.specs.Prelude.{◌≡◌, ℕ, ◌<◌, List, [], ◌∷◌, ◌++◌, map, slice_get, slice_index, slice_index_or, Option, Some, None}
+use Rattle.std.specs.Prelude.{◌≡◌, ℕ, ◌<◌, List, [], ◌∷◌, ◌++◌, map, slice_get, slice_index, Option, Some, None}
 use Rattle.std.specs.Borrow.{Bor}
 use Rattle.pin_store.specs.declared.shape.Shape.{Shape}
 use Rattle.pin_store.specs.Layout.{block_words}
 use Rattle.block_codec.specs.declared.filter.StoredFilter.{StoredFilter}
-use Rattle.block_codec.specs.Filters.{IsStorableFilter}
 use Rattle.mask_table.specs.Buckets.{bucket_for, IsAmong}
 use Rattle.mask_mirror.specs.declared.mirror.Mirror.{Mirror}
 use Rattle.mask_mirror.specs.Kept.{HoldsChain}
@@ -22,13 +21,6 @@ aged age fs = map (λ f. (age, Some f)) fs
 -- no number is in both lists
 abbrev pub AreApart : List ℕ → List ℕ → Type 0
 AreApart xs ys = (b : ℕ) → IsAmong b xs → IsAmong b ys → ⊥
-
--- a block of the pool has a filter that may be stored
-pub record HasFilter (filters : List (Option StoredFilter)) (b : ℕ) : Type 0 where
-  pub pool : b < 16384
-  pub filter : StoredFilter
-  pub kept : slice_index_or filters b None ≡ Some filter
-  pub storable : IsStorableFilter filter
 
 -- all filters that are kept so are of that bucket of so many
 abbrev pub AreOfBucket : ℕ → ℕ → List (ℕ × Option StoredFilter) → Type 0

@@ -5,27 +5,16 @@ ghost use Rattle.pin_store.specs.Sheets.{base_of, IsSameButCells};
 ghost use Rattle.pin_store.specs.Calls.{seen_by, sheet_of, IsSeatOf, IsUnnamed};
 ghost use Rattle.block_codec.specs.declared.filter.StoredFilter.{StoredFilter};
 ghost use Rattle.block_codec.specs.Filters.{IsStorableFilter};
-ghost use Rattle.mask_mirror.specs.Kept.{IsKept};
+ghost use Rattle.mask_mirror.specs.Kept.{HasFilter, IsKept};
 ghost use Rattle.mask_mirror.specs.Lists.{kept_in, HasFilters};
 ghost use Rattle.mask_mirror.specs.Given.{AreGiven};
 ghost use Rattle.mask_table.specs.Buckets.{IsAmong};
-ghost use Rattle.chain_edits.specs.Putting.{listed, aged, AreApart, HasFilter, ArePut};
+ghost use Rattle.chain_edits.specs.Putting.{listed, aged, AreApart, ArePut};
 
 use block_codec::StoredFilter;
-use mask_mirror::{Mirror, copy_of, put_in_front};
+use mask_mirror::{Mirror, kept_filter, put_in_front};
 use pin_store::{Store, Writer};
 use store_history::Law;
-
-// The filter that is kept in a block, once more.
-fn filter_in(mirror: &Mirror, block: u32) -> StoredFilter
-    requires { HasFilter mirror.now.filters.items block }
-    ensures { slice_index_or mirror.now.filters.items block None ≡ Some result }
-{
-    match &mirror.filters[block as usize] {
-        Some(filter) => copy_of(filter),
-        None => unreachable!(),
-    }
-}
 
 // Puts a copy of the filter in a block, with its age, into another block, in front of the chain that begins with a number.
 fn put_copy<L: Law>(
@@ -49,7 +38,7 @@ fn put_copy<L: Law>(
     ensures lists { (slot last : ℕ) (fs : List StoredFilter) → HasFilters mirror.old slot last fs → HasFilters mirror.new slot last fs }
     ensures kept { IsKept mirror.new store.now.shape (sheet_of writer.new.place).cells (root_of (seen_by writer.new.place)) }
 {
-    let filter = filter_in(mirror, from);
+    let filter = kept_filter(mirror, from);
     let age = mirror.ages[from as usize];
     put_in_front(mirror, writer, store, block, &filter, age, number);
 }

@@ -6,8 +6,8 @@ ghost use Rattle.mask_mirror.specs.Kept.{Stands};
 
 use crate::blocks::Blocks;
 use block_codec::StoredFilter;
-use block_codec::places::BUCKET_ROOTS;
-use mask_mirror::{Mirror, NumberRoom, gather_mask, name_chain, place_in, put_in_front};
+use chain_edits::rename;
+use mask_mirror::{Mirror, NumberRoom, gather_mask, place_in, put_in_front};
 use pin_store::{Shape, Store, Writer};
 use std::alloc::Global;
 use store_history::{EditName, Law};
@@ -60,47 +60,6 @@ impl MaskWriter {
         })
     }
 
-    // Makes the one commit by which the root of the bucket at a place names the chain that begins with a number, and keeps that.
-    fn rename_bucket<L: Law, E: EditName<L::Entry>>(
-        &mut self,
-        writer: &mut Writer<L>,
-        store: &Store<L>,
-        place: u32,
-        number: u32,
-        edit: Point,
-    )
-        requires store { IsSeatOf store.now writer.old.place }
-        requires shape { (store.now.shape.words ≡ 40) × (16384 ≤ store.now.shape.blocks) × (141315 ≤ store.now.shape.roots) }
-        requires place { place < 131072 }
-        requires kept { IsKept self.old.mirror store.now.shape (sheet_of writer.old.place).cells (root_of (seen_by writer.old.place)) }
-        requires chain { (own : BucketAt self.old.mirror (10243 + place)) × (blocks : List ℕ)
-            × HoldsChain self.old.mirror store.now.shape (sheet_of writer.old.place).cells own.kept.mask.size own.bucket number blocks
-            × AreOwn self.old.mirror (root_of (seen_by writer.old.place)) (10243 + place) blocks }
-        requires lawful { (blocks : List ℕ) → Spells self.old.mirror.next.items number blocks → L.keeps
-            (seen_by writer.old.place ++ commit_of store.now.shape (sheet_of writer.old.place).cells (10243 + place) blocks edit (Some edit) E.edit ∷ [])
-            (base_of (sheet_of writer.old.place)) }
-        ensures store { IsSeatOf store.now writer.new.place }
-        ensures seen { (blocks : List ℕ) → Spells self.old.mirror.next.items number blocks → seen_by writer.new.place
-            ≡ seen_by writer.old.place ++ commit_of store.now.shape (sheet_of writer.old.place).cells (10243 + place) blocks edit (Some edit) E.edit ∷ [] }
-        ensures sheet { sheet_of writer.new.place ≡ sheet_of writer.old.place }
-        ensures kept { IsKept self.new.mirror store.now.shape (sheet_of writer.new.place).cells (root_of (seen_by writer.new.place)) }
-        ensures renamed { IsRenamed self.old.mirror self.new.mirror place number }
-        ensures masks { self.new.mirror.slots.items ≡ self.old.mirror.slots.items }
-        ensures left { (self.new.left_blocks ≡ self.old.left_blocks) × (self.new.left_rows ≡ self.old.left_rows) }
-    {
-        name_chain::<L, E>(
-            &mut self.chain,
-            &self.mirror,
-            writer,
-            store,
-            BUCKET_ROOTS + place,
-            number,
-            edit,
-            Some(edit),
-        );
-        self.mirror.begin(place, number);
-    }
-
     /// Puts a filter into the mask at a slot: fills the given block, and makes the one commit that names it in front of the chain of its
     /// bucket. The commit carries the edit that `E` names, under its number.
     ///
@@ -150,7 +109,15 @@ impl MaskWriter {
             first_age(edit),
             next,
         );
-        self.rename_bucket::<L, E>(writer, store, place, block + 1, edit);
+        rename::<L, E>(
+            &mut self.chain,
+            &mut self.mirror,
+            writer,
+            store,
+            place,
+            block + 1,
+            edit,
+        );
         self.left_blocks.clear();
         self.left_rows.clear();
     }

@@ -18,8 +18,8 @@ place_in-place-requires-clause-storable g c = λ kept stands. (c.requires.kept.m
 pub put_in_front-requires-clause-free : goal.put_in_front-requires-clause-free
 put_in_front-requires-clause-free g c = subst (IsUnnamed (base_of (sheet_of c.args.writer.now.place)) (seen_by c.args.writer.now.place)) (ap (λ (bs : List ℕ). get_or bs 0 0) (sym c.as_slice.ensures)) c.requires.free
 
-pub rename_bucket-requires-clause-chain : goal.rename_bucket-requires-clause-chain
-rename_bucket-requires-clause-chain g c =
+pub rename-requires-clause-chain : goal.rename-requires-clause-chain
+rename-requires-clause-chain g c =
     let mirror = c.args.self.now.mirror in let shape = c.args.store.now.shape in let h = seen_by c.args.writer.now.place in let old = sheet_of c.args.writer.now.place in
     let b = get_or c.as_slice.result.now 0 0 in let given : get_or c.args.given.now.blocks 0 0 ≡ b = ap (λ (bs : List ℕ). get_or bs 0 0) (sym c.as_slice.ensures) in
     let kept = c.requires.stands.0 in let stands = c.requires.stands.1 in let filter = c.args.filter.now in
@@ -32,8 +32,8 @@ rename_bucket-requires-clause-chain g c =
     × AreOwn mirror2 (root_of more) (10243 + place) blocks) (sym p.seen)
     (chain_ready mirror mirror2 shape old.cells new.cells h c.args.slot b kept filter place next c.requires.kept stands free at was p.filled p.chain)
 
-pub rename_bucket-requires-clause-lawful : goal.rename_bucket-requires-clause-lawful
-rename_bucket-requires-clause-lawful g c = λ blocks s.
+pub rename-requires-clause-lawful : goal.rename-requires-clause-lawful
+rename-requires-clause-lawful g c = λ blocks s.
     let mirror = c.args.self.now.mirror in let shape = c.args.store.now.shape in let h = seen_by c.args.writer.now.place in let old = sheet_of c.args.writer.now.place in
     let b = get_or c.as_slice.result.now 0 0 in let given : get_or c.args.given.now.blocks 0 0 ≡ b = ap (λ (bs : List ℕ). get_or bs 0 0) (sym c.as_slice.ensures) in
     let kept = c.requires.stands.0 in let stands = c.requires.stands.1 in let filter = c.args.filter.now in
@@ -59,7 +59,7 @@ returns-clause-seen g c = λ more there.
     let chain = chain_ready mirror mirror2 shape old.cells new.cells h c.args.slot b kept filter place next c.requires.kept stands free at was p.filled p.chain in
     let same = same_kept mirror c.args.slot c.args.slot kept more refl stands there in
     let one = commit_is mirror mirror2 shape old.cells new.cells h c.args.slot b kept filter place next c.requires.kept stands free at was p.filled p.words p.chain chain.1 chain.2.spelled c.args.edit g.E.EditName.edit ∙ (λ t. insert_at h (root_for (same t).mask filter) (sym given t) filter c.args.edit g.E.EditName.edit) in
-    c.rename_bucket.ensures.seen chain.1 chain.2.spelled ∙ (λ t. p.seen t ++ one t ∷ [])
+    c.rename.ensures.seen chain.1 chain.2.spelled ∙ (λ t. p.seen t ++ one t ∷ [])
 
 pub returns-clause-list : goal.returns-clause-list
 returns-clause-list g c = λ last fs has later.
@@ -73,7 +73,7 @@ returns-clause-list g c = λ last fs has later.
     let p = c.put_in_front.ensures in let mirror2 = c.put_in_front.new.mirror in let new = sheet_of c.put_in_front.new.writer.place in
     let keeps2 = subst (λ (more : List (Commit g.row.L-Entry.Denot)). IsKept mirror2 shape new.cells (root_of more)) p.seen p.kept in
     mask_has mirror mirror2 shape old.cells new.cells h c.args.slot b kept filter place next c.requires.kept stands free at was p.filled c.first_age.result c.args.edit
-    c.rename_bucket.new.self.mirror c.rename_bucket.ensures.renamed keeps2 c.place_in-place.ensures.small p.dated c.first_age.ensures p.lists p.chain last fs has later
+    c.rename.new.mirror c.rename.ensures.renamed keeps2 c.place_in-place.ensures.small p.dated c.first_age.ensures p.lists p.chain last fs has later
 
 pub returns-clause-lists : goal.returns-clause-lists
 returns-clause-lists g c = λ other last fs away has.
@@ -87,4 +87,4 @@ returns-clause-lists g c = λ other last fs away has.
     let p = c.put_in_front.ensures in let mirror2 = c.put_in_front.new.mirror in let new = sheet_of c.put_in_front.new.writer.place in
     let keeps2 = subst (λ (more : List (Commit g.row.L-Entry.Denot)). IsKept mirror2 shape new.cells (root_of more)) p.seen p.kept in
     others_have mirror mirror2 shape old.cells new.cells h c.args.slot b kept filter place next c.requires.kept stands free at was p.filled c.first_age.result c.args.edit
-    c.rename_bucket.new.self.mirror c.rename_bucket.ensures.renamed keeps2 c.place_in-place.ensures.small p.dated c.first_age.ensures p.lists other last fs away has
+    c.rename.new.mirror c.rename.ensures.renamed keeps2 c.place_in-place.ensures.small p.dated c.first_age.ensures p.lists other last fs away has

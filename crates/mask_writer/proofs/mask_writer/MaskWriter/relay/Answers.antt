@@ -1,4 +1,4 @@
-use Rattle.std.proofs.Common.{◌≡◌, ◌∙◌, ℕ, ◌+◌, ◌≤◌, List, ◌∷◌, length, map, drop, get_or, slice_get, Option, Some, None, refl, sym, ap, subst, arith}
+use Rattle.std.proofs.Common.{◌≡◌, ◌∙◌, ℕ, List, length, map, drop, get_or, slice_get, Option, Some, None, sym, ap, subst, arith}
 use Rattle.std.specs.List.Sorted.{IsPermutation}
 use Rattle.store_history.specs.History.{root_of}
 use Rattle.pin_store.specs.Sheets.{base_of}
@@ -6,8 +6,7 @@ use Rattle.pin_store.specs.Calls.{seen_by, sheet_of}
 use Rattle.pin_store.proofs.Sound.{base_low}
 use Rattle.block_codec.specs.declared.filter.StoredFilter.{StoredFilter}
 use Rattle.mask_mirror.specs.Kept.{HasFilter}
-use Rattle.mask_mirror.specs.Forgetting.{bucket_blocks}
-use Rattle.mask_mirror.specs.Lists.{kept_in, kept_as, HasFilters}
+use Rattle.mask_mirror.specs.Lists.{kept_in}
 use Rattle.mask_mirror.proofs.Lasting.{kept_same}
 use Rattle.mask_order.proofs.Buckets.{long_ordered}
 use Rattle.mask_raising.proofs.Aside.{free_rows_same}

@@ -1,10 +1,9 @@
-use Rattle.std.proofs.Common.{rules, ◌≡◌, ◌∙◌, ℕ, ◌+◌, ◌<◌, ◌≤◌, List, ◌∷◌, ◌++◌, length, map, take, set, get_or, slice_get, Option, Some, None, refl, sym, ap, subst, arith}
+use Rattle.std.proofs.Common.{rules, ◌∙◌, ℕ, ◌+◌, ◌≤◌, List, ◌++◌, length, take, set, get_or, Some, refl, sym, ap, subst, arith}
 use Rattle.std.proofs.lemmas.Option.{slice_get-get_or}
 use Rattle.store_history.specs.declared.history.Commit.{Commit}
 use Rattle.store_history.specs.History.{root_of}
 use Rattle.pin_store.specs.Sheets.{base_of}
 use Rattle.pin_store.specs.Calls.{seen_by, sheet_of}
-use Rattle.block_codec.specs.declared.filter.StoredFilter.{StoredFilter}
 use Rattle.block_codec.specs.declared.mask.StoredMask.{StoredMask}
 use Rattle.mask_table.specs.Buckets.{IsAmong}
 use Rattle.mask_mirror.specs.Given.{AreGiven, AreFreeRows}
@@ -12,7 +11,7 @@ use Rattle.mask_mirror.specs.Lists.{age_of, Rises, HasFilters}
 use Rattle.mask_mirror.specs.Linked.{placed, raise_commits, resized}
 use Rattle.mask_mirror.proofs.Keeping.{same_base}
 use Rattle.mask_order.proofs.Buckets.{long_dated}
-use Rattle.mask_raising.specs.Laid.{places, laid_in, IsLaid}
+use Rattle.mask_raising.specs.Laid.{places, laid_in}
 use Rattle.mask_raising.proofs.Aside.{free_rows_same}
 use Rattle.mask_raising.proofs.Bringing.{few_given, laid_ready, laid_commits, filters_laid, dates_laid}
 use Rattle.mask_writer.proofs.mask_writer.MaskWriter.resize.Goals as goal
@@ -41,7 +40,7 @@ raise-requires-clause-lawful g c =
     let same = c.resized_mask-mask.ensures kept stands ∙ ap (resized kept.mask c.args.size) c.as_slice.ensures in
     let many = ap length bs_is ∙ c.requires.many last fs has in let count = r.count last fs has in
     let one = laid_commits {E = g.row.L-Entry.Denot} (resized kept.mask c.args.size c.args.given.now.rows) mask c.args.slot (get_or bs c.relay-count.result 0) c.args.stamp bs ds fs same has.filters
-        ∙ (λ t. raise_commits c.args.slot (resized kept.mask c.args.size c.args.given.now.rows) (get_or (bs_is t) (count t) 0) (placed (bs_is t) fs) c.args.stamp) in (
+    ∙ (λ t. raise_commits c.args.slot (resized kept.mask c.args.size c.args.given.now.rows) (get_or (bs_is t) (count t) 0) (placed (bs_is t) fs) c.args.stamp) in (
       laid_in bs ds,
       laid_ready c.relay-count.new.self.mirror shape new.cells mask (base_of old) h bs ds (subst (AreGiven (base_of old) h) (sym bs_is) c.requires.given) (many ∙ ap (λ (n : ℕ). n + 1) (sym long)) (r.laid last fs has)
           mask (base_of new) c.relay-count.result (seen_by c.relay-count.new.writer.place) refl (same_base old new r.sheet) r.seen (count ∙ sym long),
@@ -57,7 +56,7 @@ returns-clause-seen g c = λ kept last fs stands has.
     let same = c.resized_mask-mask.ensures kept stands ∙ ap (resized kept.mask c.args.size) c.as_slice.ensures in
     let many = ap length bs_is ∙ c.requires.many last fs has in let count = r.count last fs has in
     let one = laid_commits {E = g.row.L-Entry.Denot} (resized kept.mask c.args.size c.args.given.now.rows) mask c.args.slot (get_or bs c.relay-count.result 0) c.args.stamp bs ds fs same has.filters
-        ∙ (λ t. raise_commits c.args.slot (resized kept.mask c.args.size c.args.given.now.rows) (get_or (bs_is t) (count t) 0) (placed (bs_is t) fs) c.args.stamp) in
+    ∙ (λ t. raise_commits c.args.slot (resized kept.mask c.args.size c.args.given.now.rows) (get_or (bs_is t) (count t) 0) (placed (bs_is t) fs) c.args.stamp) in
     c.raise.ensures.seen (laid_in bs ds)
     (laid_ready c.relay-count.new.self.mirror shape new.cells mask (base_of old) h bs ds (subst (AreGiven (base_of old) h) (sym bs_is) c.requires.given) (many ∙ ap (λ (n : ℕ). n + 1) (sym long)) (r.laid last fs has)
     mask (base_of new) c.relay-count.result (seen_by c.relay-count.new.writer.place) refl (same_base old new r.sheet) r.seen (count ∙ sym long))
