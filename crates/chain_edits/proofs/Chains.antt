@@ -17,14 +17,13 @@ use Rattle.block_reading.specs.Read.{filter_in}
 use Rattle.mask_table.specs.Buckets.{bucket_for}
 use Rattle.mask_mirror.specs.declared.mirror.Mirror.{Mirror}
 use Rattle.mask_mirror.specs.declared.mirror.KeptMask.{KeptMask}
-use Rattle.mask_mirror.specs.Kept.{bucket_at, Stands, Spells, HoldFilters, HoldsChain, BucketAt, Names, KeepsBucket, IsKept}
+use Rattle.mask_mirror.specs.Kept.{HasFilter, bucket_at, Stands, Spells, HoldFilters, HoldsChain, BucketAt, Names, KeepsBucket, IsKept}
 use Rattle.mask_mirror.specs.Changing.{root_for}
 use Rattle.mask_mirror.specs.Linked.{placed, linked}
 use Rattle.mask_mirror.proofs.Spelling.{few_blocks}
 use Rattle.mask_mirror.proofs.Keeping.{at_root, names_each}
 use Rattle.mask_mirror.proofs.Chains.{first_link_of, spelled_low, block_there}
 use Rattle.chain_edits.specs.Finding.{IsFound}
-use Rattle.mask_mirror.specs.Kept.{HasFilter}
 use Rattle.chain_edits.proofs.Reading.{reads_as, held, first_read, link_words}
 use Rattle.chain_edits.proofs.Buckets.{link_blocks}
 

@@ -1,8 +1,7 @@
 -- What a bucket's chain and the masks' filters become as blocks are put in front of what is behind a filter, and the bucket's root names them.
-use Rattle.std.proofs.Common.{◌≡◌, ◌≢◌, ◌∙◌, ◌⊎◌, inl, inr, ℕ, suc, ◌+◌, ◌<◌, ◌≤◌, Bool, true, false, eqb, List, [], ◌∷◌, ◌++◌, length, map, take, drop, get_or, slice_get, Option, Some, None, refl, sym, ap, subst, arith, eqb-true, get_or-set_other, get_or-set_same}
+use Rattle.std.proofs.Common.{◌≡◌, ◌≢◌, ◌∙◌, ◌⊎◌, inl, inr, ℕ, suc, ◌+◌, ◌<◌, ◌≤◌, List, [], ◌∷◌, ◌++◌, length, map, take, drop, get_or, slice_get, Option, Some, None, refl, sym, ap, subst, arith, get_or-set_same}
 use Rattle.std.specs.Borrow.{Bor}
 use Rattle.std.specs.Option.{option_map}
-use Rattle.std.proofs.lemmas.Bool.{eqb-false}
 use Rattle.std.proofs.lemmas.List.{map-append, take-map, drop-map}
 use Rattle.std.proofs.lemmas.Option.{slice_get-map}
 use Rattle.store_history.specs.declared.history.Named.{Named}
@@ -16,15 +15,15 @@ use Rattle.block_reading.specs.Read.{filter_in}
 use Rattle.mask_table.specs.Buckets.{bucket_root, bucket_for, IsAmong}
 use Rattle.mask_mirror.specs.declared.mirror.Mirror.{Mirror}
 use Rattle.mask_mirror.specs.declared.mirror.KeptMask.{KeptMask}
-use Rattle.mask_mirror.specs.Kept.{bucket_at, Stands, Spells, HoldsChain, BucketAt, Names, KeepsBucket, IsKept, AreOwn}
+use Rattle.mask_mirror.specs.Kept.{bucket_at, Stands, Spells, HoldsChain, BucketAt, Names, IsKept, AreOwn}
 use Rattle.mask_mirror.specs.Changes.{IsRenamed}
 use Rattle.mask_mirror.specs.Changing.{rewrite_at, HasNone}
 use Rattle.mask_mirror.specs.Linked.{placed, linked}
 use Rattle.mask_mirror.specs.Lists.{Dated, Rises, age_of, kept_in, dated_in, HasFilters}
 use Rattle.mask_mirror.proofs.Spelling.{same_blocks}
 use Rattle.mask_mirror.proofs.Chains.{links_same, spells_same}
-use Rattle.mask_mirror.proofs.Keeping.{at_root, names_each, same_kept, bucket_with}
-use Rattle.mask_mirror.proofs.Lasting.{SameChain, has_same, kept_same}
+use Rattle.mask_mirror.proofs.Keeping.{same_kept, bucket_with}
+use Rattle.mask_mirror.proofs.Lasting.{SameChain, kept_same, chain_renamed, lists_renamed, has_rewritten}
 use Rattle.chain_edits.specs.Finding.{IsFound}
 use Rattle.chain_edits.specs.Putting.{listed, aged, AreApart, AreOfBucket, ArePut}
 use Rattle.chain_edits.proofs.Reading.{held}
@@ -63,8 +62,11 @@ module _ (mirror mirror1 : Mirror) (shape : Shape) (old new : List ℕ) (roots :
   abbrev AreIn : Type 0
   AreIn = (f : StoredFilter) → IsAmong f more → bucket_for kept.mask.size f.key.words ≡ found.there.bucket
 
+  all_away : (k b : ℕ) → slice_get blocks k ≡ Some b → IsAmong b given → ⊥
+  all_away k b e i = free b i (10243 + place) (names mirror shape old roots slot kept stands keeps handle place count blocks found k b e)
+
   tail_away : AreApart (drop (suc count) blocks) given
-  tail_away b (k, e) i = let r = among_drop b (suc count) blocks k e in free b i (10243 + place) (names mirror shape old roots slot kept stands keeps handle place count blocks found r.0 b r.1)
+  tail_away b (k, e) i = let r = among_drop b (suc count) blocks k e in all_away r.0 b r.1 i
 
   of_bucket : AreIn → AreOfBucket kept.mask.size found.there.bucket (map (kept_in mirror) (take count blocks) ++ aged age more)
   of_bucket of k a f e = pick (among_either (a, Some f) (map (kept_in mirror) (take count blocks)) (aged age more) k e)
@@ -118,10 +120,11 @@ module _ (mirror mirror1 : Mirror) (shape : Shape) (old new : List ℕ) (roots :
       ∙ (links_put mirror1.filters.items shape new kept.mask.size found.there.bucket given (drop (suc count) blocks) (front ++ more) (filters_put front e) whole.hold
       ∙ ap (linked (placed given (front ++ more))) (links_behind wide))
 
-  -- ---- the filters of masks
-  module _ (mirror2 : Mirror) (small : place < 131072) (renamed : IsRenamed mirror1 mirror2 place number) where
-    stands_now : (other : ℕ) (mask : KeptMask) → Stands mirror other mask → Stands mirror2 other mask
-    stands_now other mask s = ap (λ (xs : List (Option KeptMask)). get_or xs other None) (renamed.slots ∙ put.filled.slots) ∙ s
+  -- ---- the filters of masks, once that the root names the longer chain
+  module _ (mirror2 : Mirror) (small : place < 131072) (renamed : IsRenamed mirror1 mirror2 place number) (roots1 : ℕ → Named) (keeps1 : IsKept mirror1 shape new roots1) where
+    -- those of other masks
+    pub lists_stay : (other last : ℕ) (fs : List StoredFilter) → other ≢ slot → HasFilters mirror1 other last fs → HasFilters mirror2 other last fs
+    lists_stay = lists_renamed mirror1 mirror2 place number renamed shape new roots1 keeps1 own_now
 
     kept_later : (c : ℕ) → kept_in mirror2 c ≡ kept_in mirror1 c
     kept_later c = λ t. (get_or (renamed.ages t) c 0, get_or (renamed.filters t) c None)
@@ -129,94 +132,69 @@ module _ (mirror mirror1 : Mirror) (shape : Shape) (old new : List ℕ) (roots :
     first_own : get_or mirror2.first.items place 0 ≡ number
     first_own = let long = mirror1.first_long in ap (λ (xs : List ℕ). get_or xs place 0) renamed.first ∙ get_or-set_same mirror1.first.items place number 0 (omega arith)
 
-    first_other : (p : ℕ) → p ≢ place → get_or mirror2.first.items p 0 ≡ get_or mirror.first.items p 0
-    first_other p apart = ap (λ (xs : List ℕ). get_or xs p 0) renamed.first ∙ (get_or-set_other mirror1.first.items place p number 0 apart ∙ ap (λ (xs : List ℕ). get_or xs p 0) put.filled.first)
+    -- another bucket of the mask keeps its chain
+    other_chain : (other : ℕ) → other ≢ found.there.bucket → other < kept.mask.size → SameChain mirror1 mirror2 (bucket_at kept.mask other)
+    other_chain other apart less = chain_renamed mirror1 mirror2 place number renamed shape new roots1 keeps1 (bucket_root kept.mask other)
+        (record { slot = slot; bucket = other; kept = kept; stands = own_now.stands; within = less; same = refl })
+        (λ e. apart (keeps1.apart (10243 + place) (record { slot = slot; bucket = other; kept = kept; stands = own_now.stands; within = less; same = sym e }) own_now).1)
 
-    -- the chains of all other buckets stay
-    chain_stays : (other bucket : ℕ) (mask : KeptMask) → Stands mirror other mask → bucket < mask.mask.size → bucket_at mask.mask bucket ≢ place → SameChain mirror mirror2 (bucket_at mask.mask bucket)
-    chain_stays other bucket mask s less apart =
-        let this = bucket_root mask.mask bucket in let p = bucket_at mask.mask bucket in
-        let at : BucketAt mirror this = record { slot = other; bucket = bucket; kept = mask; stands = s; within = less; same = refl } in
-        let was : KeepsBucket mirror shape old roots mask.mask bucket = keeps.buckets this at in
-        let away : (k c : ℕ) → slice_get was.blocks k ≡ Some c → IsAmong c given → ⊥ = λ k c e i. free c i this (names_each roots this shape old was.blocks was.named k c e) in
-        let spelled = spells_same mirror.next.items mirror2.next.items (get_or mirror.first.items p 0) was.blocks (λ k c e. ap (λ (xs : List ℕ). get_or xs c 0) renamed.next ∙ put.filled.next c (away k c e)) was.chain.spelled in record {
-          blocks = was.blocks;
-          before = was.chain.spelled;
-          after = subst (λ (n : ℕ). Spells mirror2.next.items n was.blocks) (sym (first_other p apart)) spelled;
-          same = kept_same mirror mirror2 was.blocks (λ k c e. kept_later c ∙ put.filled.kept c (away k c e));
-        }
+    -- its own chain still was the old one before that
+    old_spelled : Spells mirror1.next.items (get_or mirror1.first.items (bucket_at kept.mask found.there.bucket) 0) blocks
+    old_spelled = let c = chain mirror shape old roots slot kept stands keeps handle place count blocks found in let at = place_is mirror shape old roots slot kept stands keeps handle place count blocks found in
+        subst (λ (n : ℕ). Spells mirror1.next.items n blocks) (λ t. get_or (sym put.filled.first t) (at t) 0)
+        (spells_same mirror.next.items mirror1.next.items (get_or mirror.first.items place 0) blocks (λ k b e. put.filled.next b (all_away k b e)) c.spelled)
 
-    abbrev bucket_of_place : (other bucket : ℕ) (mask : KeptMask) → Stands mirror other mask → bucket < mask.mask.size → bucket_at mask.mask bucket ≡ place → BucketAt mirror (10243 + place)
-    bucket_of_place other bucket mask s less is = record { slot = other; bucket = bucket; kept = mask; stands = s; within = less; same = sym (at_root mask.mask bucket ∙ ap (λ (p : ℕ). 10243 + p) is) }
-
-    pub lists_stay : (other last : ℕ) (fs : List StoredFilter) → other ≢ slot → HasFilters mirror other last fs → HasFilters mirror2 other last fs
-    lists_stay other last fs apart has = has_same mirror mirror2 other last fs has (stands_now other has.kept has.stands)
-        (λ bucket less. chain_stays other bucket has.kept has.stands less
-        (λ is. apart (keeps.apart (10243 + place) (bucket_of_place other bucket has.kept has.stands less is) (own mirror shape old roots slot kept stands keeps handle place count blocks found)).0))
-
-    -- the changed mask: its filters are in `all`, what is found is the one between the parts
+    -- the changed bucket: what is found is the one between the parts
     module _ (few : length more ≤ 1) (is_age : age ≡ get_or mirror.ages.items (get_or blocks count 0) 0) (before : List Dated) (one : Dated) (rest : List Dated)
-        (all : (bucket : ℕ) (bs : List ℕ) → bucket < kept.mask.size → Spells mirror.next.items (get_or mirror.first.items (bucket_at kept.mask bucket) 0) bs → map (kept_in mirror) bs ≡ dated_in kept.mask.size bucket (before ++ one ∷ rest)) where
-      own_all : map (kept_in mirror) blocks ≡ dated_in kept.mask.size found.there.bucket (before ++ one ∷ rest)
-      own_all = all found.there.bucket blocks found.there.within (subst (λ (p : ℕ). Spells mirror.next.items (get_or mirror.first.items p 0) blocks)
-          (place_is mirror shape old roots slot kept stands keeps handle place count blocks found) (chain mirror shape old roots slot kept stands keeps handle place count blocks found).spelled)
-
+        (whole : map (kept_in mirror) blocks ≡ dated_in kept.mask.size found.there.bucket (before ++ one ∷ rest)) where
       found_there : slice_get (dated_in kept.mask.size found.there.bucket (before ++ one ∷ rest)) count ≡ Some (age, Some found.filter)
       found_there = let kept_one = one_kept mirror shape old roots slot kept stands keeps handle place count blocks found in
-          ap (λ (xs : List (ℕ × Option StoredFilter)). slice_get xs count) (sym own_all)
+          ap (λ (xs : List (ℕ × Option StoredFilter)). slice_get xs count) (sym whole)
           ∙ (slice_get-map (kept_in mirror) blocks count ∙ (ap (option_map (kept_in mirror)) (there mirror shape old roots slot kept stands keeps handle place count blocks found)
           ∙ (λ t. Some (sym is_age t, kept_one t))))
 
       abbrev Only : Type 0
       Only = IsTheOne kept.mask.size found.there.bucket count age (dated_in kept.mask.size found.there.bucket (before ++ one ∷ rest)) before one rest
 
-      pub is_only : ((f : StoredFilter) → IsAmong f (map (λ (d : Dated). d.filter) before) → f.handle ≢ handle) → ((f : StoredFilter) → IsAmong f (map (λ (d : Dated). d.filter) rest) → f.handle ≢ handle) → Only
+      is_only : ((f : StoredFilter) → IsAmong f (map (λ (d : Dated). d.filter) before) → f.handle ≢ handle) → ((f : StoredFilter) → IsAmong f (map (λ (d : Dated). d.filter) rest) → f.handle ≢ handle) → Only
       is_only none_before none_rest = the_one kept.mask.size found.there.bucket handle count age found.filter before one rest none_before none_rest found.there.named found_there
 
-      own_bucket : Only → AreIn → (bs : List ℕ) → Spells mirror2.next.items (get_or mirror2.first.items place 0) bs → map (kept_in mirror2) bs ≡ dated_in kept.mask.size found.there.bucket (before ++ (dated_as age more ++ rest))
-      own_bucket only of bs s =
-          let whole = subst (λ (xs : List ℕ). Spells xs number (given ++ drop (suc count) blocks)) (sym renamed.next) (new_chain of).spelled in
-          let is = same_blocks mirror2.next.items (get_or mirror2.first.items place 0) number bs (given ++ drop (suc count) blocks) first_own s whole in
+      own_bucket : Only → AreIn → map (kept_in mirror2) (given ++ drop (suc count) blocks) ≡ dated_in kept.mask.size found.there.bucket (before ++ (dated_as age more ++ rest))
+      own_bucket only of =
           let first = kept_same mirror1 mirror2 given (λ k c e. kept_later c) ∙ put.have in
-          let front = sym (take-map (kept_in mirror) count blocks) ∙ (ap (take count) own_all ∙ only.front) in
-          let last = kept_same mirror mirror2 (drop (suc count) blocks) (λ k c e. kept_later c ∙ put.filled.kept c (tail_away c (k, e))) ∙ (sym (drop-map (kept_in mirror) (suc count) blocks) ∙ (ap (drop (suc count)) own_all ∙ only.rest)) in
-          ap (map (kept_in mirror2)) is ∙ (map-append (kept_in mirror2) given (drop (suc count) blocks) ∙ ((λ t. (first ∙ (λ u. front u ++ aged age more)) t ++ last t)
-          ∙ sym (own_changed kept.mask.size found.there.bucket age before rest more few of)))
-
-      other_bucket : Only → AreIn → (bucket : ℕ) (bs : List ℕ) → bucket < kept.mask.size → bucket ≢ found.there.bucket → Spells mirror2.next.items (get_or mirror2.first.items (bucket_at kept.mask bucket) 0) bs
-          → map (kept_in mirror2) bs ≡ dated_in kept.mask.size bucket (before ++ (dated_as age more ++ rest))
-      other_bucket only of bucket bs less apart s =
-          let p = bucket_at kept.mask bucket in
-          let stays = chain_stays slot bucket kept stands less (λ is. apart (keeps.apart (10243 + place) (bucket_of_place slot bucket kept stands less is) (own mirror shape old roots slot kept stands keeps handle place count blocks found)).1) in
-          let is = same_blocks mirror2.next.items (get_or mirror2.first.items p 0) (get_or mirror2.first.items p 0) bs stays.blocks refl s stays.after in
-          ap (map (kept_in mirror2)) is ∙ (stays.same ∙ (all bucket stays.blocks less stays.before ∙ other_changed kept.mask.size found.there.bucket bucket age before one rest more apart only.hashed of))
-
-      pub each_bucket : Only → AreIn → (bucket : ℕ) (bs : List ℕ) → bucket < kept.mask.size → Spells mirror2.next.items (get_or mirror2.first.items (bucket_at kept.mask bucket) 0) bs
-          → map (kept_in mirror2) bs ≡ dated_in kept.mask.size bucket (before ++ (dated_as age more ++ rest))
-      each_bucket only of bucket bs less s = by (eqb bucket found.there.bucket) refl
-        where
-          by : (t : Bool) → eqb bucket found.there.bucket ≡ t → map (kept_in mirror2) bs ≡ dated_in kept.mask.size bucket (before ++ (dated_as age more ++ rest))
-          by true e = let is = eqb-true bucket found.there.bucket e in let at = place_is mirror shape old roots slot kept stands keeps handle place count blocks found in
-              subst (λ (k : ℕ). map (kept_in mirror2) bs ≡ dated_in kept.mask.size k (before ++ (dated_as age more ++ rest))) (sym is)
-              (own_bucket only of bs (subst (λ (p : ℕ). Spells mirror2.next.items (get_or mirror2.first.items p 0) bs) (ap (bucket_at kept.mask) is ∙ sym at) s))
-          by false e = other_bucket only of bucket bs less (eqb-false bucket found.there.bucket e) s
+          let front = sym (take-map (kept_in mirror) count blocks) ∙ (ap (take count) whole ∙ only.front) in
+          let last = kept_same mirror mirror2 (drop (suc count) blocks) (λ k c e. kept_later c ∙ put.filled.kept c (tail_away c (k, e))) ∙ (sym (drop-map (kept_in mirror) (suc count) blocks) ∙ (ap (drop (suc count)) whole ∙ only.rest)) in
+          map-append (kept_in mirror2) given (drop (suc count) blocks) ∙ ((λ t. (first ∙ (λ u. front u ++ aged age more)) t ++ last t)
+          ∙ sym (own_changed kept.mask.size found.there.bucket age before rest more few of))
 
     pub list_changed : length more ≤ 1 → age ≡ get_or mirror.ages.items (get_or blocks count 0) 0 → (last : ℕ) (earlier : List StoredFilter) (gone : StoredFilter) (later : List StoredFilter)
-        → HasFilters mirror slot last (earlier ++ gone ∷ later) → ((f : StoredFilter) → IsAmong f more → f.key.words ≡ gone.key.words) → HasNone handle (earlier ++ later)
+        → HasFilters mirror1 slot last (earlier ++ gone ∷ later) → ((f : StoredFilter) → IsAmong f more → f.key.words ≡ gone.key.words) → HasNone handle (earlier ++ later)
         → HasFilters mirror2 slot last (earlier ++ (more ++ later))
-    list_changed few is_age last earlier gone later has keys none =
-        let parts = split_at has.dated earlier gone later has.filters in
-        let same = same_kept mirror slot slot has.kept kept refl has.stands stands in
-        let all = subst (λ (ds : List Dated). (bucket : ℕ) (bs : List ℕ) → bucket < kept.mask.size → Spells mirror.next.items (get_or mirror.first.items (bucket_at kept.mask bucket) 0) bs → map (kept_in mirror) bs ≡ dated_in kept.mask.size bucket ds) parts.whole
-        (subst (λ (m : KeptMask). (bucket : ℕ) (bs : List ℕ) → bucket < m.mask.size → Spells mirror.next.items (get_or mirror.first.items (bucket_at m.mask bucket) 0) bs → map (kept_in mirror) bs ≡ dated_in m.mask.size bucket has.dated) same has.buckets) in
+    list_changed few is_age last earlier gone later had keys none =
+        let same = same_kept mirror1 slot slot had.kept kept refl had.stands own_now.stands in
+        let has : HasFilters mirror1 slot last (earlier ++ gone ∷ later) = record {
+          kept = kept;
+          stands = own_now.stands;
+          dated = had.dated;
+          filters = had.filters;
+          rise = had.rise;
+          buckets = subst (λ (m : KeptMask). (bucket : ℕ) (bs : List ℕ) → bucket < m.mask.size → Spells mirror1.next.items (get_or mirror1.first.items (bucket_at m.mask bucket) 0) bs
+              → map (kept_in mirror1) bs ≡ dated_in m.mask.size bucket had.dated) same had.buckets;
+        } in
+        let parts = split_at had.dated earlier gone later had.filters in
+        let whole = sym (kept_same mirror mirror1 blocks (λ k b e. put.filled.kept b (all_away k b e)))
+        ∙ (has.buckets found.there.bucket blocks found.there.within old_spelled ∙ ap (dated_in kept.mask.size found.there.bucket) parts.whole) in
         let none_before = λ (f : StoredFilter) (i : IsAmong f (map (λ (d : Dated). d.filter) parts.before)). let j = subst (IsAmong f) parts.earlier_is i in none f (among_left f earlier later j.0 j.1) in
         let none_behind = λ (f : StoredFilter) (i : IsAmong f (map (λ (d : Dated). d.filter) parts.behind)). none f (among_right f earlier later (subst (IsAmong f) parts.later_is i)) in
-        let only = is_only few is_age parts.before parts.one parts.behind all none_before none_behind in
-        let of = λ (f : StoredFilter) (i : IsAmong f more). ap (bucket_for kept.mask.size) (keys f i ∙ ap (λ (g : StoredFilter). g.key.words) (sym parts.one_is)) ∙ only.hashed in record {
-          kept = kept;
-          stands = stands_now slot kept stands;
-          dated = parts.before ++ (dated_as age more ++ parts.behind);
-          filters = filters_changed age parts.before parts.behind more earlier later parts.earlier_is parts.later_is;
-          rise = rises_changed 0 (age_of (last + 1) 0) age parts.before parts.one parts.behind more few only.same_age (subst (Rises 0 (age_of (last + 1) 0)) parts.whole has.rise);
-          buckets = each_bucket few is_age parts.before parts.one parts.behind all only of;
-        }
+        let only = is_only few is_age parts.before parts.one parts.behind whole none_before none_behind in
+        let of = λ (f : StoredFilter) (i : IsAmong f more). ap (bucket_for kept.mask.size) (keys f i ∙ ap (λ (g : StoredFilter). g.key.words) (sym parts.one_is)) ∙ only.hashed in
+        let dated = parts.before ++ (dated_as age more ++ parts.behind) in
+        let spelled = subst (λ (n : ℕ). Spells mirror2.next.items n (given ++ drop (suc count) blocks))
+        (sym first_own ∙ ap (λ (p : ℕ). get_or mirror2.first.items p 0) (place_is mirror shape old roots slot kept stands keeps handle place count blocks found))
+        (subst (λ (xs : List ℕ). Spells xs number (given ++ drop (suc count) blocks)) (sym renamed.next) (new_chain of).spelled) in
+        let others = λ (other : ℕ) (apart : other ≢ found.there.bucket). sym (ap (dated_in kept.mask.size other) parts.whole
+        ∙ other_changed kept.mask.size found.there.bucket other age parts.before parts.one parts.behind more apart only.hashed of) in
+        let rise = rises_changed 0 (age_of (last + 1) 0) age parts.before parts.one parts.behind more few only.same_age (subst (Rises 0 (age_of (last + 1) 0)) parts.whole had.rise) in
+        subst (HasFilters mirror2 slot last) (filters_changed age parts.before parts.behind more earlier later parts.earlier_is parts.later_is)
+        (has_rewritten mirror1 mirror2 slot last last (earlier ++ gone ∷ later) has dated found.there.bucket (given ++ drop (suc count) blocks) (ap (λ (xs : List (Option KeptMask)). get_or xs slot None) renamed.slots ∙ own_now.stands)
+        spelled (own_bucket few is_age parts.before parts.one parts.behind whole only of) other_chain others rise)

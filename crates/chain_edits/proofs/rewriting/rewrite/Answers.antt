@@ -117,8 +117,8 @@ returns-clause-list g c = λ slot handle last kept earlier gone later stands fou
     let put = subst (λ (n : ℕ). ArePut mirror mirror1 shape old.cells new.cells given (map (kept_in mirror) (take count blocks) ++ aged age more) n number) is p.put in
     let free = λ (x : ℕ) (i : IsAmong x given). unnamed_now (base_of old) h x (base_low old c.args.writer.now.sound) (c.requires.given.free i.0 x i.1) in
     let inside_ages : b < length mirror.ages.items = (let long = mirror.ages_long in omega arith) in let is_age = c.index-age.ensures ∙ get_or_default mirror.ages.items b age 0 inside_ages in
-    list_changed mirror mirror1 shape old.cells new.cells (root_of h) slot kept stands c.requires.kept handle place count blocks found given more age number free put c.rename.new.mirror c.requires.small c.rename.ensures.renamed
-    (listed_few c.args.with) is_age last earlier gone later lists keys none
+    list_changed mirror mirror1 shape old.cells new.cells (root_of h) slot kept stands c.requires.kept handle place count blocks found given more age number free put c.rename.new.mirror c.requires.small c.rename.ensures.renamed (root_of (seen_by c.put_edited-number.new.writer.place)) p.kept
+    (listed_few c.args.with) is_age last earlier gone later (p.lists slot last (earlier ++ gone ∷ later) lists) keys none
 
 pub returns-clause-lists : goal.returns-clause-lists
 returns-clause-lists g c = λ slot handle kept stands found other last fs apart lists.
@@ -129,4 +129,4 @@ returns-clause-lists g c = λ slot handle kept stands found other last fs apart 
     let p = c.put_edited-number.ensures in let mirror1 = c.put_edited-number.new.mirror in let new = sheet_of c.put_edited-number.new.writer.place in let number = c.put_edited-number.result in let age = c.index-age.result.now in let more = listed c.args.with in
     let put = subst (λ (n : ℕ). ArePut mirror mirror1 shape old.cells new.cells given (map (kept_in mirror) (take count blocks) ++ aged age more) n number) is p.put in
     let free = λ (x : ℕ) (i : IsAmong x given). unnamed_now (base_of old) h x (base_low old c.args.writer.now.sound) (c.requires.given.free i.0 x i.1) in
-    lists_stay mirror mirror1 shape old.cells new.cells (root_of h) slot kept stands c.requires.kept handle place count blocks found given more age number free put c.rename.new.mirror c.requires.small c.rename.ensures.renamed other last fs apart lists
+    lists_stay mirror mirror1 shape old.cells new.cells (root_of h) slot kept stands c.requires.kept handle place count blocks found given more age number free put c.rename.new.mirror c.requires.small c.rename.ensures.renamed (root_of (seen_by c.put_edited-number.new.writer.place)) p.kept other last fs apart (p.lists other last fs lists)
