@@ -2,5 +2,9 @@
 #![tactic(auto)]
 
 mod law;
+#[cfg(test)]
+mod tests;
+mod trial;
 
 pub use law::LoneLaw;
+pub use trial::Trial;

@@ -1,0 +1,293 @@
+//! Many filters come and go, and readers look for them.
+ghost use Rattle.std.specs.Prelude.{◌≡◌, ◌<◌, ◌^◌, IfOk};
+ghost use Rattle.pin_store.specs.Calls.{pin_of, IsInside, IsOutside, IsSeatOf};
+ghost use Rattle.mask_order.specs.Fitting.{FitsBlock};
+ghost use Rattle.mask_trial.specs.Trial.{IsTried, IsAtRest};
+
+use crate::law::LoneLaw;
+use crate::trial::Trial;
+use block_codec::StoredFilter;
+use block_codec::places::{BLOCK_WORDS, BLOCKS, MASK_ROOTS, READERS, ROOTS};
+use block_reading::mask_in;
+use chain_reading::Walk;
+use flow_fields::Key;
+use mask_table::lookup;
+use pin_store::{Reader, Shape, Steps, Store, Writer, make_store};
+use std::alloc::Global;
+use std::marker::Brand;
+use std::sync::ledger::{Blank, Ledger};
+use std::test::Fail;
+use std::thread;
+use tc_base::{NoMemory, Point};
+use visit_room::{ActionName, Hit};
+
+const SHAPE: Shape = Shape {
+    blocks: BLOCKS,
+    words: BLOCK_WORDS,
+    roots: ROOTS,
+    readers: READERS,
+};
+
+// All different for numbers below 2^32, since the factor is odd. That of 0 is the first filter's.
+fn key_of(number: u32) -> Key<14> {
+    let mut key = Key { words: [0; 14] };
+    key.words[0] = u64::from(number.wrapping_mul(2_654_435_761));
+    key
+}
+
+// The filter with a number; each third one has an action.
+fn filter_of(number: u32) -> StoredFilter
+    requires { number < 16384 }
+    ensures { FitsBlock result }
+{
+    let mut actions = Hit::new();
+    if number % 3 == 1 {
+        actions.push(ActionName {
+            serial: number,
+            slot: number % 2_048,
+        });
+    }
+    StoredFilter {
+        handle: number + 1,
+        key: key_of(number),
+        actions,
+    }
+}
+
+// How many buckets a mask with so many filters has.
+fn size_by_hand(filters: usize) -> u32 {
+    match filters {
+        0..=12 => 16,
+        13..=24 => 32,
+        25..=48 => 64,
+        49..=96 => 128,
+        97..=192 => 256,
+        193..=384 => 512,
+        _ => 1_024,
+    }
+}
+
+fn load_size<M: Ledger>(
+    store: &Store<LoneLaw>,
+    reader: &mut Reader<LoneLaw>,
+    blank: Blank,
+) -> u32
+    requires store { IsSeatOf store.now reader.old.place × (store.now.shape ≡ SHAPE) }
+    requires inside { IsInside reader.old.place }
+    requires blank { (blank.name ≡ M.name) × (blank.parts ≡ M.parts) × (0 < M.parts) }
+    ensures store { IsSeatOf store.now reader.new.place }
+    ensures inside { IsInside reader.new.place }
+{
+    let mut steps = Steps::<M>::new(blank);
+    let (mut walk, _) = Walk::along(reader, store, MASK_ROOTS, &mut steps);
+    let mut words = [0; 40];
+    if !walk.next_block(reader, store, &mut words, &mut steps) {
+        return 0;
+    }
+    match mask_in(&words) {
+        Some(mask) => mask.size,
+        None => 0,
+    }
+}
+
+// The number of buckets of the mask, as a reader finds it.
+fn size_now(store: &Store<LoneLaw>, reader: &mut Reader<LoneLaw>) -> u32
+    requires store { IsSeatOf store.now reader.old.place × (store.now.shape ≡ SHAPE) }
+    requires inside { IsInside reader.old.place }
+    ensures store { IsSeatOf store.now reader.new.place }
+    ensures inside { IsInside reader.new.place }
+{
+    load_size::<Brand>(store, reader, Blank::new(1))
+}
+
+fn look_as<M: Ledger>(
+    store: &Store<LoneLaw>,
+    reader: &mut Reader<LoneLaw>,
+    number: u32,
+    into: &mut Hit,
+    blank: Blank,
+) -> (bool, Point)
+    requires store { IsSeatOf store.now reader.old.place × (store.now.shape ≡ SHAPE) }
+    requires inside { IsInside reader.old.place }
+    requires blank { (blank.name ≡ M.name) × (blank.parts ≡ M.parts) × (0 < M.parts) }
+    ensures store { IsSeatOf store.now reader.new.place }
+    ensures inside { IsInside reader.new.place }
+{
+    let mut steps = Steps::<M>::new(blank);
+    lookup(reader, store, 0, &key_of(number), into, &mut steps)
+}
+
+// Looks the key with a number up.
+fn look(
+    store: &Store<LoneLaw>,
+    reader: &mut Reader<LoneLaw>,
+    number: u32,
+    into: &mut Hit,
+) -> (bool, Point)
+    requires store { IsSeatOf store.now reader.old.place × (store.now.shape ≡ SHAPE) }
+    requires inside { IsInside reader.old.place }
+    ensures store { IsSeatOf store.now reader.new.place }
+    ensures inside { IsInside reader.new.place }
+{
+    look_as::<Brand>(store, reader, number, into, Blank::new(1))
+}
+
+// A look-up answers what a search of the list answers.
+fn answers_as(
+    store: &Store<LoneLaw>,
+    reader: &mut Reader<LoneLaw>,
+    number: u32,
+    filters: &[StoredFilter],
+) -> bool
+    requires store { IsSeatOf store.now reader.old.place × (store.now.shape ≡ SHAPE) }
+    requires inside { IsInside reader.old.place }
+    ensures store { IsSeatOf store.now reader.new.place }
+    ensures inside { IsInside reader.new.place }
+{
+    let mut actions = Hit::new();
+    let (found, _) = look(store, reader, number, &mut actions);
+    let key = key_of(number);
+    match filters.iter().find(|filter| filter.key.words[0] == key.words[0] && filter.key == key) {
+        Some(filter) => found && actions.actions() == filter.actions.actions(),
+        None => !found,
+    }
+}
+
+// Puts the filter with a number, which is not there.
+fn put_next(
+    alloc: Global,
+    trial: &mut Trial,
+    writer: &mut Writer<LoneLaw>,
+    store: &Store<LoneLaw>,
+    number: u32,
+) -> Result<bool, NoMemory>
+    requires store { IsSeatOf store.now writer.old.place × (store.now.shape ≡ SHAPE) }
+    requires tried { IsTried trial.old store.now.shape writer.old.place }
+    requires rest { IsAtRest trial.old }
+    requires small { number < 16384 }
+    ensures store { IsSeatOf store.now writer.new.place }
+    ensures tried { IsTried trial.new store.now.shape writer.new.place }
+    ensures rest { IfOk result (λ _. IsAtRest trial.new) }
+{
+    trial.put(alloc, writer, store, filter_of(number))
+}
+
+// Takes the filter with a number out, and says whether the mask has the size by hand then, as a reader finds it.
+fn take_next(
+    alloc: Global,
+    trial: &mut Trial,
+    writer: &mut Writer<LoneLaw>,
+    store: &Store<LoneLaw>,
+    reader: &mut Reader<LoneLaw>,
+    number: u32,
+) -> Result<bool, NoMemory>
+    requires store { IsSeatOf store.now writer.old.place × IsSeatOf store.now reader.old.place × (store.now.shape ≡ SHAPE) }
+    requires inside { IsInside reader.old.place }
+    requires tried { IsTried trial.old store.now.shape writer.old.place }
+    requires rest { IsAtRest trial.old }
+    requires small { number < 16384 }
+    ensures store { IsSeatOf store.now writer.new.place × IsSeatOf store.now reader.new.place }
+    ensures inside { IsInside reader.new.place }
+    ensures tried { IsTried trial.new store.now.shape writer.new.place }
+    ensures rest { IfOk result (λ _. IsAtRest trial.new) }
+{
+    let taken = trial.take(alloc, writer, store, number + 1)?;
+    let size = size_now(store, reader);
+    Ok(taken && size == size_by_hand(trial.filters.len()))
+}
+
+#[test]
+fn many_filters_are_found(rt: HostRuntime) -> Result<(), Fail> {
+    let (store, mut writer, mut readers) = make_store::<LoneLaw>(rt.alloc(), SHAPE)?;
+    let mut trial = Trial::begin(rt.alloc(), &mut writer, &store)?;
+    if let Some(mut reader) = readers.take() {
+        reader.enter(&store);
+        assert!(rt; size_now(&store, &mut reader) == 16);
+        for number in 1..4_096 {
+            assert!(rt; put_next(rt.alloc(), &mut trial, &mut writer, &store, number)?);
+            assert_eq!(rt; size_now(&store, &mut reader), size_by_hand(number as usize + 1));
+        }
+        for number in 0..8_192 {
+            assert!(rt; answers_as(&store, &mut reader, number, &trial.filters));
+        }
+    }
+    Ok(())
+}
+
+// The later three quarters go in reverse, then each fourth of the rest in the order in which they came, and then the others in reverse.
+#[test]
+fn filters_come_and_go(rt: HostRuntime) -> Result<(), Fail> {
+    let (store, mut writer, mut readers) = make_store::<LoneLaw>(rt.alloc(), SHAPE)?;
+    let mut trial = Trial::begin(rt.alloc(), &mut writer, &store)?;
+    if let Some(mut reader) = readers.take() {
+        reader.enter(&store);
+        for number in 1..4_096 {
+            assert!(rt; put_next(rt.alloc(), &mut trial, &mut writer, &store, number)?);
+        }
+        for step in 0..3_072 {
+            assert!(rt; take_next(rt.alloc(), &mut trial, &mut writer, &store, &mut reader, 4_095 - step)?);
+        }
+        for step in 0..256 {
+            assert!(rt; take_next(rt.alloc(), &mut trial, &mut writer, &store, &mut reader, 4 * step + 1)?);
+        }
+        for step in 0..1_023 {
+            let number = 1_023 - step;
+            if number % 4 != 1 {
+                assert!(rt; take_next(rt.alloc(), &mut trial, &mut writer, &store, &mut reader, number)?);
+            }
+        }
+        assert_eq!(rt; trial.filters.len(), 1);
+    }
+    Ok(())
+}
+
+// Whether each of many answers is lawful: the filter with a number comes with the edit of that number.
+fn look_often(store: &Store<LoneLaw>, mut reader: Reader<LoneLaw>) -> bool
+    requires store { IsSeatOf store.now reader.place × (store.now.shape ≡ SHAPE) }
+    requires outside { IsOutside reader.place × (pin_of reader.place < 2 ^ 63) }
+{
+    reader.enter(store);
+    let mut lawful = true;
+    for step in 0..20_000 {
+        let number = step % 1_001;
+        let (found, point) = look(store, &mut reader, number, &mut Hit::new());
+        lawful = lawful && found == (number <= point);
+    }
+    reader.leave(store);
+    lawful
+}
+
+// Puts the filters from 1 to 1,000, and says whether all were.
+fn put_many(
+    alloc: Global,
+    trial: &mut Trial,
+    writer: &mut Writer<LoneLaw>,
+    store: &Store<LoneLaw>,
+) -> Result<bool, NoMemory>
+    requires store { IsSeatOf store.now writer.old.place × (store.now.shape ≡ SHAPE) }
+    requires tried { IsTried trial.old store.now.shape writer.old.place }
+    requires rest { IsAtRest trial.old }
+{
+    let mut all = true;
+    for number in 1..1_001 {
+        all = put_next(alloc, trial, writer, store, number)? && all;
+    }
+    Ok(all)
+}
+
+#[test]
+fn answers_are_lawful_meanwhile(rt: HostRuntime) -> Result<(), Fail> {
+    let alloc = rt.alloc();
+    let (store, mut writer, mut readers) = make_store::<LoneLaw>(alloc, SHAPE)?;
+    let mut trial = Trial::begin(alloc, &mut writer, &store)?;
+    if let Some(reader) = readers.take() {
+        let (lawful, put) = thread::join(
+            &rt,
+            || look_often(&store, reader),
+            || put_many(alloc, &mut trial, &mut writer, &store),
+        );
+        assert!(rt; lawful);
+        assert!(rt; put?);
+    }
+    Ok(())
+}
