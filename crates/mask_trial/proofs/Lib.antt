@@ -1,3 +1,8 @@
 pub mod Fresh
 pub mod Putting
+pub mod Counting
+pub mod Beginning
+pub mod Raising
 pub mod Taking
+pub mod OneList
+pub mod Resizing

@@ -86,7 +86,7 @@ module _ (mirror : Mirror) (fs : List StoredFilter) (blocks rows size point : �
       let fits : kept.mask.size ≡ size_of (length (now h)) = ap (λ (k : KeptMask). k.mask.size) same ∙ (tried.sized ∙ (rest ∙ ap (λ (l : List StoredFilter). size_of (length l)) (sym tried.changes))) in
       let own = subst (λ (l : List StoredFilter). HaveOwnKeys (l ++ filter ∷ [])) (sym tried.changes) (own_keys fs filter tried.keys all) in
       subst (λ (k : ℕ). Follows h (insert_at h (root_for kept.mask filter) b filter (k + 1) (changes.Put filter))) tried.edits
-        (insertion_follows h mirror shape (sheet_of p).cells kept point tried.kept stands has fits filter b fit own)
+      (insertion_follows h mirror shape (sheet_of p).cells kept point tried.kept stands has fits filter b fit own)
     where
       some_same : Some kept ≡ Some tried.mask → kept ≡ tried.mask
       some_same e = cc e
@@ -106,7 +106,7 @@ module _ (mirror : Mirror) (fs : List StoredFilter) (blocks rows size point : �
   put_tried mirror2 p2 low seen sheet kept masks has =
       let mask = tried.mask.mask in let c : Commit Change = insert_at h (root_for mask filter) b filter (point + 1) (changes.Put filter) in
       let below : AreBelow (h ++ c ∷ []) (blocks + 1) = below_more (blocks + 1) h c (λ l named. let less = tried.blocks_below l named in omega arith)
-          (insertion_below (blocks + 1) h (root_for mask filter) b (point + 1) filter (changes.Put filter) (λ l named. let less = tried.blocks_below l named in omega arith) (omega arith)) in
+      (insertion_below (blocks + 1) h (root_for mask filter) b (point + 1) filter (changes.Put filter) (λ l named. let less = tried.blocks_below l named in omega arith) (omega arith)) in
       let unused : RowsBelow (h ++ c ∷ []) rows = rows_still rows h c (not_the_slot mask (bucket_for mask.size filter.key.words)) tried.rows_below in
       record {
         lawful = subst (λ (k : List (Commit Change)). Keeps k 0) (sym seen) (put_lawful tried.mask tried.stands);

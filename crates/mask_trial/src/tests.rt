@@ -67,11 +67,7 @@ fn size_by_hand(filters: usize) -> u32 {
     }
 }
 
-fn load_size<M: Ledger>(
-    store: &Store<LoneLaw>,
-    reader: &mut Reader<LoneLaw>,
-    blank: Blank,
-) -> u32
+fn load_size<M: Ledger>(store: &Store<LoneLaw>, reader: &mut Reader<LoneLaw>, blank: Blank) -> u32
     requires store { IsSeatOf store.now reader.old.place × (store.now.shape ≡ SHAPE) }
     requires inside { IsInside reader.old.place }
     requires blank { (blank.name ≡ M.name) × (blank.parts ≡ M.parts) × (0 < M.parts) }
@@ -205,7 +201,10 @@ fn many_filters_are_found(rt: HostRuntime) -> Result<(), Fail> {
         assert!(rt; size_now(&store, &mut reader) == 16);
         for number in 1..4_096 {
             assert!(rt; put_next(rt.alloc(), &mut trial, &mut writer, &store, number)?);
-            assert_eq!(rt; size_now(&store, &mut reader), size_by_hand(number as usize + 1));
+            assert_eq!(rt;
+                size_now(&store, &mut reader),
+                size_by_hand(number as usize + 1)
+            );
         }
         for number in 0..8_192 {
             assert!(rt; answers_as(&store, &mut reader, number, &trial.filters));
@@ -225,15 +224,42 @@ fn filters_come_and_go(rt: HostRuntime) -> Result<(), Fail> {
             assert!(rt; put_next(rt.alloc(), &mut trial, &mut writer, &store, number)?);
         }
         for step in 0..3_072 {
-            assert!(rt; take_next(rt.alloc(), &mut trial, &mut writer, &store, &mut reader, 4_095 - step)?);
+            assert!(rt;
+                take_next(
+                    rt.alloc(),
+                    &mut trial,
+                    &mut writer,
+                    &store,
+                    &mut reader,
+                    4_095 - step
+                )?
+            );
         }
         for step in 0..256 {
-            assert!(rt; take_next(rt.alloc(), &mut trial, &mut writer, &store, &mut reader, 4 * step + 1)?);
+            assert!(rt;
+                take_next(
+                    rt.alloc(),
+                    &mut trial,
+                    &mut writer,
+                    &store,
+                    &mut reader,
+                    4 * step + 1
+                )?
+            );
         }
         for step in 0..1_023 {
             let number = 1_023 - step;
             if number % 4 != 1 {
-                assert!(rt; take_next(rt.alloc(), &mut trial, &mut writer, &store, &mut reader, number)?);
+                assert!(rt;
+                    take_next(
+                        rt.alloc(),
+                        &mut trial,
+                        &mut writer,
+                        &store,
+                        &mut reader,
+                        number
+                    )?
+                );
             }
         }
         assert_eq!(rt; trial.filters.len(), 1);

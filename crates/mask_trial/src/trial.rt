@@ -115,15 +115,7 @@ impl Trial {
             blocks: numbers_from(alloc, 0, 2)?,
             rows: Numbers::from_vec(Vec::new(alloc)),
         };
-        masks.create::<LoneLaw, Brand>(
-            writer,
-            store,
-            0,
-            &first_mask(),
-            &first_filter(),
-            &given,
-            0,
-        );
+        masks.create::<LoneLaw, Brand>(writer, store, 0, &first_mask(), &first_filter(), &given, 0);
         Ok(Trial {
             masks,
             filters,
@@ -162,14 +154,7 @@ impl Trial {
         let last = self.filters.len();
         self.filters.push(filter)?;
         let Trial { masks, filters, .. } = self;
-        masks.insert::<LoneLaw, Brand>(
-            writer,
-            store,
-            0,
-            &filters[last],
-            &given,
-            self.point + 1,
-        );
+        masks.insert::<LoneLaw, Brand>(writer, store, 0, &filters[last], &given, self.point + 1);
         self.blocks += 1;
         self.point += 1;
         Ok(())

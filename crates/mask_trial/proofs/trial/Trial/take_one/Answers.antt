@@ -1,38 +1,40 @@
-use Rattle.std.proofs.Common.{◌≡◌, ◌∙◌, ℕ, suc, ◌+◌, List, ◌++◌, take, drop, slice_get, Some, refl, sym, ap, subst, arith}
+use Rattle.std.proofs.Common.{◌≡◌, ℕ, ◌+◌, ◌<◌, List, length, slice_get, Some, sym, ap, subst, arith, ◌∙◌}
 use Rattle.std.proofs.lemmas.Option.{slice_get-get_or}
 use Rattle.block_codec.specs.declared.filter.StoredFilter.{StoredFilter}
+use Rattle.pin_store.specs.Sheets.{base_of}
+use Rattle.pin_store.specs.Calls.{seen_by, sheet_of}
 use Rattle.mask_trial.specs.Trial.{TriedWith}
-use Rattle.mask_trial.proofs.Taking.{take_there, take_many, take_given, take_lawful, take_none, take_has, take_tried}
+use Rattle.mask_trial.proofs.Fresh.{fresh_given}
+use Rattle.mask_trial.proofs.Taking.{take_there, take_many, take_lawful, take_tried}
 use Rattle.mask_trial.proofs.trial.Trial.take_one.Goals as goal
 
 pub remove-requires-clause-there : goal.remove-requires-clause-there
-remove-requires-clause-there c = let t = c.args.self.now in let fs = t.filters.items in let old = c.index.result.now in let place = c.args.place in
-    let at = slice_get-get_or fs place old c.requires.there ∙ ap Some (sym c.index.ensures) in
-    let found = take_there t.masks.mirror fs t.blocks t.rows t.size t.point c.args.store.now.shape c.args.writer.now.place c.requires.tried c.requires.rest place old at c.args.count c.in_ok-numbers_from.field-0 c.in_ok-numbers_from.ensures c.requires.room.0 (c.requires.count old at) in
-    (c.requires.tried.mask, found.0, found.1, old, c.requires.tried.stands, found.2)
+remove-requires-clause-there c = let t = c.args.self.now in let fs = t.filters.items in let f = c.index.result.now in
+    let is : slice_get fs c.args.place ≡ Some f = slice_get-get_or fs c.args.place f c.requires.there ∙ ap Some (sym c.index.ensures) in
+    take_there t.masks.mirror fs t.blocks t.rows t.size t.point c.args.store.now.shape c.args.writer.now.place c.requires.tried c.args.place f is
 
 pub remove-requires-clause-many : goal.remove-requires-clause-many
-remove-requires-clause-many c = let t = c.args.self.now in let fs = t.filters.items in let old = c.index.result.now in let place = c.args.place in
-    let at = slice_get-get_or fs place old c.requires.there ∙ ap Some (sym c.index.ensures) in
-    take_many t.masks.mirror fs t.blocks t.rows t.size t.point c.args.store.now.shape c.args.writer.now.place c.requires.tried c.requires.rest place old at c.args.count c.in_ok-numbers_from.field-0 c.in_ok-numbers_from.ensures c.requires.room.0 (c.requires.count old at)
+remove-requires-clause-many c = λ kept root front filter stands at. let t = c.args.self.now in let fs = t.filters.items in let f = c.index.result.now in
+    let is : slice_get fs c.args.place ≡ Some f = slice_get-get_or fs c.args.place f c.requires.there ∙ ap Some (sym c.index.ensures) in
+    take_many t.masks.mirror fs t.blocks t.rows t.size t.point c.args.store.now.shape c.args.writer.now.place c.requires.tried c.args.place f is
+    c.args.count (c.requires.count f is) c.in_ok-numbers_from.field-0 c.in_ok-numbers_from.ensures kept root front filter stands at
 
 pub remove-requires-clause-given : goal.remove-requires-clause-given
-remove-requires-clause-given c = let t = c.args.self.now in let fs = t.filters.items in let old = c.index.result.now in let place = c.args.place in
-    let at = slice_get-get_or fs place old c.requires.there ∙ ap Some (sym c.index.ensures) in
-    take_given t.masks.mirror fs t.blocks t.rows t.size t.point c.args.store.now.shape c.args.writer.now.place c.requires.tried c.requires.rest place old at c.args.count c.in_ok-numbers_from.field-0 c.in_ok-numbers_from.ensures c.requires.room.0 (c.requires.count old at)
+remove-requires-clause-given c = let t = c.args.self.now in let room = c.requires.room in
+    fresh_given (base_of (sheet_of c.args.writer.now.place)) (seen_by c.args.writer.now.place) t.blocks c.args.count c.in_ok-numbers_from.field-0
+    c.requires.tried.base c.requires.tried.blocks_below room.0 c.in_ok-numbers_from.ensures
 
 pub remove-requires-clause-lawful : goal.remove-requires-clause-lawful
-remove-requires-clause-lawful c = let t = c.args.self.now in let fs = t.filters.items in let old = c.index.result.now in let place = c.args.place in
-    let at = slice_get-get_or fs place old c.requires.there ∙ ap Some (sym c.index.ensures) in
-    take_lawful t.masks.mirror fs t.blocks t.rows t.size t.point c.args.store.now.shape c.args.writer.now.place c.requires.tried c.requires.rest place old at c.args.count c.in_ok-numbers_from.field-0 c.in_ok-numbers_from.ensures c.requires.room.0 (c.requires.count old at)
+remove-requires-clause-lawful c = λ kept root front filter stands at. let t = c.args.self.now in let fs = t.filters.items in let f = c.index.result.now in
+    let is : slice_get fs c.args.place ≡ Some f = slice_get-get_or fs c.args.place f c.requires.there ∙ ap Some (sym c.index.ensures) in
+    take_lawful t.masks.mirror fs t.blocks t.rows t.size t.point c.args.store.now.shape c.args.writer.now.place c.requires.tried c.args.place f is
+    c.args.count (c.requires.count f is) c.in_ok-numbers_from.field-0 c.in_ok-numbers_from.ensures kept root front filter stands at c.requires.rest c.requires.room.0
 
 pub returns-clause-tried : goal.returns-clause-tried
-returns-clause-tried c = let t = c.args.self.now in let fs = t.filters.items in let old = c.index.result.now in let place = c.args.place in
-    let at = slice_get-get_or fs place old c.requires.there ∙ ap Some (sym c.index.ensures) in
-    let tried = c.requires.tried in let r = c.remove.ensures in let done = r.done tried.mask tried.stands in let more : place + 1 ≡ suc place = omega arith in
-    let has = r.list t.point (take place fs) old (drop (place + 1) fs) (take_has t.masks.mirror fs t.blocks t.rows t.size t.point c.args.store.now.shape c.args.writer.now.place c.requires.tried c.requires.rest place old at c.args.count c.in_ok-numbers_from.field-0 c.in_ok-numbers_from.ensures c.requires.room.0 (c.requires.count old at)) refl
-        (take_none t.masks.mirror fs t.blocks t.rows t.size t.point c.args.store.now.shape c.args.writer.now.place c.requires.tried c.requires.rest place old at c.args.count c.in_ok-numbers_from.field-0 c.in_ok-numbers_from.ensures c.requires.room.0 (c.requires.count old at)) in
-    subst (λ (l : List StoredFilter). TriedWith c.remove.new.self.mirror l (t.blocks + c.args.count) t.rows t.size (t.point + 1) c.args.store.now.shape c.remove.new.writer.place)
-    (ap (λ (n : ℕ). take place fs ++ drop n fs) more ∙ sym c.remove-2.ensures.items)
-    (take_tried t.masks.mirror fs t.blocks t.rows t.size t.point c.args.store.now.shape c.args.writer.now.place c.requires.tried c.requires.rest place old at c.args.count c.in_ok-numbers_from.field-0 c.in_ok-numbers_from.ensures c.requires.room.0 (c.requires.count old at)
-    c.remove.new.self.mirror c.remove.new.writer.place done.0 done.1 done.2 done.3 done.4 r.sheet r.kept r.masks has)
+returns-clause-tried c = let t = c.args.self.now in let fs = t.filters.items in let f = c.index.result.now in let shape = c.args.store.now.shape in
+    let is : slice_get fs c.args.place ≡ Some f = slice_get-get_or fs c.args.place f c.requires.there ∙ ap Some (sym c.index.ensures) in
+    let done = c.remove.ensures in let r = done.done c.requires.tried.mask c.requires.tried.stands in
+    subst (λ (l : List StoredFilter). TriedWith c.remove.new.self.mirror l (t.blocks + c.args.count) t.rows t.size (t.point + 1) shape c.remove.new.writer.place) (sym c.remove-2.ensures.items)
+    (take_tried t.masks.mirror fs t.blocks t.rows t.size t.point shape c.args.writer.now.place c.requires.tried c.args.place f is
+      c.args.count (c.requires.count f is) c.in_ok-numbers_from.field-0 c.in_ok-numbers_from.ensures c.requires.tried.mask r.0 r.1 r.2 c.requires.tried.stands r.3 c.requires.rest c.requires.room.0
+      c.remove.new.self.mirror c.remove.new.writer.place r.4 done.sheet done.kept done.masks done.list)
