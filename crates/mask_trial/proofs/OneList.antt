@@ -27,9 +27,11 @@ module _ (size b : ℕ) where
 
   among_in : (ds : List Dated) (x : Dated) → bucket_for size x.filter.key.words ≡ b → IsAmong x ds → IsAmong (kept_as x) (dated_in size b ds)
   among_in [] x is at = absurd (cc at.1)
-  among_in (d ∷ ds) x is (zero, e) = let same : d ≡ x = cc e in let here = eq-eqb (bucket_for size d.filter.key.words) b (ap (λ (y : Dated). bucket_for size y.filter.key.words) same ∙ is) in
-      (length (dated_in size b ds) + 0, get_behind (dated_in size b ds) (own d (eqb (bucket_for size d.filter.key.words) b)) 0
-      ∙ (ap (λ (t : Bool). slice_get (own d t) 0) here ∙ ap (λ (y : Dated). Some (kept_as y)) same))
+  among_in (d ∷ ds) x is (zero, e) = let same : d ≡ x = cc e in let here = eq-eqb (bucket_for size d.filter.key.words) b (ap (λ (y : Dated). bucket_for size y.filter.key.words) same ∙ is) in (
+    length (dated_in size b ds) + 0,
+    get_behind (dated_in size b ds) (own d (eqb (bucket_for size d.filter.key.words) b)) 0
+        ∙ (ap (λ (t : Bool). slice_get (own d t) 0) here ∙ ap (λ (y : Dated). Some (kept_as y)) same),
+  )
   among_in (d ∷ ds) x is (suc n, e) = let r = among_in ds x is (n, e) in
       (r.0, get_before (dated_in size b ds) (own d (eqb (bucket_for size d.filter.key.words) b)) r.0 (slice_get_within (dated_in size b ds) r.0 (kept_as x) r.1) ∙ r.1)
 
@@ -95,7 +97,7 @@ module _ (mirror : Mirror) (shape : Shape) (cells : List ℕ) (roots : ℕ → N
       let kept = keeps.buckets (bucket_root mask bucket) (record { slot = slot; bucket = bucket; kept = one.kept; stands = one.stands; within = within; same = refl }) in
       let same = same_kept mirror slot slot one.kept two.kept refl one.stands two.stands in
       let two_is = subst (λ (k : KeptMask). map (kept_in mirror) kept.blocks ≡ dated_in k.mask.size bucket two.dated) (sym same)
-          (two.buckets bucket kept.blocks (subst (λ (k : KeptMask). bucket < k.mask.size) same within) (subst (λ (k : KeptMask). Spells mirror.next.items (get_or mirror.first.items (bucket_at k.mask bucket) 0) kept.blocks) same kept.chain.spelled)) in
+      (two.buckets bucket kept.blocks (subst (λ (k : KeptMask). bucket < k.mask.size) same within) (subst (λ (k : KeptMask). Spells mirror.next.items (get_or mirror.first.items (bucket_at k.mask bucket) 0) kept.blocks) same kept.chain.spelled)) in
       let one_is = one.buckets bucket kept.blocks within kept.chain.spelled in
       let r = in_among mask.size bucket two.dated (kept_as x) (subst (IsAmong (kept_as x)) (sym one_is ∙ two_is) (among_in mask.size bucket one.dated x refl at)) in
       let is : r.0 ≡ x = same_date r.0 x r.2 in subst (λ (y : Dated). IsAmong y two.dated) is r.1

@@ -91,7 +91,7 @@ module _ (mirror : Mirror) (fs : List StoredFilter) (blocks rows size point : �
           subst (λ (l : List StoredFilter). Keeps (h ++ take n (raise_commits 0 mask (get_or given (length gs) 0) (placed given l) point)) 0) (tried.changes ∙ same_list last gs has)
           (subst (λ (k : ℕ). Keeps (h ++ take n (raise_commits 0 mask (get_or given (length gs) 0) (placed given (now h)) k)) 0) tried.edits
           (mask_follows h mask given tried.lawful (mask_fresh h mask rows tried.rows_below is above) (buckets_apart mask is distinct) (get_or given (length gs) 0)
-            (fits ∙ ap (λ (l : List StoredFilter). size_of (length l)) (sym tried.changes)) (ap (λ (k : KeptMask). k.mask.mask.words) same ∙ tried.words) is serial into n))
+          (fits ∙ ap (λ (l : List StoredFilter). size_of (length l)) (sym tried.changes)) (ap (λ (k : KeptMask). k.mask.mask.words) same ∙ tried.words) is serial into n))
 
       pub resized_tried : (mirror2 : Mirror) (p2 : Seat (Unit {0}) (View Change))
           → seen_by p2 ≡ h ++ raise_commits 0 (resized tried.mask.mask size2 rows2) (get_or given (length fs) 0) (placed given fs) point
@@ -103,8 +103,8 @@ module _ (mirror : Mirror) (fs : List StoredFilter) (blocks rows size point : �
           let cs : List (Commit Change) = raise_commits 0 mask b (placed given fs) point in let long = many_given point fs tried.has in
           let own = given_low (length fs) b (slice_get-get_or given (length fs) 0 (omega (arith, long))) in
           raised_tried mirror mirror2 fs (blocks + (length fs + 1)) (rows + size2 / 16) point shape p p2 mask b given
-            (subst (λ (k : List (Commit Change)). Keeps (h ++ k) 0) (take_all (length cs) cs (omega arith)) (resize_lawful tried.mask point fs (length cs) tried.stands tried.has))
-            tried.base seen sheet kept masks tried.alone has tried.words (storable tried.mask.mask) (tried.kept.masks 0 tried.mask tried.stands).there.serial
-            (subst (All (λ (row : ℕ). row < rows + size2 / 16)) (sym fresh_rows) (range_all (λ (row : ℕ). row < rows + size2 / 16) rows (size2 / 16) (λ k up down. down)))
-            tried.changes tried.edits (λ l named. let less = tried.blocks_below l named in omega arith) given_low own (omega arith)
-            (λ root used. let less = tried.rows_below root used in omega arith) low tried.keys tried.handles tried.fit
+          (subst (λ (k : List (Commit Change)). Keeps (h ++ k) 0) (take_all (length cs) cs (omega arith)) (resize_lawful tried.mask point fs (length cs) tried.stands tried.has))
+          tried.base seen sheet kept masks tried.alone has tried.words (storable tried.mask.mask) (tried.kept.masks 0 tried.mask tried.stands).there.serial
+          (subst (All (λ (row : ℕ). row < rows + size2 / 16)) (sym fresh_rows) (range_all (λ (row : ℕ). row < rows + size2 / 16) rows (size2 / 16) (λ k up down. down)))
+          tried.changes tried.edits (λ l named. let less = tried.blocks_below l named in omega arith) given_low own (omega arith)
+          (λ root used. let less = tried.rows_below root used in omega arith) low tried.keys tried.handles tried.fit

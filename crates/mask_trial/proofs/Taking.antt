@@ -137,14 +137,14 @@ module _ (mirror : Mirror) (fs : List StoredFilter) (blocks rows size point : �
         → seen_by p2 ≡ h ++ remove_at h root given front (point + 1) (changes.Take f.handle) ∷ []
         → IsSameButCells (sheet_of p) (sheet_of p2) → IsKept mirror2 shape (sheet_of p2).cells (root_of (seen_by p2)) → mirror2.slots.items ≡ mirror.slots.items
         → ((last : ℕ) (earlier : List StoredFilter) (filter : StoredFilter) (later : List StoredFilter) → HasFilters mirror 0 last (earlier ++ filter ∷ later)
-          → filter.handle ≡ f.handle → HasNone f.handle (earlier ++ later) → HasFilters mirror2 0 last (earlier ++ later))
+        → filter.handle ≡ f.handle → HasNone f.handle (earlier ++ later) → HasFilters mirror2 0 last (earlier ++ later))
         → TriedWith mirror2 (take place fs ++ drop (suc place) fs) (blocks + count) rows size (point + 1) shape p2
     take_tried rest room mirror2 p2 seen sheet kept2 masks list =
         let c : Commit Change = remove_at h root given front (point + 1) (changes.Take f.handle) in let earlier = take place fs in let later = drop (suc place) fs in
         let split = split_next fs place f is in
         let higher : AreBelow h (blocks + count) = λ l named. let less = tried.blocks_below l named in omega arith in
         let below : AreBelow (h ++ c ∷ []) (blocks + count) = below_more (blocks + count) h c higher (removal_below (blocks + count) h root (point + 1) given front (changes.Take f.handle) higher
-            (λ k b e. (range_within blocks count k b (subst (λ (g : List ℕ). slice_get g k ≡ Some b) fresh e)).1)) in
+        (λ k b e. (range_within blocks count k b (subst (λ (g : List ℕ). slice_get g k ≡ Some b) fresh e)).1)) in
         let unused : RowsBelow (h ++ c ∷ []) rows = rows_still rows h c (λ e. not_the_slot kept.mask at.bucket (sym at.is_root ∙ e)) tried.rows_below in
         record {
           lawful = subst (λ (k : List (Commit Change)). Keeps k 0) (sym seen) (take_lawful rest room);
@@ -157,9 +157,9 @@ module _ (mirror : Mirror) (fs : List StoredFilter) (blocks rows size point : �
           sized = tried.sized;
           old_rows = tried.old_rows;
           changes = ap now seen ∙ (now_more h c (point + 1) (changes.Take f.handle) refl ∙ (ap (λ (l : List StoredFilter). changed l (changes.Take f.handle)) (tried.changes ∙ split)
-            ∙ taken_out earlier f later (subst HaveOwnHandles split tried.handles)));
+              ∙ taken_out earlier f later (subst HaveOwnHandles split tried.handles)));
           has = has_later mirror2 0 point (point + 1) (earlier ++ later) (omega arith) (list point earlier f later (subst (HasFilters mirror 0 point) split tried.has) refl
-            (λ g among. left_none (λ (x : StoredFilter). x.handle) fs place tried.handles f is among.0 g among.1));
+              (λ g among. left_none (λ (x : StoredFilter). x.handle) fs place tried.handles f is among.0 g among.1));
           edits = ap point_of seen ∙ (point_more h c (point + 1) (changes.Take f.handle) refl ∙ ap (λ (k : ℕ). k + 1) tried.edits);
           blocks_below = subst (λ (k : List (Commit Change)). AreBelow k (blocks + count)) (sym seen) below;
           few_blocks = room;

@@ -1,6 +1,7 @@
 //! Many filters come and go, and readers look for them.
-ghost use Rattle.std.specs.Prelude.{◌≡◌, ◌<◌, ◌^◌, IfOk};
-ghost use Rattle.pin_store.specs.Calls.{pin_of, IsInside, IsOutside, IsSeatOf};
+ghost use Rattle.std.specs.Prelude.{◌≡◌, ◌<◌, ◌^◌, [], IfOk};
+ghost use Rattle.pin_store.specs.Sheets.{base_of};
+ghost use Rattle.pin_store.specs.Calls.{seen_by, sheet_of, pin_of, IsInside, IsOutside, IsSeatOf};
 ghost use Rattle.mask_order.specs.Fitting.{FitsBlock};
 ghost use Rattle.mask_trial.specs.Trial.{IsTried, IsAtRest};
 
@@ -27,6 +28,11 @@ const SHAPE: Shape = Shape {
     roots: ROOTS,
     readers: READERS,
 };
+
+// How many filters there are at most, and how many keys are looked for.
+const FILTERS: u32 = 4_096;
+
+const KEYS: u32 = 8_192;
 
 // All different for numbers below 2^32, since the factor is odd. That of 0 is the first filter's.
 fn key_of(number: u32) -> Key<14> {
@@ -192,77 +198,177 @@ fn take_next(
     Ok(taken && size == size_by_hand(trial.filters.len()))
 }
 
+// Puts the filters with numbers from 1 on, and says whether the mask has the size by hand after each.
+fn fill(
+    alloc: Global,
+    trial: &mut Trial,
+    writer: &mut Writer<LoneLaw>,
+    store: &Store<LoneLaw>,
+    reader: &mut Reader<LoneLaw>,
+) -> Result<bool, NoMemory>
+    requires store { IsSeatOf store.now writer.old.place × IsSeatOf store.now reader.old.place × (store.now.shape ≡ SHAPE) }
+    requires inside { IsInside reader.old.place }
+    requires tried { IsTried trial.old store.now.shape writer.old.place }
+    requires rest { IsAtRest trial.old }
+    ensures store { IsSeatOf store.now writer.new.place × IsSeatOf store.now reader.new.place }
+    ensures inside { IsInside reader.new.place }
+    ensures tried { IfOk result (λ _. IsTried trial.new store.now.shape writer.new.place) }
+    ensures rest { IfOk result (λ _. IsAtRest trial.new) }
+{
+    let mut right = true;
+    for number in 1..FILTERS {
+        let put = put_next(alloc, trial, writer, store, number)?;
+        let size = size_now(store, reader);
+        right = right && put && size == size_by_hand(trial.filters.len());
+    }
+    Ok(right)
+}
+
+// Each look-up answers what a search of the list answers.
+fn answers_all(
+    store: &Store<LoneLaw>,
+    reader: &mut Reader<LoneLaw>,
+    filters: &[StoredFilter],
+) -> bool
+    requires store { IsSeatOf store.now reader.old.place × (store.now.shape ≡ SHAPE) }
+    requires inside { IsInside reader.old.place }
+    ensures store { IsSeatOf store.now reader.new.place }
+    ensures inside { IsInside reader.new.place }
+{
+    let mut same = true;
+    for number in 0..KEYS {
+        let answered = answers_as(store, reader, number, filters);
+        same = same && answered;
+    }
+    same
+}
+
+// Takes so many filters out, from a number on, each so much below the last.
+fn take_down(
+    alloc: Global,
+    trial: &mut Trial,
+    writer: &mut Writer<LoneLaw>,
+    store: &Store<LoneLaw>,
+    reader: &mut Reader<LoneLaw>,
+    from: u32,
+    stride: u32,
+    count: u32,
+) -> Result<bool, NoMemory>
+    requires store { IsSeatOf store.now writer.old.place × IsSeatOf store.now reader.old.place × (store.now.shape ≡ SHAPE) }
+    requires inside { IsInside reader.old.place }
+    requires tried { IsTried trial.old store.now.shape writer.old.place }
+    requires rest { IsAtRest trial.old }
+    requires small { from < 16384 }
+    ensures store { IsSeatOf store.now writer.new.place × IsSeatOf store.now reader.new.place }
+    ensures inside { IsInside reader.new.place }
+    ensures tried { IfOk result (λ _. IsTried trial.new store.now.shape writer.new.place) }
+    ensures rest { IfOk result (λ _. IsAtRest trial.new) }
+{
+    let mut right = true;
+    let mut number = from;
+    for _ in 0..count {
+        let taken = take_next(alloc, trial, writer, store, reader, number)?;
+        right = right && taken;
+        number = number.saturating_sub(stride);
+    }
+    Ok(right)
+}
+
+// Takes the filters with odd numbers below 2,048 out, in the order in which they came.
+fn take_odd(
+    alloc: Global,
+    trial: &mut Trial,
+    writer: &mut Writer<LoneLaw>,
+    store: &Store<LoneLaw>,
+    reader: &mut Reader<LoneLaw>,
+) -> Result<bool, NoMemory>
+    requires store { IsSeatOf store.now writer.old.place × IsSeatOf store.now reader.old.place × (store.now.shape ≡ SHAPE) }
+    requires inside { IsInside reader.old.place }
+    requires tried { IsTried trial.old store.now.shape writer.old.place }
+    requires rest { IsAtRest trial.old }
+    ensures store { IsSeatOf store.now writer.new.place × IsSeatOf store.now reader.new.place }
+    ensures inside { IsInside reader.new.place }
+    ensures tried { IfOk result (λ _. IsTried trial.new store.now.shape writer.new.place) }
+    ensures rest { IfOk result (λ _. IsAtRest trial.new) }
+{
+    let mut right = true;
+    for half in 0..1_024u32 {
+        let taken = take_next(alloc, trial, writer, store, reader, 2 * half + 1)?;
+        right = right && taken;
+    }
+    Ok(right)
+}
+
+// Takes all but the first filter out: the later half in reverse, then those with odd numbers in order, and then the rest in reverse.
+fn empty(
+    alloc: Global,
+    trial: &mut Trial,
+    writer: &mut Writer<LoneLaw>,
+    store: &Store<LoneLaw>,
+    reader: &mut Reader<LoneLaw>,
+) -> Result<bool, NoMemory>
+    requires store { IsSeatOf store.now writer.old.place × IsSeatOf store.now reader.old.place × (store.now.shape ≡ SHAPE) }
+    requires inside { IsInside reader.old.place }
+    requires tried { IsTried trial.old store.now.shape writer.old.place }
+    requires rest { IsAtRest trial.old }
+{
+    let late = take_down(alloc, trial, writer, store, reader, 4_095, 1, 2_048)?;
+    let odd = take_odd(alloc, trial, writer, store, reader)?;
+    let even = take_down(alloc, trial, writer, store, reader, 2_046, 2, 1_023)?;
+    Ok(late && odd && even && trial.filters.len() == 1)
+}
+
+// All filters are put, and all keys are looked for.
+fn fill_and_look(
+    alloc: Global,
+    writer: &mut Writer<LoneLaw>,
+    store: &Store<LoneLaw>,
+    mut reader: Reader<LoneLaw>,
+) -> Result<bool, NoMemory>
+    requires store { IsSeatOf store.now writer.old.place × IsSeatOf store.now reader.place × (store.now.shape ≡ SHAPE) }
+    requires new { (seen_by writer.old.place ≡ []) × (base_of (sheet_of writer.old.place) ≡ 0) }
+    requires outside { IsOutside reader.place × (pin_of reader.place < 2 ^ 63) }
+{
+    let mut trial = Trial::begin(alloc, writer, store)?;
+    reader.enter(store);
+    let filled = fill(alloc, &mut trial, writer, store, &mut reader)?;
+    Ok(filled && answers_all(store, &mut reader, &trial.filters))
+}
+
+// All filters are put, and all but the first are taken out.
+fn fill_and_empty(
+    alloc: Global,
+    writer: &mut Writer<LoneLaw>,
+    store: &Store<LoneLaw>,
+    mut reader: Reader<LoneLaw>,
+) -> Result<bool, NoMemory>
+    requires store { IsSeatOf store.now writer.old.place × IsSeatOf store.now reader.place × (store.now.shape ≡ SHAPE) }
+    requires new { (seen_by writer.old.place ≡ []) × (base_of (sheet_of writer.old.place) ≡ 0) }
+    requires outside { IsOutside reader.place × (pin_of reader.place < 2 ^ 63) }
+{
+    let mut trial = Trial::begin(alloc, writer, store)?;
+    reader.enter(store);
+    let filled = fill(alloc, &mut trial, writer, store, &mut reader)?;
+    let emptied = empty(alloc, &mut trial, writer, store, &mut reader)?;
+    Ok(filled && emptied)
+}
+
 #[test]
 fn many_filters_are_found(rt: HostRuntime) -> Result<(), Fail> {
     let (store, mut writer, mut readers) = make_store::<LoneLaw>(rt.alloc(), SHAPE)?;
-    let mut trial = Trial::begin(rt.alloc(), &mut writer, &store)?;
-    if let Some(mut reader) = readers.take() {
-        reader.enter(&store);
-        assert!(rt; size_now(&store, &mut reader) == 16);
-        for number in 1..4_096 {
-            assert!(rt; put_next(rt.alloc(), &mut trial, &mut writer, &store, number)?);
-            assert_eq!(rt;
-                size_now(&store, &mut reader),
-                size_by_hand(number as usize + 1)
-            );
-        }
-        for number in 0..8_192 {
-            assert!(rt; answers_as(&store, &mut reader, number, &trial.filters));
-        }
+    if let Some(reader) = readers.take() {
+        let found = fill_and_look(rt.alloc(), &mut writer, &store, reader)?;
+        assert!(rt; found);
     }
     Ok(())
 }
 
-// The later three quarters go in reverse, then each fourth of the rest in the order in which they came, and then the others in reverse.
 #[test]
 fn filters_come_and_go(rt: HostRuntime) -> Result<(), Fail> {
     let (store, mut writer, mut readers) = make_store::<LoneLaw>(rt.alloc(), SHAPE)?;
-    let mut trial = Trial::begin(rt.alloc(), &mut writer, &store)?;
-    if let Some(mut reader) = readers.take() {
-        reader.enter(&store);
-        for number in 1..4_096 {
-            assert!(rt; put_next(rt.alloc(), &mut trial, &mut writer, &store, number)?);
-        }
-        for step in 0..3_072 {
-            assert!(rt;
-                take_next(
-                    rt.alloc(),
-                    &mut trial,
-                    &mut writer,
-                    &store,
-                    &mut reader,
-                    4_095 - step
-                )?
-            );
-        }
-        for step in 0..256 {
-            assert!(rt;
-                take_next(
-                    rt.alloc(),
-                    &mut trial,
-                    &mut writer,
-                    &store,
-                    &mut reader,
-                    4 * step + 1
-                )?
-            );
-        }
-        for step in 0..1_023 {
-            let number = 1_023 - step;
-            if number % 4 != 1 {
-                assert!(rt;
-                    take_next(
-                        rt.alloc(),
-                        &mut trial,
-                        &mut writer,
-                        &store,
-                        &mut reader,
-                        number
-                    )?
-                );
-            }
-        }
-        assert_eq!(rt; trial.filters.len(), 1);
+    if let Some(reader) = readers.take() {
+        let emptied = fill_and_empty(rt.alloc(), &mut writer, &store, reader)?;
+        assert!(rt; emptied);
     }
     Ok(())
 }
@@ -274,29 +380,29 @@ fn look_often(store: &Store<LoneLaw>, mut reader: Reader<LoneLaw>) -> bool
 {
     reader.enter(store);
     let mut lawful = true;
-    for step in 0..20_000 {
-        let number = step % 1_001;
+    for turn in 0..20_000u32 {
+        let number = turn % 1_500;
         let (found, point) = look(store, &mut reader, number, &mut Hit::new());
         lawful = lawful && found == (number <= point);
     }
-    reader.leave(store);
     lawful
 }
 
-// Puts the filters from 1 to 1,000, and says whether all were.
+// Puts the filters with numbers from 1 to 1,000, and says whether all were put.
 fn put_many(
     alloc: Global,
-    trial: &mut Trial,
-    writer: &mut Writer<LoneLaw>,
+    mut trial: Trial,
+    mut writer: Writer<LoneLaw>,
     store: &Store<LoneLaw>,
 ) -> Result<bool, NoMemory>
-    requires store { IsSeatOf store.now writer.old.place × (store.now.shape ≡ SHAPE) }
-    requires tried { IsTried trial.old store.now.shape writer.old.place }
-    requires rest { IsAtRest trial.old }
+    requires store { IsSeatOf store.now writer.place × (store.now.shape ≡ SHAPE) }
+    requires tried { IsTried trial store.now.shape writer.place }
+    requires rest { IsAtRest trial }
 {
     let mut all = true;
-    for number in 1..1_001 {
-        all = put_next(alloc, trial, writer, store, number)? && all;
+    for number in 1..1_001u32 {
+        let put = put_next(alloc, &mut trial, &mut writer, store, number)?;
+        all = all && put;
     }
     Ok(all)
 }
@@ -305,12 +411,12 @@ fn put_many(
 fn answers_are_lawful_meanwhile(rt: HostRuntime) -> Result<(), Fail> {
     let alloc = rt.alloc();
     let (store, mut writer, mut readers) = make_store::<LoneLaw>(alloc, SHAPE)?;
-    let mut trial = Trial::begin(alloc, &mut writer, &store)?;
+    let trial = Trial::begin(alloc, &mut writer, &store)?;
     if let Some(reader) = readers.take() {
         let (lawful, put) = thread::join(
             &rt,
             || look_often(&store, reader),
-            || put_many(alloc, &mut trial, &mut writer, &store),
+            || put_many(alloc, trial, writer, &store),
         );
         assert!(rt; lawful);
         assert!(rt; put?);

@@ -34,5 +34,5 @@ returns-clause-tried c = let t = c.args.self.now in let fs = t.filters.items in 
     let room = c.requires.room in let size = c.requires.size in let low : t.rows + c.args.size / 16 ≤ 8192 = omega arith in let tried = c.requires.tried in let done = c.resize.ensures in
     subst (λ (k : ℕ). TriedWith c.resize.new.self.mirror fs (t.blocks + (k + 1)) (t.rows + c.args.size / 16) c.args.size t.point shape c.resize.new.writer.place) (sym long)
     (resized_tried t.masks.mirror fs t.blocks t.rows t.size t.point shape c.args.writer.now.place tried c.in_ok-numbers_from.field-0
-      (c.in_ok-numbers_from.ensures ∙ ap (λ (k : ℕ). range_with_len t.blocks (k + 1)) long) room.0 c.args.size size.0 (size.1, size.2) c.in_ok-numbers_from-2.field-0 c.in_ok-numbers_from-2.ensures low
-      c.resize.new.self.mirror c.resize.new.writer.place (done.seen tried.mask t.point fs tried.stands tried.has) done.sheet done.kept (done.masks tried.mask t.point fs tried.stands tried.has) (done.list t.point fs tried.has))
+    (c.in_ok-numbers_from.ensures ∙ ap (λ (k : ℕ). range_with_len t.blocks (k + 1)) long) room.0 c.args.size size.0 (size.1, size.2) c.in_ok-numbers_from-2.field-0 c.in_ok-numbers_from-2.ensures low
+    c.resize.new.self.mirror c.resize.new.writer.place (done.seen tried.mask t.point fs tried.stands tried.has) done.sheet done.kept (done.masks tried.mask t.point fs tried.stands tried.has) (done.list t.point fs tried.has))

@@ -36,5 +36,5 @@ returns-clause-tried c = let t = c.args.self.now in let fs = t.filters.items in 
     let done = c.remove.ensures in let r = done.done c.requires.tried.mask c.requires.tried.stands in
     subst (λ (l : List StoredFilter). TriedWith c.remove.new.self.mirror l (t.blocks + c.args.count) t.rows t.size (t.point + 1) shape c.remove.new.writer.place) (sym c.remove-2.ensures.items)
     (take_tried t.masks.mirror fs t.blocks t.rows t.size t.point shape c.args.writer.now.place c.requires.tried c.args.place f is
-      c.args.count (c.requires.count f is) c.in_ok-numbers_from.field-0 c.in_ok-numbers_from.ensures c.requires.tried.mask r.0 r.1 r.2 c.requires.tried.stands r.3 c.requires.rest c.requires.room.0
-      c.remove.new.self.mirror c.remove.new.writer.place r.4 done.sheet done.kept done.masks done.list)
+    c.args.count (c.requires.count f is) c.in_ok-numbers_from.field-0 c.in_ok-numbers_from.ensures c.requires.tried.mask r.0 r.1 r.2 c.requires.tried.stands r.3 c.requires.rest c.requires.room.0
+    c.remove.new.self.mirror c.remove.new.writer.place r.4 done.sheet done.kept done.masks done.list)
