@@ -17,7 +17,9 @@
 //! Not promised: that `take` finds room for a filter with many later ones in its bucket. It is a harness for tests, and no command uses it.
 #![tactic(auto)]
 
+mod first;
 mod law;
+mod numbers;
 #[cfg(test)]
 mod tests;
 mod trial;

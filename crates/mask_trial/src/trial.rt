@@ -1,19 +1,17 @@
 //! One mask, and the filters that are put into it.
 ghost use Rattle.std.specs.Prelude.{◌≡◌, ◌+◌, ◌^◌, ◌<◌, ◌∷◌, [], length, IfOk};
-ghost use Rattle.std.specs.List.{range_with_len};
 ghost use Rattle.mask_table.specs.Buckets.{bucket_of};
-ghost use Rattle.lone_mask.specs.Lone.{lone_words, first_filter};
 
+use crate::first::{first_filter, first_mask};
 use crate::law::LoneLaw;
-use block_codec::{RowNumbers, StoredFilter, StoredMask};
-use flow_fields::Key;
+use crate::numbers::{count_in, numbers_from};
+use block_codec::StoredFilter;
 use flow_mask::{hash, size_for};
 use mask_writer::{Blocks, MaskWriter};
 use pin_store::{Store, Writer};
 use std::alloc::Global;
 use std::marker::Brand;
 use tc_base::{NoMemory, Numbers, Point};
-use visit_room::Hit;
 
 /// A store's mask at slot 0, with what was put into it.
 ///
@@ -26,60 +24,6 @@ pub struct Trial {
     pub(crate) rows: u32,
     pub(crate) size: u32,
     pub(crate) point: Point,
-}
-
-// So many numbers from one on.
-fn numbers_from(alloc: Global, first: u32, count: u32) -> Result<Numbers, NoMemory>
-    requires { first + count < 2 ^ 32 }
-    ensures { IfOk result (λ numbers. numbers ≡ range_with_len first count) }
-{
-    let mut numbers = Vec::with_capacity(alloc, count as usize)?;
-    for number in first..first + count {
-        numbers.push(number)?;
-    }
-    Ok(Numbers::from_vec(numbers))
-}
-
-// The filter that is there from the beginning.
-fn first_filter() -> StoredFilter
-    ensures { result ≡ first_filter }
-{
-    StoredFilter {
-        handle: 1,
-        key: Key { words: [0; 14] },
-        actions: Hit::new(),
-    }
-}
-
-// The mask that is there from the beginning.
-fn first_mask() -> StoredMask
-    ensures { result ≡ record { serial = 1; size = 16; mask = record { words = lone_words }; rows = 0 ∷ [] } }
-{
-    let mut rows = RowNumbers::new();
-    rows.push(0);
-    StoredMask {
-        serial: 1,
-        size: 16,
-        mask: Key {
-            words: [u64::MAX; 14],
-        },
-        rows,
-    }
-}
-
-// How many of the filters are in that bucket, of so many.
-fn count_in(filters: &[StoredFilter], size: u32, bucket: u64) -> u32
-    requires few { length filters.now < 2 ^ 32 }
-    requires size { 0 < size }
-    ensures { result ≡ length (bucket_of size bucket filters.now) }
-{
-    let mut count = 0;
-    for at in 0..filters.len() {
-        if hash(&filters[at].key) % u64::from(size) == bucket {
-            count += 1;
-        }
-    }
-    count
 }
 
 impl Trial {
@@ -314,8 +258,9 @@ impl Trial {
         requires size { 0 < self.now.size }
         requires few { length self.now.filters.items < 2 ^ 32 }
         requires there { place < length self.now.filters.items }
-        ensures { (f : StoredFilter) → slice_get self.now.filters.items place ≡ Some f
+        ensures count { (f : StoredFilter) → slice_get self.now.filters.items place ≡ Some f
             → result ≡ length (bucket_of self.now.size (bucket_for self.now.size f.key.words) (drop (place + 1) self.now.filters.items)) }
+        ensures few { result ≤ length self.now.filters.items }
     {
         let bucket = hash(&self.filters[place].key) % u64::from(self.size);
         count_in(&self.filters[place + 1..], self.size, bucket)
@@ -342,6 +287,8 @@ impl Trial {
         ensures done { result ≡ Ok true → (place : ℕ) × (f : StoredFilter) × (slice_get self.old.filters.items place ≡ Some f) × (f.handle ≡ handle)
             × (self.new.filters.items ≡ remove self.old.filters.items place) }
         ensures refused { result ≡ Ok false → (self.new.filters.items ≡ self.old.filters.items) × (seen_by writer.new.place ≡ seen_by writer.old.place) }
+        ensures accepted { HasRoom self.old (length self.old.filters.items) → (place : ℕ) (f : StoredFilter) → slice_get self.old.filters.items place ≡ Some f → f.handle ≡ handle
+            → result ≢ Ok false }
     {
         let Some(place) = self.place_of(handle) else {
             return Ok(false);

@@ -1,7 +1,7 @@
 use Rattle.std.proofs.Common.{arith, length, ◌<◌}
 use Rattle.mask_trial.proofs.Counting.{step_in, step_out}
-use Rattle.mask_trial.proofs.trial.count_in.Goals.{then-hash-from, else-hash-from}
-use Rattle.mask_trial.proofs.trial.count_in.Goals as goal
+use Rattle.mask_trial.proofs.numbers.count_in.Goals.{then-hash-from, else-hash-from}
+use Rattle.mask_trial.proofs.numbers.count_in.Goals as goal
 
 pub overflow_add-count : goal.overflow_add-count
 overflow_add-count c = let few = c.loop-at.invariant.1 in omega arith

@@ -1,7 +1,7 @@
 use Rattle.std.proofs.Common.{◌≡◌, ◌∙◌, ℕ, suc, ◌+◌, ◌-◌, ◌≤◌, List, [], ◌∷◌, ◌++◌, refl, sym, ap, arith}
 use Rattle.std.specs.List.{range_with_len}
 use Rattle.mask_trial.proofs.Fresh.{range_more}
-use Rattle.mask_trial.proofs.trial.numbers_from.Goals as goal
+use Rattle.mask_trial.proofs.numbers.numbers_from.Goals as goal
 
 pub loop-number-init : goal.loop-number-init
 loop-number-init c = let e : c.args.first - c.args.first ≡ 0 = omega arith in c.in_ok-numbers.ensures.items ∙ ap (range_with_len c.args.first) (sym e)
