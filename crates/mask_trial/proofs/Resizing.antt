@@ -52,11 +52,11 @@ module _ (mirror : Mirror) (fs : List StoredFilter) (blocks rows size point : �
   rows_free count given low is = subst (AreFreeRows mirror) (sym is) (record {
     different = range_distinct rows count;
     pool = range_all (λ (row : ℕ). row < 8192) rows count (λ b above below. omega arith);
-    free = λ slot row kept stands old new.
+    free = λ slot r kept stands old new.
         let same = same_kept mirror slot 0 kept tried.mask (tried.alone slot kept stands) stands tried.stands in
-        let among = subst (λ (k : KeptMask). IsAmong row k.mask.rows) same old in let has = tried.mask.mask.rows in
-        let less = subst (λ (k : ℕ). k < rows) (get_or_from_slice_get has among.0 row 0 among.1) (All-get_or (λ (k : ℕ). k < rows) has among.0 0 (slice_get_within has among.0 row among.1) tried.old_rows) in
-        let r = range_within rows count new.0 row new.1 in absurd (omega (arith, less, r));
+        let among = subst (λ (k : KeptMask). IsAmong r k.mask.rows) same old in let has = tried.mask.mask.rows in
+        let less = subst (λ (k : ℕ). k < rows) (get_or_from_slice_get has among.0 r 0 among.1) (All-get_or (λ (k : ℕ). k < rows) has among.0 0 (slice_get_within has among.0 r among.1) tried.old_rows) in
+        let there = range_within rows count new.0 r new.1 in absurd (omega (arith, less, there));
   })
 
   same_list : (last : ℕ) (gs : List StoredFilter) → HasFilters mirror 0 last gs → fs ≡ gs
