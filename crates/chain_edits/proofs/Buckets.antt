@@ -16,14 +16,9 @@ use Rattle.mask_mirror.specs.Kept.{bucket_at, Stands, Spells, IsKept}
 use Rattle.mask_mirror.specs.Changing.{FilterAt}
 use Rattle.mask_mirror.proofs.Keeping.{at_root}
 use Rattle.mask_mirror.proofs.Chains.{link_there, block_there}
-use Rattle.mask_mirror.proofs.Forgetting.{bucket}
+use Rattle.mask_mirror.proofs.Forgetting.{bucket, link_blocks}
 use Rattle.chain_edits.specs.Finding.{HasHandle, IsFound}
 use Rattle.chain_edits.proofs.Reading.{reads_as, held, first_read, link_words}
-
--- the blocks of the links
-pub link_blocks : (shape : Shape) (cells bs : List ℕ) → map (λ (l : Link). l.block) (links_of shape cells bs) ≡ bs
-link_blocks shape cells [] = refl
-link_blocks shape cells (b ∷ bs) = ap (λ (xs : List ℕ). b ∷ xs) (link_blocks shape cells bs)
 
 -- a block of a bucket's chain has a filter with the handle
 pub record IsInBucket (mirror : Mirror) (kept : KeptMask) (handle k : ℕ) : Type 0 where

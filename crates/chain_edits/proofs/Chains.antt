@@ -23,9 +23,9 @@ use Rattle.mask_mirror.specs.Linked.{placed, linked}
 use Rattle.mask_mirror.proofs.Spelling.{few_blocks}
 use Rattle.mask_mirror.proofs.Keeping.{at_root, names_each}
 use Rattle.mask_mirror.proofs.Chains.{first_link_of, spelled_low, block_there}
+use Rattle.mask_mirror.proofs.Forgetting.{link_blocks}
 use Rattle.chain_edits.specs.Finding.{IsFound}
 use Rattle.chain_edits.proofs.Reading.{reads_as, held, first_read, link_words}
-use Rattle.chain_edits.proofs.Buckets.{link_blocks}
 
 -- ---- what is behind a block
 spelled_behind : (next : List ℕ) (number : ℕ) (bs : List ℕ) (n b : ℕ) → Spells next number bs → slice_get bs n ≡ Some b → Spells next (get_or next b 0) (drop (suc n) bs)

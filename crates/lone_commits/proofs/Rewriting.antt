@@ -2,7 +2,6 @@
 use Rattle.std.proofs.Common.{◌≡◌, ◌≢◌, ◌∙◌, inl, inr, ℕ, zero, suc, ◌+◌, ◌<◌, ◌≤◌, Bool, true, false, not, eqb, List, [], ◌∷◌, ◌++◌, length, take, drop, slice_get, Option, Some, None, refl, sym, ap, subst, arith, eq-eqb, eqb-true}
 use Rattle.std.specs.List.{All, filter}
 use Rattle.std.proofs.lemmas.Bool.{eqb-false}
-use Rattle.std.proofs.lemmas.Bool.Decides.{nat_tests}
 use Rattle.std.proofs.lemmas.List.Elements.{All-take, All-from_recursion, recursion_from_All}
 use Rattle.std.proofs.lemmas.Nat.{mod_below}
 use Rattle.std.proofs.Math.Seq.{take-append_seam}
@@ -19,6 +18,7 @@ use Rattle.block_codec.specs.Blocks.{IsLink}
 use Rattle.block_codec.specs.Masks.{IsStorableMask}
 use Rattle.block_reading.specs.Read.{filter_in}
 use Rattle.mask_table.specs.Buckets.{IsAmong, bucket_root, bucket_for, bucket_of}
+use Rattle.mask_mirror.proofs.Keeping.{some_buckets}
 use Rattle.mask_mirror.specs.declared.mirror.Mirror.{Mirror}
 use Rattle.mask_mirror.specs.declared.mirror.KeptMask.{KeptMask}
 use Rattle.mask_mirror.specs.Kept.{Stands, IsKept}
@@ -35,9 +35,6 @@ use Rattle.lone_commits.specs.Handles.{HaveOwnHandles}
 use Rattle.lone_commits.proofs.MaskReads.{kept_record}
 use Rattle.lone_commits.proofs.Tested.{has_handle, few_have, own_left, split_count, none_out, one_out, one_place}
 use Rattle.lone_commits.proofs.InBuckets.{bucket_more, bucket_still, bucket_around, bucket_filter, two_buckets, in_bucket}
-
-some_buckets : (mask : StoredMask) → IsStorableMask mask → 0 < mask.size
-some_buckets mask is = let size = is.size in grind (arith, nat_tests)
 
 -- at a place of what a chain reads as, there is the block that reads so
 record ReadsAt (ls : List Link) (fs : List StoredFilter) (n : ℕ) (f : StoredFilter) : Type 0 where

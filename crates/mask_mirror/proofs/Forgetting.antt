@@ -66,7 +66,8 @@ blocks_append roots [] r = append-nil (map (λ (l : Link). l.block) (roots r).ch
 blocks_append roots (x ∷ rs) r = ap (λ (bs : List ℕ). map (λ (l : Link). l.block) (roots x).chain ++ bs) (blocks_append roots rs r)
     ∙ sym (append_assoc (map (λ (l : Link). l.block) (roots x).chain) (blocks_of roots rs) (map (λ (l : Link). l.block) (roots r).chain))
 
-link_blocks : (shape : Shape) (cells bs : List ℕ) → map (λ (l : Link). l.block) (links_of shape cells bs) ≡ bs
+-- the blocks of the links
+pub link_blocks : (shape : Shape) (cells bs : List ℕ) → map (λ (l : Link). l.block) (links_of shape cells bs) ≡ bs
 link_blocks shape cells [] = refl
 link_blocks shape cells (b ∷ bs) = ap (λ (xs : List ℕ). b ∷ xs) (link_blocks shape cells bs)
 

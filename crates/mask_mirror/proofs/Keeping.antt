@@ -1,6 +1,7 @@
 -- What is kept goes on to be what the roots name: as a block that no root names is filled, and as a bucket's root is given another chain.
 use Rattle.std.proofs.Common.{◌≡◌, ◌≢◌, ◌∙◌, ◌⊎◌, inl, inr, ℕ, zero, suc, ◌+◌, ◌/◌, ◌<◌, ◌≤◌, Bool, true, false, eqb, List, [], ◌∷◌, ◌++◌, length, set, get_or, slice_get, Option, Some, None, refl, sym, ap, subst, arith, eqb-true, get_or-set_other, get_or-set_same}
 use Rattle.std.proofs.lemmas.Bool.{eqb-false}
+use Rattle.std.proofs.lemmas.Bool.Decides.{nat_tests}
 use Rattle.store_history.specs.declared.history.Link.{Link}
 use Rattle.store_history.specs.declared.history.Named.{Named}
 use Rattle.store_history.specs.declared.history.Commit.{Commit}
@@ -38,6 +39,10 @@ at_root mask bucket = omega arith
 -- and within those of all rows
 pub place_low : (mask : StoredMask) (bucket : ℕ) → IsStorableMask mask → bucket < mask.size → bucket_at mask bucket < 131072
 place_low mask bucket is less = let rows = is.rows in let row = is.each_row (bucket / 16) 0 (omega arith) in omega arith
+
+-- a mask has buckets
+pub some_buckets : (mask : StoredMask) → IsStorableMask mask → 0 < mask.size
+some_buckets mask is = let size = is.size in grind (arith, nat_tests)
 
 -- where no mask stands, all is kept
 pub kept_none : (mirror : Mirror) → ((slot : ℕ) → get_or mirror.slots.items slot None ≡ None) → (shape : Shape) (cells : List ℕ) (roots : ℕ → Named) → IsKept mirror shape cells roots

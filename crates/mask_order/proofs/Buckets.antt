@@ -3,7 +3,6 @@ use Rattle.std.proofs.Common.{◌≡◌, ◌∙◌, ⊎_elim, ℕ, zero, suc, �
 use Rattle.std.specs.List.{AllByRecursion, All}
 use Rattle.std.specs.List.Sorted.{IsPermutation}
 use Rattle.std.proofs.lemmas.Bool.{cases_lt}
-use Rattle.std.proofs.lemmas.Bool.Decides.{nat_tests}
 use Rattle.std.proofs.lemmas.List.{map-append, length-map}
 use Rattle.std.proofs.lemmas.List.Elements.{All-append, All-nil, All-from_recursion}
 use Rattle.std.proofs.lemmas.List.Sorted.{IsPermutation-refl, IsPermutation-trans, IsPermutation-cons, IsPermutation-append_left, IsPermutation-to_front, length_permutation}
@@ -18,12 +17,8 @@ use Rattle.mask_mirror.specs.declared.mirror.KeptMask.{KeptMask}
 use Rattle.mask_mirror.specs.Kept.{bucket_at, Stands, Spells, IsKept}
 use Rattle.mask_mirror.specs.Lists.{Dated, kept_as, kept_in, dated_in, HasFilters}
 use Rattle.mask_mirror.specs.Forgetting.{bucket_blocks}
-use Rattle.mask_mirror.proofs.Keeping.{same_kept}
+use Rattle.mask_mirror.proofs.Keeping.{same_kept, some_buckets}
 use Rattle.mask_mirror.proofs.Forgetting.{bucket, blocks_more}
-
--- a standing mask has buckets
-some_buckets : (mask : StoredMask) → IsStorableMask mask → 0 < mask.size
-some_buckets mask is = let size = is.size in grind (arith, nat_tests)
 
 -- ---- what is to be kept of so many first buckets
 abbrev dated_to : ℕ → ℕ → List Dated → List (ℕ × Option StoredFilter)

@@ -19,7 +19,7 @@ use Rattle.mask_mirror.specs.Kept.{bucket_at, Stands, Spells, HoldFilters, Holds
 use Rattle.mask_mirror.specs.Given.{AreFreeRows}
 use Rattle.mask_mirror.specs.Lists.{kept_in, HasFilters}
 use Rattle.mask_mirror.specs.Changes.{IsRenamed}
-use Rattle.mask_mirror.proofs.Keeping.{at_root, bucket_with}
+use Rattle.mask_mirror.proofs.Keeping.{at_root, bucket_with, some_buckets}
 use Rattle.mask_mirror.proofs.Lasting.{kept_same}
 
 -- ---- roots of buckets
@@ -56,9 +56,6 @@ place_aside mirror shape cells roots keeps mask is rows k place less at b =
     bucket_aside mirror shape cells roots keeps mask is rows k less (subst (BucketAt mirror) (ap (λ (n : ℕ). 10243 + n) at ∙ sym (at_root mask k)) b)
 
 -- a key has a bucket
-some_buckets : (mask : StoredMask) → IsStorableMask mask → 0 < mask.size
-some_buckets mask is = let size = is.size in grind (arith, nat_tests)
-
 pub bucket_within : (mask : StoredMask) → IsStorableMask mask → (key : List ℕ) → bucket_for mask.size key < mask.size
 bucket_within mask is key = mod_below (hash_of key) mask.size (some_buckets mask is)
 

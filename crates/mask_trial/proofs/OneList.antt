@@ -9,16 +9,12 @@ use Rattle.mask_mirror.specs.declared.mirror.Mirror.{Mirror}
 use Rattle.mask_mirror.specs.declared.mirror.KeptMask.{KeptMask}
 use Rattle.mask_mirror.specs.Kept.{bucket_at, Spells, IsKept}
 use Rattle.mask_mirror.specs.Lists.{Dated, Rises, kept_as, kept_in, dated_in, HasFilters}
-use Rattle.mask_mirror.proofs.Keeping.{same_kept}
+use Rattle.mask_mirror.proofs.Keeping.{same_kept, some_buckets}
 use Rattle.hook_law.proofs.Growing.{get_before, get_behind, get_parts, some_is}
-use Rattle.std.proofs.lemmas.Bool.Decides.{nat_tests}
 use Rattle.std.proofs.lemmas.Nat.{mod_below}
 use Rattle.flow_mask.specs.Hashes.{hash_of}
 use Rattle.block_codec.specs.declared.mask.StoredMask.{StoredMask}
 use Rattle.block_codec.specs.Masks.{IsStorableMask}
-
-some_buckets : (mask : StoredMask) → IsStorableMask mask → 0 < mask.size
-some_buckets mask is = let size = is.size in grind (arith, nat_tests)
 
 -- ---- what is kept of a bucket has each of its filters with its age, and no other
 module _ (size b : ℕ) where

@@ -3,7 +3,6 @@ use Rattle.std.proofs.Common.{◌≡◌, ◌≢◌, ◌∙◌, ℕ, zero, suc, �
 use Rattle.std.proofs.lemmas.Bool.{ne_eqb}
 use Rattle.std.proofs.lemmas.List.{map-append}
 use Rattle.std.proofs.lemmas.Nat.{mod_below}
-use Rattle.std.proofs.lemmas.Bool.Decides.{nat_tests}
 use Rattle.flow_mask.specs.Hashes.{hash_of}
 use Rattle.store_history.specs.declared.history.Commit.{Commit}
 use Rattle.store_history.specs.History.{root_of, first_block}
@@ -23,12 +22,9 @@ use Rattle.mask_mirror.specs.Lists.{Dated, age_of, Rises, kept_in, kept_as, date
 use Rattle.mask_mirror.specs.Changing.{root_for, insert_at}
 use Rattle.mask_mirror.proofs.Spelling.{same_blocks}
 use Rattle.mask_mirror.proofs.Chains.{first_spelled, first_link_of, spelled_low, links_same, spells_same}
-use Rattle.mask_mirror.proofs.Keeping.{at_root, names_each, bucket_with, same_kept}
+use Rattle.mask_mirror.proofs.Keeping.{at_root, names_each, bucket_with, same_kept, some_buckets}
 use Rattle.mask_mirror.proofs.Lasting.{SameChain, kept_same, chain_renamed, lists_renamed, has_rewritten}
 use Rattle.mask_mirror.proofs.Dates.{dated_append, rises_append}
-
-some_buckets : (mask : StoredMask) → IsStorableMask mask → 0 < mask.size
-some_buckets mask is = let size = is.size in grind (arith, nat_tests)
 
 module _ {E : Type 0} (mirror mirror2 : Mirror) (shape : Shape) (old new : List ℕ) (h : List (Commit E)) (slot b : ℕ) (kept : KeptMask) (filter : StoredFilter) (place next : ℕ)
     (keeps : IsKept mirror shape old (root_of h)) (stands : Stands mirror slot kept) (free : (root : ℕ) → Names (root_of h) root b → ⊥)
