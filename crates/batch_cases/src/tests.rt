@@ -1,4 +1,4 @@
-use line_ranges::lines_are_in_range;
+use line_range_laws::lines_are_in_range;
 use std::alloc::Global;
 use std::test::Fail;
 use tc_batch::{LineFault, is_command, line};

@@ -10,7 +10,7 @@ use Rattle.state_laws.proofs.Answers.{SoundAfter}
 use Rattle.state_laws.proofs.Pairs.{each_weaker}
 use Rattle.state_laws.proofs.Steps.{step_sound}
 use Rattle.state_laws.proofs.Whole.{start_sound}
-use Rattle.line_ranges.proofs.Lines.{says}
+use Rattle.line_range_laws.proofs.Lines.{says}
 use Rattle.batch_run.specs.declared.made_action.MadeAction.{MadeAction}
 use Rattle.batch_run.specs.declared.stop.Stop.{Stop}
 use Rattle.batch_run.specs.Commands.{Command}

@@ -2,7 +2,7 @@
 use Rattle.std.specs.Prelude.{ℕ, ◌+◌, ◌-◌, ◌≤◌, ◌==◌, ◌&&◌, List, [], ◌∷◌, ◌++◌, get_or, map, if◌then◌else◌, codes, decimal}
 use Rattle.std.specs.List.{flat_map}
 use Rattle.frame_edit.specs.declared.meta.Meta.{Meta}
-use Rattle.batch_texts.specs.Texts.{class_text}
+use Rattle.line_texts.specs.Texts.{class_text}
 use Rattle.tc_print.specs.ActionWords.{kind_text}
 use Rattle.walk_rules.specs.declared.verdict.Verdict.{Verdict}
 use Rattle.walk_rules.specs.declared.verdict.Verdict.TheVariants as verdicts

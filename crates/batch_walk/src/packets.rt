@@ -3,7 +3,7 @@ ghost use Rattle.std.specs.Prelude.{◌≡◌, ◌++◌, OnOk};
 ghost use Rattle.batch_walk.specs.Texts.{verdict_text, meta_text, end_text, packet_line};
 
 use crate::pieces::{push_count, push_text};
-use batch_texts::push_class;
+use line_texts::push_class;
 use capture_walk::PacketEnd;
 use frame_edit::Meta;
 use std::alloc::AllocError;

@@ -2,7 +2,7 @@
 ghost use Rattle.std.specs.Prelude.{◌≡◌, ◌++◌, OnOk};
 ghost use Rattle.batch_walk.specs.Texts.{counted};
 
-use batch_texts::push_number;
+use line_texts::push_number;
 use std::alloc::AllocError;
 
 pub(crate) fn push_text(out: &mut Vec<u8>, text: &str) -> Result<(), AllocError>

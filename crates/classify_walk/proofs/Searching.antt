@@ -15,8 +15,8 @@ use Rattle.filter_tables.specs.Places.{item_at}
 use Rattle.filter_tables.specs.Seen.{plain_table}
 use Rattle.filter_tables.specs.SeenMask.{plain_mask}
 use Rattle.filter_tables.specs.Rows.{tables_on, row_of, rows_of_mask, rows_of_table, rows_of}
-use Rattle.kept_lists.specs.declared.kept.Kept.{Kept}
-use Rattle.kept_lists.specs.States.{both_of, AreKept}
+use Rattle.hook_lists.specs.declared.kept.Kept.{Kept}
+use Rattle.hook_lists.specs.States.{both_of, AreKept}
 use Rattle.classify_walk.specs.Answered.{StandsMask}
 use Rattle.classify_walk.specs.Found.{is_mask, has_mask, IsIn, IsMaskOf}
 

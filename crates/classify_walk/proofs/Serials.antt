@@ -18,8 +18,8 @@ use Rattle.filter_state.specs.States.{Action, State}
 use Rattle.filter_state.specs.Actions.{has_serial}
 use Rattle.filter_state.specs.Tables.{first_where}
 use Rattle.filter_state.specs.Sound.{IsAction}
-use Rattle.kept_lists.specs.declared.kept.Kept.{Kept}
-use Rattle.kept_lists.specs.States.{state_of, AreKept}
+use Rattle.hook_lists.specs.declared.kept.Kept.{Kept}
+use Rattle.hook_lists.specs.States.{state_of, AreKept}
 use Rattle.filter_lists.specs.Spells.{Spells}
 use Rattle.walk_rules.specs.Questions.{params_of, told_params}
 use Rattle.walk_rules.specs.Answers.{params_answer, answer_of}

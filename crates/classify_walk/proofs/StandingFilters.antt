@@ -11,11 +11,11 @@ use Rattle.filter_state.specs.Tables.{first_where}
 use Rattle.filter_tables.specs.Plain.{PlainMask}
 use Rattle.filter_tables.specs.Whole.{HasSome}
 use Rattle.filter_tables.specs.Rows.{row_of, rows_of_mask, all_rows}
-use Rattle.kept_lists.specs.declared.kept.Kept.{Kept}
-use Rattle.kept_lists.specs.States.{both_of, state_of}
+use Rattle.hook_lists.specs.declared.kept.Kept.{Kept}
+use Rattle.hook_lists.specs.States.{both_of, state_of}
 use Rattle.filter_lists.specs.Spells.{Spells}
-use Rattle.rows_asked.proofs.Heads.{first_and}
-use Rattle.rows_asked.proofs.Blocks.{each_weaker, each_filter}
+use Rattle.row_lookup_laws.proofs.Heads.{first_and}
+use Rattle.row_lookup_laws.proofs.Blocks.{each_weaker, each_filter}
 use Rattle.visit_room.specs.declared.names.ActionName.{ActionName}
 use Rattle.walk_rules.specs.Questions.{filter_of}
 use Rattle.walk_rules.specs.Answers.{meets, actions_or_none, answer_of}

@@ -11,13 +11,13 @@ use Rattle.filter_state.specs.Sound.{Each}
 use Rattle.filter_tables.specs.Plain.{PlainMask, PlainTable}
 use Rattle.filter_tables.specs.Whole.{HasSome, IsFull, AreWhole}
 use Rattle.filter_tables.specs.Rows.{row_of, rows_of_mask, rows_of_table, rows_of, tables_on}
-use Rattle.kept_lists.specs.declared.kept.Kept.{Kept}
-use Rattle.kept_lists.specs.States.{both_of, AreKept}
+use Rattle.hook_lists.specs.declared.kept.Kept.{Kept}
+use Rattle.hook_lists.specs.States.{both_of, AreKept}
 use Rattle.visit_room.specs.declared.names.MaskName.{MaskName}
 use Rattle.visit_room.specs.declared.table_head.TableHead.{TableHead}
 use Rattle.walk_rules.specs.Questions.{Head}
 use Rattle.walk_steps.specs.Told.{mask_serials, heads_told, MasksKnown}
-use Rattle.rows_asked.proofs.Found.{whole_on}
+use Rattle.row_lookup_laws.proofs.Found.{whole_on}
 use Rattle.classify_walk.proofs.HeadRows.{one_number}
 use Rattle.classify_walk.specs.Heads.{serials_of, head_of}
 use Rattle.classify_walk.specs.Answered.{StandsMask}

@@ -10,15 +10,15 @@ use Rattle.filter_state.specs.Sound.{EachPair, GoTogether}
 use Rattle.filter_tables.specs.Plain.{PlainTable}
 use Rattle.filter_tables.specs.Whole.{AreWhole}
 use Rattle.filter_tables.specs.Rows.{BothHooks, tables_on, rows_of, all_rows}
-use Rattle.kept_lists.specs.declared.kept.Kept.{Kept}
-use Rattle.kept_lists.specs.States.{both_of, state_of, AreKept}
+use Rattle.hook_lists.specs.declared.kept.Kept.{Kept}
+use Rattle.hook_lists.specs.States.{both_of, state_of, AreKept}
 use Rattle.filter_lists.specs.Spells.{Spells}
-use Rattle.row_order.specs.Sorted.{sorted}
-use Rattle.row_order.specs.Rows.{row_before}
-use Rattle.row_order.proofs.OrderedRows.{rows_stay}
-use Rattle.rows_asked.proofs.Pairs.{pairs_filter}
-use Rattle.rows_asked.proofs.Found.{whole_on}
-use Rattle.rows_asked.proofs.Tables.{hook_rows, apart_serials}
+use Rattle.row_order_laws.specs.Sorted.{sorted}
+use Rattle.row_order_laws.specs.Rows.{row_before}
+use Rattle.row_order_laws.proofs.OrderedRows.{rows_stay}
+use Rattle.row_lookup_laws.proofs.Pairs.{pairs_filter}
+use Rattle.row_lookup_laws.proofs.Found.{whole_on}
+use Rattle.row_lookup_laws.proofs.Tables.{hook_rows, apart_serials}
 use Rattle.walk_rules.specs.Questions.{heads_of, told_heads}
 use Rattle.walk_rules.specs.Heads.{heads_in, heads_on}
 use Rattle.walk_rules.specs.Answers.{answer_of}

@@ -4,8 +4,8 @@ use Rattle.std.proofs.lemmas.Option.{none-some}
 use Rattle.tc_base.specs.declared.hook.Hook.{Hook}
 use Rattle.filter_state.specs.States.{State}
 use Rattle.filter_state.specs.Sound.{Each}
-use Rattle.kept_lists.specs.declared.kept.Kept.{Kept}
-use Rattle.kept_lists.specs.States.{state_of, AreKept}
+use Rattle.hook_lists.specs.declared.kept.Kept.{Kept}
+use Rattle.hook_lists.specs.States.{state_of, AreKept}
 use Rattle.filter_lists.specs.Spells.{Spells}
 use Rattle.order_laws.proofs.Soundness.{sound_same}
 use Rattle.walk_rules.specs.Questions.{Question, Answer}

@@ -4,8 +4,8 @@ use Rattle.std.specs.List.{list_any}
 use Rattle.filter_state.specs.States.{State}
 use Rattle.filter_state.specs.Actions.{has_serial}
 use Rattle.filter_state.specs.Order.{of_mask}
-use Rattle.kept_lists.specs.declared.kept.Kept.{Kept}
-use Rattle.kept_lists.specs.States.{state_of, AreKept}
+use Rattle.hook_lists.specs.declared.kept.Kept.{Kept}
+use Rattle.hook_lists.specs.States.{state_of, AreKept}
 use Rattle.filter_lists.specs.Spells.{Spells}
 use Rattle.walk_rules.specs.Questions.{Question, Answer}
 use Rattle.walk_rules.specs.Answers.{answer_of}

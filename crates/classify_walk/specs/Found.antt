@@ -9,8 +9,8 @@ use Rattle.filter_state.specs.Sound.{Each}
 use Rattle.filter_tables.specs.Plain.{PlainMask, PlainTable}
 use Rattle.filter_tables.specs.Places.{item_at}
 use Rattle.filter_tables.specs.Rows.{tables_on}
-use Rattle.kept_lists.specs.declared.kept.Kept.{Kept}
-use Rattle.kept_lists.specs.States.{both_of, AreKept}
+use Rattle.hook_lists.specs.declared.kept.Kept.{Kept}
+use Rattle.hook_lists.specs.States.{both_of, AreKept}
 use Rattle.walk_rules.specs.Questions.{Answer, told_no_filter, told_actions}
 
 -- ---- a mask by its serial

@@ -8,7 +8,7 @@ ghost use Rattle.filter_state.specs.States.{State};
 ghost use Rattle.filter_state.specs.Sound.{Each};
 ghost use Rattle.filter_tables.specs.Seen.{plain_table};
 ghost use Rattle.filter_tables.specs.SeenMask.{plain_mask};
-ghost use Rattle.kept_lists.specs.States.{AreKept};
+ghost use Rattle.hook_lists.specs.States.{AreKept};
 ghost use Rattle.filter_lists.specs.Spells.{Spells};
 ghost use Rattle.walk_rules.specs.Questions.{filter_of};
 ghost use Rattle.walk_rules.specs.Answers.{answer_of};

@@ -1,6 +1,6 @@
 //! The tables of a hook, told to a walk.
 ghost use Rattle.std.specs.Prelude.{◌≡◌, ◌<◌, ◌≤◌, [], true, length, map, Some};
-ghost use Rattle.kept_lists.specs.States.{both_of, AreKept};
+ghost use Rattle.hook_lists.specs.States.{both_of, AreKept};
 ghost use Rattle.filter_tables.specs.Rows.{tables_on};
 ghost use Rattle.filter_tables.specs.Seen.{plain_table};
 ghost use Rattle.filter_tables.specs.SeenMask.{plain_mask};

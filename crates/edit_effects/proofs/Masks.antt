@@ -11,7 +11,7 @@ use Rattle.filter_state.specs.Order.{of_mask}
 use Rattle.filter_state.specs.Sound.{Each}
 use Rattle.state_laws.proofs.Pairs.{any_first, found}
 use Rattle.state_laws.proofs.Rows.{put_actions}
-use Rattle.rows_asked.proofs.Heads.{head_of, first_head, filter_none}
+use Rattle.row_lookup_laws.proofs.Heads.{head_of, first_head, filter_none}
 use Rattle.walk_rules.proofs.Listed.{kept_have, kept_alike}
 use Rattle.state_parts.specs.Parts.{Filter, filter_of, words_in, is_handle, without}
 use Rattle.edit_effects.specs.Effects.{with_actions}

@@ -13,9 +13,9 @@ use Rattle.filter_state.specs.Actions.{Made}
 use Rattle.filter_state.specs.Refusals.{when, or_else, tables_full, masks_full, filters_full, actions_full, counters_full}
 use Rattle.filter_state.specs.Steps.{Stepped, with_actions, with_row, handle_for}
 use Rattle.action_plan.specs.Plans.{made_of, carried, serials_of}
-use Rattle.kept_lists.specs.declared.kept.Kept.{Kept}
-use Rattle.kept_lists.specs.States.{room_on, state_of}
-use Rattle.kept_lists.specs.Steps.{PlanFits}
+use Rattle.hook_lists.specs.declared.kept.Kept.{Kept}
+use Rattle.hook_lists.specs.States.{room_on, state_of}
+use Rattle.hook_lists.specs.Steps.{PlanFits}
 use Rattle.filter_adding.specs.declared.arrival.Arrival.{Arrival}
 use Rattle.filter_adding.specs.declared.arrival.Seat.{Seat}
 use Rattle.filter_adding.specs.declared.looking.Found.{Found}

@@ -14,16 +14,16 @@ use Rattle.filter_tables.specs.Places.{item_at, place_where}
 use Rattle.filter_tables.specs.Changes.{count_of, has_handle_in, is_table}
 use Rattle.filter_tables.specs.Room.{TableRoom}
 use Rattle.filter_tables.specs.Rows.{tables_on, row_of, rows_of_mask, all_rows}
-use Rattle.rows_asked.proofs.Placed.{place_any}
-use Rattle.rows_asked.proofs.Free.{length_filter_le}
-use Rattle.rows_asked.proofs.Found.{rows_found, rows_any}
-use Rattle.rows_asked.proofs.Tables.{count_found}
-use Rattle.rows_asked.proofs.Lowest.{lowest_found}
-use Rattle.rows_asked.proofs.Handles.{handle_found, handle_missing}
-use Rattle.kept_lists.specs.declared.kept.Kept.{Kept}
-use Rattle.kept_lists.specs.States.{both_of, room_on, state_of, AreKept}
-use Rattle.kept_lists.proofs.Sought.{place_nowhere, its_names}
-use Rattle.kept_lists.proofs.Asked.{IsAt, IsNowhere}
+use Rattle.row_lookup_laws.proofs.Placed.{place_any}
+use Rattle.row_lookup_laws.proofs.Free.{length_filter_le}
+use Rattle.row_lookup_laws.proofs.Found.{rows_found, rows_any}
+use Rattle.row_lookup_laws.proofs.Tables.{count_found}
+use Rattle.row_lookup_laws.proofs.Lowest.{lowest_found}
+use Rattle.row_lookup_laws.proofs.Handles.{handle_found, handle_missing}
+use Rattle.hook_lists.specs.declared.kept.Kept.{Kept}
+use Rattle.hook_lists.specs.States.{both_of, room_on, state_of, AreKept}
+use Rattle.hook_lists.proofs.Sought.{place_nowhere, its_names}
+use Rattle.hook_lists.proofs.Asked.{IsAt, IsNowhere}
 
 -- what is said of a table's own chain and pref is said of those that it was found by
 pub by_names : {V : Type 0} (says : ℕ → ℕ → V) (v : V) (kept : Kept) (hook : Hook) (chain pref place : ℕ) (t : PlainTable) → IsAt kept hook chain pref place t

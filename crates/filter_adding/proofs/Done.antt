@@ -7,9 +7,9 @@ use Rattle.filter_state.specs.Steps.{raised}
 use Rattle.filter_tables.specs.Rows.{BothHooks, BothWhole, on_hook, all_rows}
 use Rattle.order_laws.proofs.Same.{length_same}
 use Rattle.action_plan.specs.Plans.{made_of, carried}
-use Rattle.kept_lists.specs.declared.kept.Kept.{Kept}
-use Rattle.kept_lists.specs.States.{both_of, state_of, AreKept}
-use Rattle.kept_lists.specs.Done.{IsDone}
+use Rattle.hook_lists.specs.declared.kept.Kept.{Kept}
+use Rattle.hook_lists.specs.States.{both_of, state_of, AreKept}
+use Rattle.hook_lists.specs.Done.{IsDone}
 use Rattle.filter_adding.specs.declared.addition.Addition.{Addition}
 use Rattle.filter_adding.specs.Arrivals.{row_of_arrival}
 use Rattle.filter_adding.specs.Seats.{seated}

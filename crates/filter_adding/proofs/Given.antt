@@ -7,11 +7,11 @@ use Rattle.filter_state.specs.States.{Row}
 use Rattle.filter_state.specs.Tables.{table_row, mask_row, table_or_next, mask_or_next, free_handle}
 use Rattle.filter_state.specs.Steps.{handle_for, row_of}
 use Rattle.filter_tables.specs.Rows.{all_rows}
-use Rattle.rows_asked.proofs.Tables.{serial_found, row_missing}
-use Rattle.rows_asked.proofs.Masks.{mask_found, mask_some, mask_missing}
-use Rattle.rows_asked.proofs.FreeHandle.{free_found, free_first}
-use Rattle.kept_lists.specs.declared.kept.Kept.{Kept}
-use Rattle.kept_lists.specs.States.{both_of, room_on, state_of}
+use Rattle.row_lookup_laws.proofs.Tables.{serial_found, row_missing}
+use Rattle.row_lookup_laws.proofs.Masks.{mask_found, mask_some, mask_missing}
+use Rattle.row_lookup_laws.proofs.FreeHandle.{free_found, free_first}
+use Rattle.hook_lists.specs.declared.kept.Kept.{Kept}
+use Rattle.hook_lists.specs.States.{both_of, room_on, state_of}
 use Rattle.filter_adding.specs.declared.arrival.Arrival.{Arrival}
 use Rattle.filter_adding.specs.declared.arrival.Seat.{Seat}
 use Rattle.filter_adding.specs.declared.arrival.Seat.TheVariants as seats

@@ -13,10 +13,10 @@ use Rattle.filter_tables.specs.Places.{place_where}
 use Rattle.filter_tables.specs.Rows.{BothHooks, BothWhole, tables_on, all_rows}
 use Rattle.action_plan.specs.Plans.{made_of, carried, made_by, AreFit}
 use Rattle.action_plan.specs.declared.planned.PlannedAction.{PlannedAction}
-use Rattle.kept_lists.specs.declared.kept.Kept.{Kept}
-use Rattle.kept_lists.specs.States.{both_of, state_of, AreKept}
-use Rattle.kept_lists.specs.Steps.{IsRoomier, PlanFits}
-use Rattle.kept_lists.proofs.Sought.{place_within}
+use Rattle.hook_lists.specs.declared.kept.Kept.{Kept}
+use Rattle.hook_lists.specs.States.{both_of, state_of, AreKept}
+use Rattle.hook_lists.specs.Steps.{IsRoomier, PlanFits}
+use Rattle.hook_lists.proofs.Sought.{place_within}
 use Rattle.filter_adding.specs.declared.looking.Found.{Found}
 use Rattle.filter_adding.specs.Looks.{place_refusal, limit_refusal, resolved_by_plan, IsFound}
 use Rattle.filter_state.specs.Steps.{filter_add, filter_added}

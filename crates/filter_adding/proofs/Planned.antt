@@ -23,12 +23,12 @@ use Rattle.filter_tables.specs.Changes.{any_handle, has_handle_in, has_key_in, h
 use Rattle.filter_tables.specs.Room.{TableRoom, masks_spare, filters_spare}
 use Rattle.filter_tables.specs.Rows.{tables_on}
 use Rattle.filter_tables.proofs.Swept.{found_any}
-use Rattle.rows_asked.specs.Asked.{unless_left_out}
-use Rattle.rows_asked.proofs.Placed.{place_any}
-use Rattle.kept_lists.specs.declared.kept.Kept.{Kept}
-use Rattle.kept_lists.specs.States.{both_of, room_on, state_of, AreKept}
-use Rattle.kept_lists.proofs.Sought.{place_passes, its_names}
-use Rattle.kept_lists.proofs.Asked.{IsAt, IsNowhere, clash_found, existing, exists_found}
+use Rattle.row_lookup_laws.specs.Asked.{unless_left_out}
+use Rattle.row_lookup_laws.proofs.Placed.{place_any}
+use Rattle.hook_lists.specs.declared.kept.Kept.{Kept}
+use Rattle.hook_lists.specs.States.{both_of, room_on, state_of, AreKept}
+use Rattle.hook_lists.proofs.Sought.{place_passes, its_names}
+use Rattle.hook_lists.proofs.Asked.{IsAt, IsNowhere, clash_found, existing, exists_found}
 use Rattle.filter_adding.specs.declared.arrival.Arrival.{Arrival}
 use Rattle.filter_adding.specs.declared.arrival.Seat.{Seat}
 use Rattle.filter_adding.specs.declared.arrival.Seat.TheVariants as seats

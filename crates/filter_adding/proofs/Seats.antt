@@ -6,7 +6,7 @@ use Rattle.filter_tables.specs.Places.{item_at, place_where}
 use Rattle.filter_tables.specs.Changes.{has_words}
 use Rattle.filter_tables.specs.Room.{TableRoom, masks_spare, filters_spare}
 use Rattle.filter_tables.proofs.Moves.{item_there}
-use Rattle.kept_lists.proofs.Sought.{place_within}
+use Rattle.hook_lists.proofs.Sought.{place_within}
 use Rattle.filter_adding.specs.declared.arrival.Seat.{Seat}
 use Rattle.filter_adding.specs.declared.arrival.Seat.TheVariants as seats
 use Rattle.filter_adding.specs.Seats.{HasMask, LacksMask, SeatTold, IsThere}

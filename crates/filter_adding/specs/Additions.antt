@@ -7,9 +7,9 @@ use Rattle.filter_state.specs.declared.refusal.Refusal.TheVariants as refusals
 use Rattle.filter_state.specs.States.{State}
 use Rattle.filter_state.specs.Steps.{Stepped, made_of, with_actions, with_row}
 use Rattle.action_plan.specs.Plans.{carried}
-use Rattle.kept_lists.specs.declared.kept.Kept.{Kept}
-use Rattle.kept_lists.specs.States.{state_of}
-use Rattle.kept_lists.specs.Steps.{PlanFits}
+use Rattle.hook_lists.specs.declared.kept.Kept.{Kept}
+use Rattle.hook_lists.specs.States.{state_of}
+use Rattle.hook_lists.specs.Steps.{PlanFits}
 use Rattle.filter_adding.specs.declared.addition.Addition.{Addition}
 use Rattle.filter_adding.specs.Arrivals.{row_of_arrival, IsSeat}
 

@@ -8,8 +8,8 @@ use Rattle.filter_tables.specs.Places.{item_at}
 use Rattle.filter_tables.specs.Changes.{any_handle, has_key_in, is_table}
 use Rattle.filter_tables.specs.Room.{masks_spare, filters_spare}
 use Rattle.filter_tables.specs.Rows.{tables_on}
-use Rattle.kept_lists.specs.declared.kept.Kept.{Kept}
-use Rattle.kept_lists.specs.States.{both_of, room_on}
+use Rattle.hook_lists.specs.declared.kept.Kept.{Kept}
+use Rattle.hook_lists.specs.States.{both_of, room_on}
 use Rattle.filter_adding.specs.declared.arrival.Arrival.{Arrival}
 use Rattle.filter_adding.specs.declared.arrival.Seat.{Seat}
 use Rattle.filter_adding.specs.declared.arrival.Seat.TheVariants as seats

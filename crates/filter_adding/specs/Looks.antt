@@ -11,8 +11,8 @@ use Rattle.filter_tables.specs.Changes.{is_table}
 use Rattle.filter_tables.specs.Rows.{tables_on}
 use Rattle.action_plan.specs.declared.planned.PlannedAction.{PlannedAction}
 use Rattle.action_plan.specs.Plans.{made_of, carried, serials_of, AreFit}
-use Rattle.kept_lists.specs.declared.kept.Kept.{Kept}
-use Rattle.kept_lists.specs.States.{both_of, state_of}
+use Rattle.hook_lists.specs.declared.kept.Kept.{Kept}
+use Rattle.hook_lists.specs.States.{both_of, state_of}
 use Rattle.filter_adding.specs.declared.looking.Found.{Found}
 
 -- what the table that is there refuses

@@ -4,8 +4,8 @@ use Rattle.std.specs.Option.{unwrap_or}
 use Rattle.filter_state.specs.declared.edit.FilterLine.{FilterLine}
 use Rattle.filter_state.specs.Steps.{filter_add}
 use Rattle.filter_tables.specs.Rows.{tables_on}
-use Rattle.kept_lists.specs.declared.kept.Kept.{Kept}
-use Rattle.kept_lists.specs.States.{both_of, state_of}
+use Rattle.hook_lists.specs.declared.kept.Kept.{Kept}
+use Rattle.hook_lists.specs.States.{both_of, state_of}
 use Rattle.filter_adding.specs.declared.addition.Addition.{Addition}
 use Rattle.filter_adding.specs.declared.arrival.Arrival.{Arrival}
 use Rattle.filter_adding.specs.declared.arrival.Seat.{Seat}

@@ -3,8 +3,8 @@ ghost use Rattle.std.specs.Prelude.{◌≡◌, ◌+◌, ◌<◌, ◌≤◌, []};
 ghost use Rattle.filter_state.specs.Steps.{raised};
 ghost use Rattle.filter_tables.specs.Seen.{plain_table};
 ghost use Rattle.filter_tables.specs.Rows.{on_hook};
-ghost use Rattle.kept_lists.specs.States.{state_of, both_of, room_on, AreKept};
-ghost use Rattle.kept_lists.specs.Done.{IsDone};
+ghost use Rattle.hook_lists.specs.States.{state_of, both_of, room_on, AreKept};
+ghost use Rattle.hook_lists.specs.Done.{IsDone};
 ghost use Rattle.filter_adding.specs.Arrivals.{IsEmptyRoom};
 ghost use Rattle.filter_adding.specs.Additions.{state_after, answer_of, IsReady};
 ghost use Rattle.filter_adding.specs.Seats.{IsOpen, seated, table_of_arrival};
@@ -14,7 +14,7 @@ use crate::arrival::{Arrival, Seat};
 use filter_index::Filters;
 use filter_state::Done;
 use filter_tables::{FilterTable, FilterTables, MaskLists};
-use kept_lists::{Kept, carry_out};
+use hook_lists::{Kept, carry_out};
 use tc_base::Hook;
 
 /// Binds and makes the actions, and puts the filter into its seat. It takes no memory.

@@ -7,14 +7,14 @@ ghost use Rattle.filter_tables.specs.Places.{place_where};
 ghost use Rattle.filter_tables.specs.Changes.{is_table, has_handle_in};
 ghost use Rattle.filter_tables.specs.Rows.{tables_on};
 ghost use Rattle.action_plan.specs.Plans.{made_of, carried};
-ghost use Rattle.kept_lists.specs.States.{state_of, both_of, AreKept};
-ghost use Rattle.kept_lists.specs.Steps.{refusal_of};
+ghost use Rattle.hook_lists.specs.States.{state_of, both_of, AreKept};
+ghost use Rattle.hook_lists.specs.Steps.{refusal_of};
 ghost use Rattle.filter_adding.specs.Looks.{place_refusal, limit_refusal, found_or, LookTold};
 
 use action_plan::ActionPlan;
 use filter_state::{FilterLine, Refusal};
 use filter_tables::MaskLists;
-use kept_lists::{
+use hook_lists::{
     Kept, check_actions, check_hook, check_masks, check_match, check_protocol, find_table, resolve,
     table_at, tables_of,
 };

@@ -1,11 +1,11 @@
 //! The numbers that a filter gets with its seat.
 ghost use Rattle.std.specs.Prelude.{◌≡◌, ◌+◌, ◌<◌};
 ghost use Rattle.filter_tables.specs.Rows.{tables_on};
-ghost use Rattle.kept_lists.specs.States.{both_of, AreKept};
+ghost use Rattle.hook_lists.specs.States.{both_of, AreKept};
 ghost use Rattle.filter_adding.specs.Seats.{IsThere, IsTableSerial, IsMaskSerial, IsFreeHandle};
 
 use crate::arrival::Seat;
-use kept_lists::{Kept, mask_at, table_at};
+use hook_lists::{Kept, mask_at, table_at};
 use tc_base::Hook;
 
 /// The serial of the seat's table, which may be a new one.

@@ -3,8 +3,8 @@ ghost use Rattle.std.specs.Prelude.{◌≡◌, ◌+◌, ◌<◌, IfOk};
 ghost use Rattle.filter_state.specs.Lines.{IsFilter};
 ghost use Rattle.filter_state.specs.Steps.{filter_add};
 ghost use Rattle.filter_tables.specs.Rows.{tables_on};
-ghost use Rattle.kept_lists.specs.States.{both_of, state_of, AreKept};
-ghost use Rattle.kept_lists.specs.Steps.{IsRoomier};
+ghost use Rattle.hook_lists.specs.States.{both_of, state_of, AreKept};
+ghost use Rattle.hook_lists.specs.Steps.{IsRoomier};
 ghost use Rattle.filter_adding.specs.Looks.{IsFound};
 ghost use Rattle.filter_adding.specs.Seats.{IsThere};
 ghost use Rattle.filter_adding.specs.Ready.{IsArrival, IsAdded};
@@ -17,7 +17,7 @@ use crate::numbers::{free_handle, mask_serial, table_serial};
 use crate::seating::seat_for;
 use filter_index::Filter;
 use filter_state::{FilterLine, Refusal};
-use kept_lists::{Kept, reserve_actions};
+use hook_lists::{Kept, reserve_actions};
 use tc_base::{NoMemory, Numbers};
 
 /// Makes the line's filter ready to be added, or answers why it is refused.

@@ -4,8 +4,8 @@ ghost use Rattle.filter_tables.specs.Places.{item_at, place_where};
 ghost use Rattle.filter_tables.specs.Plain.{PlainTable};
 ghost use Rattle.filter_tables.specs.Changes.{has_words};
 ghost use Rattle.filter_tables.specs.Rows.{tables_on};
-ghost use Rattle.kept_lists.specs.States.{both_of, room_on};
-ghost use Rattle.kept_lists.specs.Steps.{IsRoomier};
+ghost use Rattle.hook_lists.specs.States.{both_of, room_on};
+ghost use Rattle.hook_lists.specs.Steps.{IsRoomier};
 ghost use Rattle.filter_adding.specs.Arrivals.{IsEmptyRoom};
 ghost use Rattle.filter_adding.specs.Seats.{SeatTold};
 
@@ -13,7 +13,7 @@ use crate::arrival::Seat;
 use filter_index::Filters;
 use filter_tables::{FilterTables, MaskLists};
 use flow_fields::Key;
-use kept_lists::Kept;
+use hook_lists::Kept;
 use std::alloc::Global;
 use tc_base::{Hook, NoMemory};
 

@@ -6,9 +6,9 @@ use Rattle.filter_state.specs.declared.refusal.Refusal.{Refusal}
 use Rattle.filter_state.specs.States.{Row, State}
 use Rattle.filter_state.specs.Order.{SameState}
 use Rattle.filter_state.specs.Steps.{Stepped, filter_add, filter_replace, replace_at, replace_or_add}
-use Rattle.kept_lists.specs.declared.kept.Kept.{Kept}
-use Rattle.kept_lists.specs.States.{state_of}
-use Rattle.kept_lists.specs.Done.{IsDone}
+use Rattle.hook_lists.specs.declared.kept.Kept.{Kept}
+use Rattle.hook_lists.specs.States.{state_of}
+use Rattle.hook_lists.specs.Done.{IsDone}
 use Rattle.filter_adding.specs.Additions as additions
 use Rattle.filter_replacing.specs.Replacements as replacements
 use Rattle.filter_removing.specs.Removals as removals

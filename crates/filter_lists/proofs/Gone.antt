@@ -20,8 +20,8 @@ use Rattle.filter_state.specs.Steps.{unless, action_del}
 use Rattle.action_plan.specs.Entries.{action_of}
 use Rattle.action_plan.proofs.Mapped.{first_mapped, any_first}
 use Rattle.action_plan.proofs.Entries.{same_name}
-use Rattle.kept_lists.specs.declared.kept.Kept.{Kept}
-use Rattle.kept_lists.specs.States.{state_of}
+use Rattle.hook_lists.specs.declared.kept.Kept.{Kept}
+use Rattle.hook_lists.specs.States.{state_of}
 use Rattle.filter_lists.specs.Faults.{refusal_for}
 use Rattle.filter_lists.proofs.Registries.{without}
 

@@ -20,8 +20,8 @@ use Rattle.filter_state.specs.Refusals.{when, or_else, action_exists}
 use Rattle.filter_state.specs.Steps.{Stepped, unless, made_of, with_actions, action_made}
 use Rattle.action_plan.specs.Entries.{action_of, actions_of}
 use Rattle.action_plan.proofs.Entries.{used_live}
-use Rattle.kept_lists.specs.declared.kept.Kept.{Kept}
-use Rattle.kept_lists.specs.States.{state_of}
+use Rattle.hook_lists.specs.declared.kept.Kept.{Kept}
+use Rattle.hook_lists.specs.States.{state_of}
 use Rattle.filter_lists.specs.Faults.{refusal_for}
 
 -- the state with one action more, and the answer

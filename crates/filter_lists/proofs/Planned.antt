@@ -13,8 +13,8 @@ use Rattle.filter_state.specs.Actions.{index_or_free}
 use Rattle.filter_state.specs.Refusals.{action_exists}
 use Rattle.filter_state.specs.Steps.{Stepped, unless, action_made}
 use Rattle.action_plan.specs.Entries.{actions_of}
-use Rattle.kept_lists.specs.declared.kept.Kept.{Kept}
-use Rattle.kept_lists.specs.States.{state_of}
+use Rattle.hook_lists.specs.declared.kept.Kept.{Kept}
+use Rattle.hook_lists.specs.States.{state_of}
 use Rattle.filter_lists.specs.declared.plan.Plan.TheVariants as plans
 use Rattle.filter_lists.specs.Plans.{Leads, IsPlanned}
 use Rattle.filter_lists.proofs.Made.{no_index_taken}

@@ -21,9 +21,9 @@ use Rattle.order_laws.proofs.States.{same_state_refl}
 use Rattle.action_plan.specs.Entries.{action_of, actions_of}
 use Rattle.action_plan.proofs.Mapped.{any_first, first_mapped, change_mapped, filter_mapped}
 use Rattle.action_plan.proofs.Entries.{same_name, used_live}
-use Rattle.kept_lists.specs.declared.kept.Kept.{Kept}
-use Rattle.kept_lists.specs.States.{state_of, AreKept}
-use Rattle.kept_lists.specs.Done.{IsDone}
+use Rattle.hook_lists.specs.declared.kept.Kept.{Kept}
+use Rattle.hook_lists.specs.States.{state_of, AreKept}
+use Rattle.hook_lists.specs.Done.{IsDone}
 use Rattle.filter_lists.proofs.Made.{made_next}
 
 abbrev pub with_registry : Kept → registries.Kept Params → Kept

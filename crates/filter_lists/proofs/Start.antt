@@ -13,8 +13,8 @@ use Rattle.filter_tables.specs.Plain.{PlainTable}
 use Rattle.filter_tables.specs.Whole.{AreWhole}
 use Rattle.filter_tables.specs.Rows.{rows_of}
 use Rattle.action_plan.specs.Entries.{actions_of}
-use Rattle.kept_lists.specs.declared.kept.Kept.{Kept}
-use Rattle.kept_lists.specs.States.{state_of, AreKept}
+use Rattle.hook_lists.specs.declared.kept.Kept.{Kept}
+use Rattle.hook_lists.specs.States.{state_of, AreKept}
 
 abbrev start_with : List PlainTable → List PlainTable → List (Entry Params) → ℕ → State
 start_with ingress egress entries made = record {

@@ -15,9 +15,9 @@ use Rattle.state_laws.proofs.Steps.{step_sound}
 use Rattle.order_laws.proofs.States.{same_state_sym, same_state_trans}
 use Rattle.order_laws.proofs.Steps.{step_same}
 use Rattle.order_laws.proofs.Soundness.{sound_same}
-use Rattle.kept_lists.specs.declared.kept.Kept.{Kept}
-use Rattle.kept_lists.specs.States.{state_of, AreKept}
-use Rattle.kept_lists.specs.Done.{IsDone}
+use Rattle.hook_lists.specs.declared.kept.Kept.{Kept}
+use Rattle.hook_lists.specs.States.{state_of, AreKept}
+use Rattle.hook_lists.specs.Done.{IsDone}
 use Rattle.filter_lists.specs.declared.plan.Plan.{Plan}
 use Rattle.filter_lists.specs.declared.plan.Plan.TheVariants as plans
 use Rattle.filter_lists.specs.Spells.{Spells}

@@ -4,8 +4,8 @@ use Rattle.filter_state.specs.declared.refusal.Done.{Done}
 use Rattle.filter_state.specs.declared.refusal.Refusal.{Refusal}
 use Rattle.filter_state.specs.declared.refusal.Refusal.TheVariants as refusals
 use Rattle.filter_state.specs.Steps.{Stepped}
-use Rattle.kept_lists.specs.declared.kept.Kept.{Kept}
-use Rattle.kept_lists.specs.States.{state_of}
+use Rattle.hook_lists.specs.declared.kept.Kept.{Kept}
+use Rattle.hook_lists.specs.States.{state_of}
 use Rattle.filter_lists.specs.Spells.{Spells}
 
 -- the state is as it was; only the room may be more

@@ -9,8 +9,8 @@ use Rattle.filter_state.specs.declared.refusal.Refusal.{Refusal}
 use Rattle.filter_state.specs.declared.refusal.Refusal.TheVariants as refusals
 use Rattle.filter_state.specs.Actions.{is_named, is_live, index_or_free}
 use Rattle.filter_state.specs.Steps.{Stepped, unless, action_made, with_params}
-use Rattle.kept_lists.specs.declared.kept.Kept.{Kept}
-use Rattle.kept_lists.specs.States.{state_of}
+use Rattle.hook_lists.specs.declared.kept.Kept.{Kept}
+use Rattle.hook_lists.specs.States.{state_of}
 use Rattle.filter_adding.specs.Additions as additions
 use Rattle.filter_replacing.specs.Replacements as replacements
 use Rattle.filter_removing.specs.Removals as removals

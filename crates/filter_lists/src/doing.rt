@@ -1,7 +1,7 @@
 //! Doing what was planned.
 ghost use Rattle.std.specs.Prelude.{Ok};
-ghost use Rattle.kept_lists.specs.States.{AreKept};
-ghost use Rattle.kept_lists.specs.Done.{IsDone};
+ghost use Rattle.hook_lists.specs.States.{AreKept};
+ghost use Rattle.hook_lists.specs.Done.{IsDone};
 ghost use Rattle.filter_state.specs.States.{State};
 ghost use Rattle.filter_state.specs.declared.refusal.Done.{Done};
 ghost use Rattle.filter_lists.specs.Plans.{Leads};
@@ -12,7 +12,7 @@ use filter_adding::add;
 use filter_removing::remove;
 use filter_replacing::replace;
 use filter_state::Done;
-use kept_lists::Kept;
+use hook_lists::Kept;
 
 /// Does what was planned. It takes no memory.
 pub(crate) fn carry(kept: &mut Kept, plan: Plan) -> Done

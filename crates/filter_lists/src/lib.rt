@@ -11,7 +11,7 @@
 //! between, and may still give the edit up, calls the two apart. Clauses speak of every state that the lists spell, so no call
 //! carries a state along. The lists spell a sound state at all times: that is the invariant of `Lists`.
 //!
-//! The parts stand in crates of their own: the tables (filter_tables), what every edit asks (kept_lists), and the edits of filters
+//! The parts stand in crates of their own: the tables (filter_tables), what every edit asks (hook_lists), and the edits of filters
 //! (filter_adding, filter_replacing, filter_removing). Those of the qdisc and of actions apart from filters stand here.
 //!
 //! One thread changes the lists at a time, by `&mut`, and any may read them by `&`. Only `step` and `prepare` take memory.

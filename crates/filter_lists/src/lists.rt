@@ -13,7 +13,7 @@ use act_kinds::Params;
 use act_registry::Registry;
 use filter_state::{Done, Edit, Refusal};
 use filter_tables::{FilterTable, FilterTables};
-use kept_lists::{Kept, tables_of};
+use hook_lists::{Kept, tables_of};
 use std::alloc::Global;
 use std::marker::Model;
 use std::snapshot::Snapshot;
@@ -26,8 +26,8 @@ pub struct Lists {
 }
 
 impl Model for Lists {
-    ghost use Rattle.kept_lists.specs.declared.kept.Kept.{Kept};
-    ghost use Rattle.kept_lists.specs.States.{AreKept};
+    ghost use Rattle.hook_lists.specs.declared.kept.Kept.{Kept};
+    ghost use Rattle.hook_lists.specs.States.{AreKept};
 
     ghost Value = { Kept };
 
@@ -37,7 +37,7 @@ impl Model for Lists {
 }
 
 impl Lists {
-    ghost use Rattle.kept_lists.specs.States.{both_of, AreKept};
+    ghost use Rattle.hook_lists.specs.States.{both_of, AreKept};
     ghost use Rattle.filter_lists.specs.Spells.{Spells};
     ghost use Rattle.filter_lists.specs.Edits.{Stays, IsStepped, IsPrepared, IsFinished, MayStep};
 

@@ -19,7 +19,7 @@ pub struct Prepared {
 impl Model for Prepared {
     ghost use Rattle.filter_state.specs.Lines.{IsLine};
     ghost use Rattle.filter_state.specs.Steps.{step};
-    ghost use Rattle.kept_lists.specs.States.{state_of};
+    ghost use Rattle.hook_lists.specs.States.{state_of};
     ghost use Rattle.filter_lists.specs.Ready.{Ready};
     ghost use Rattle.filter_lists.specs.Plans.{Leads};
 

@@ -5,8 +5,8 @@ ghost use Rattle.filter_state.specs.States.{Row};
 ghost use Rattle.filter_state.specs.Lines.{IsLine, IsFilter};
 ghost use Rattle.filter_state.specs.Steps.{step, filter_add, filter_replace, filter_del, replace_at};
 ghost use Rattle.filter_replacing.specs.Replacements.{old_row, IsFound};
-ghost use Rattle.kept_lists.specs.States.{state_of, AreKept};
-ghost use Rattle.kept_lists.specs.Steps.{IsRoomier};
+ghost use Rattle.hook_lists.specs.States.{state_of, AreKept};
+ghost use Rattle.hook_lists.specs.Steps.{IsRoomier};
 ghost use Rattle.filter_lists.specs.Edits.{MayStep};
 ghost use Rattle.filter_lists.specs.Plans.{IsPlanned};
 
@@ -16,7 +16,7 @@ use filter_adding::prepare_addition;
 use filter_removing::plan_removal;
 use filter_replacing::{Old, find_old, prepare_replacement};
 use filter_state::{Edit, FilterLine, Refusal};
-use kept_lists::Kept;
+use hook_lists::Kept;
 use tc_base::{Hook, Proto};
 
 /// What is to be done for the edit, or why it is refused.

@@ -8,9 +8,9 @@ ghost use Rattle.filter_state.specs.Lines.{IsLine};
 ghost use Rattle.filter_state.specs.Actions.{is_live, index_or_free};
 ghost use Rattle.filter_state.specs.Refusals.{action_exists};
 ghost use Rattle.filter_state.specs.Steps.{step, unless, action_made};
-ghost use Rattle.kept_lists.specs.States.{state_of, AreKept};
-ghost use Rattle.kept_lists.specs.Steps.{IsRoomier};
-ghost use Rattle.kept_lists.specs.Done.{IsDone};
+ghost use Rattle.hook_lists.specs.States.{state_of, AreKept};
+ghost use Rattle.hook_lists.specs.Steps.{IsRoomier};
+ghost use Rattle.hook_lists.specs.Done.{IsDone};
 ghost use Rattle.filter_lists.specs.declared.plan.Plan.TheVariants as plans;
 ghost use Rattle.filter_lists.specs.Faults.{refusal_for};
 ghost use Rattle.filter_lists.specs.Plans.{Leads, IsPlanned};
@@ -19,7 +19,7 @@ use crate::plan::Plan;
 use act_kinds::{Kind, Params};
 use act_registry::RegistryFault;
 use filter_state::{ActionLine, Done, Refusal};
-use kept_lists::Kept;
+use hook_lists::Kept;
 
 /// A new action, with the given index, or the lowest from 1 that its kind doesn't use.
 ///

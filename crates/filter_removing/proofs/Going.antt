@@ -4,7 +4,7 @@ use Rattle.std.proofs.lemmas.List.{append_assoc, length-append}
 use Rattle.filter_state.specs.Actions.{all_unbound}
 use Rattle.filter_index.specs.declared.filter.Filter.{Filter}
 use Rattle.action_plan.specs.Bound.{AreBound}
-use Rattle.kept_lists.specs.declared.kept.Kept.{Kept}
+use Rattle.hook_lists.specs.declared.kept.Kept.{Kept}
 use Rattle.filter_removing.specs.Leaving.{serials_in, HaveLeft}
 use Rattle.filter_removing.proofs.Places.{bound_first, bound_then, unbound_then}
 

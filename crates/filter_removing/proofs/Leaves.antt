@@ -10,11 +10,11 @@ use Rattle.filter_tables.specs.Rows.{BothHooks, all_rows, BothWhole}
 use Rattle.order_laws.proofs.Same.{same_refl}
 use Rattle.action_plan.specs.Bound.{AreBound}
 use Rattle.action_plan.specs.Entries.{actions_of}
-use Rattle.kept_lists.specs.declared.kept.Kept.{Kept}
-use Rattle.kept_lists.specs.States.{both_of, state_of, AreKept}
-use Rattle.kept_lists.specs.Done.{IsDone}
-use Rattle.kept_lists.proofs.Covered.{covered_bound}
-use Rattle.kept_lists.proofs.Holding.{covered_gone}
+use Rattle.hook_lists.specs.declared.kept.Kept.{Kept}
+use Rattle.hook_lists.specs.States.{both_of, state_of, AreKept}
+use Rattle.hook_lists.specs.Done.{IsDone}
+use Rattle.hook_lists.proofs.Covered.{covered_bound}
+use Rattle.hook_lists.proofs.Holding.{covered_gone}
 use Rattle.filter_removing.specs.Leaving.{HasTables, HaveLeft}
 
 -- the rows that are gone have those places and are so many, and the tables without them are whole

@@ -12,11 +12,11 @@ use Rattle.filter_tables.specs.Places.{item_at}
 use Rattle.filter_tables.specs.Changes.{has_handle_in, removed}
 use Rattle.filter_tables.specs.Rows.{BothHooks, tables_on, on_hook}
 use Rattle.filter_tables.proofs.Moves.{item_there}
-use Rattle.rows_changed.proofs.FilterTaken.{filter_rows_taken, filter_rows_gone}
-use Rattle.rows_changed.proofs.Sweeping.{removed_whole}
-use Rattle.kept_lists.specs.declared.kept.Kept.{Kept}
-use Rattle.kept_lists.specs.States.{both_of, AreKept}
-use Rattle.kept_lists.proofs.Sought.{place_within}
+use Rattle.row_change_laws.proofs.FilterTaken.{filter_rows_taken, filter_rows_gone}
+use Rattle.row_change_laws.proofs.Sweeping.{removed_whole}
+use Rattle.hook_lists.specs.declared.kept.Kept.{Kept}
+use Rattle.hook_lists.specs.States.{both_of, AreKept}
+use Rattle.hook_lists.proofs.Sought.{place_within}
 use Rattle.filter_removing.specs.declared.removal.Removal.TheVariants as removals
 use Rattle.filter_removing.specs.Removals.{IsReady}
 use Rattle.filter_removing.proofs.Going.{serials_one}

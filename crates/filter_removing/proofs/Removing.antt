@@ -9,9 +9,9 @@ use Rattle.filter_tables.specs.Places.{item_at, without_at}
 use Rattle.filter_tables.specs.Changes.{removed}
 use Rattle.filter_tables.specs.Rows.{tables_on, on_hook}
 use Rattle.action_plan.specs.Bound.{AreBound}
-use Rattle.kept_lists.specs.declared.kept.Kept.{Kept}
-use Rattle.kept_lists.specs.States.{both_of, state_of, AreKept}
-use Rattle.kept_lists.specs.Done.{IsDone}
+use Rattle.hook_lists.specs.declared.kept.Kept.{Kept}
+use Rattle.hook_lists.specs.States.{both_of, state_of, AreKept}
+use Rattle.hook_lists.specs.Done.{IsDone}
 use Rattle.filter_removing.specs.declared.removal.Removal.{Removal}
 use Rattle.filter_removing.specs.declared.removal.Removal.TheVariants as removals
 use Rattle.filter_removing.specs.Leaving.{filters_in, serials_in, HasTables, HaveLeft}

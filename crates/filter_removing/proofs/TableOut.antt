@@ -11,10 +11,10 @@ use Rattle.filter_index.specs.declared.filter.Filter.{Filter}
 use Rattle.filter_tables.specs.Plain.{PlainMask, PlainTable}
 use Rattle.filter_tables.specs.Places.{item_at, without_at}
 use Rattle.filter_tables.specs.Rows.{BothHooks, tables_on, on_hook, row_of, rows_of_mask}
-use Rattle.rows_changed.proofs.TableTaken.{table_rows_taken, table_rows_gone}
-use Rattle.rows_changed.proofs.Whole.{table_whole}
-use Rattle.kept_lists.specs.declared.kept.Kept.{Kept}
-use Rattle.kept_lists.specs.States.{both_of, AreKept}
+use Rattle.row_change_laws.proofs.TableTaken.{table_rows_taken, table_rows_gone}
+use Rattle.row_change_laws.proofs.Whole.{table_whole}
+use Rattle.hook_lists.specs.declared.kept.Kept.{Kept}
+use Rattle.hook_lists.specs.States.{both_of, AreKept}
 use Rattle.filter_removing.specs.declared.removal.Removal.TheVariants as removals
 use Rattle.filter_removing.specs.Removals.{IsReady}
 use Rattle.filter_removing.specs.Leaving.{filters_in, serials_in}

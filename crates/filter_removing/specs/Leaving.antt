@@ -5,8 +5,8 @@ use Rattle.filter_index.specs.declared.filter.Filter.{Filter}
 use Rattle.filter_tables.specs.Plain.{PlainMask}
 use Rattle.filter_tables.specs.Rows.{BothHooks}
 use Rattle.action_plan.specs.Entries.{actions_of}
-use Rattle.kept_lists.specs.declared.kept.Kept.{Kept}
-use Rattle.kept_lists.specs.States.{both_of}
+use Rattle.hook_lists.specs.declared.kept.Kept.{Kept}
+use Rattle.hook_lists.specs.States.{both_of}
 
 -- the filters of some masks, in order
 abbrev pub filters_in : List PlainMask → List Filter

@@ -10,8 +10,8 @@ use Rattle.filter_tables.specs.Plain.{PlainTable}
 use Rattle.filter_tables.specs.Places.{item_at, place_where}
 use Rattle.filter_tables.specs.Changes.{has_handle_in}
 use Rattle.filter_tables.specs.Rows.{tables_on}
-use Rattle.kept_lists.specs.declared.kept.Kept.{Kept}
-use Rattle.kept_lists.specs.States.{both_of, state_of}
+use Rattle.hook_lists.specs.declared.kept.Kept.{Kept}
+use Rattle.hook_lists.specs.States.{both_of, state_of}
 use Rattle.filter_removing.specs.declared.removal.Removal.{Removal}
 use Rattle.filter_removing.specs.declared.removal.Removal.TheVariants as removals
 

@@ -8,8 +8,8 @@ ghost use Rattle.filter_tables.specs.Seen.{plain_table};
 ghost use Rattle.filter_tables.specs.SeenMask.{plain_mask};
 ghost use Rattle.filter_tables.specs.Rows.{tables_on, on_hook};
 ghost use Rattle.action_plan.specs.Bound.{AreBound};
-ghost use Rattle.kept_lists.specs.States.{both_of, state_of, AreKept};
-ghost use Rattle.kept_lists.specs.Done.{IsDone};
+ghost use Rattle.hook_lists.specs.States.{both_of, state_of, AreKept};
+ghost use Rattle.hook_lists.specs.Done.{IsDone};
 ghost use Rattle.filter_removing.specs.Leaving.{filters_in, serials_in, HasTables, HaveLeft};
 ghost use Rattle.filter_removing.specs.Removals.{state_after, answer_of, IsReady};
 
@@ -17,7 +17,7 @@ use crate::removal::Removal;
 use filter_index::Filter;
 use filter_state::Done;
 use filter_tables::{FilterTable, MaskList};
-use kept_lists::{Kept, unbind};
+use hook_lists::{Kept, unbind};
 use tc_base::Hook;
 
 /// Takes out what was planned, and lets its actions go. It takes no memory.

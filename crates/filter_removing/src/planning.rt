@@ -5,14 +5,14 @@ ghost use Rattle.filter_tables.specs.Places.{item_at, place_where};
 ghost use Rattle.filter_tables.specs.Seen.{plain_table};
 ghost use Rattle.filter_tables.specs.Changes.{is_table};
 ghost use Rattle.filter_tables.specs.Rows.{tables_on};
-ghost use Rattle.kept_lists.specs.States.{both_of, state_of, AreKept};
+ghost use Rattle.hook_lists.specs.States.{both_of, state_of, AreKept};
 ghost use Rattle.filter_removing.specs.Planning.{step_found};
 ghost use Rattle.filter_removing.specs.Removals.{IsPlanned};
 
 use crate::removal::Removal;
 use filter_state::Refusal;
 use filter_tables::FilterTable;
-use kept_lists::{Kept, check_hook, check_protocol_if, find_table, table_at};
+use hook_lists::{Kept, check_hook, check_protocol_if, find_table, table_at};
 use tc_base::{Hook, Proto};
 
 /// What the edit takes out: the filter of the handle, or without one the whole table of that chain and pref.

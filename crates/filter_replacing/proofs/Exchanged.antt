@@ -10,18 +10,18 @@ use Rattle.filter_state.specs.Order.{SameRows}
 use Rattle.filter_index.specs.declared.filter.Filter.{Filter}
 use Rattle.filter_tables.specs.Plain.{PlainMask, PlainTable}
 use Rattle.filter_tables.specs.Rows.{tables_on, on_hook, row_of, all_rows, BothWhole}
-use Rattle.rows_changed.proofs.FilterTaken.{filter_rows_gone}
+use Rattle.row_change_laws.proofs.FilterTaken.{filter_rows_gone}
 use Rattle.order_laws.proofs.Same.{length_same}
 use Rattle.action_plan.specs.Bound.{AreBound}
 use Rattle.action_plan.specs.Entries.{actions_of}
 use Rattle.action_plan.specs.Plans.{made_of, carried}
-use Rattle.kept_lists.specs.declared.kept.Kept.{Kept}
-use Rattle.kept_lists.specs.States.{both_of, state_of, AreKept}
-use Rattle.kept_lists.specs.Steps.{SameTables}
-use Rattle.kept_lists.specs.Done.{IsDone}
-use Rattle.kept_lists.proofs.Covered.{covered_bound}
-use Rattle.kept_lists.proofs.Holding.{covered_gone}
-use Rattle.kept_lists.proofs.Later.{bound_later}
+use Rattle.hook_lists.specs.declared.kept.Kept.{Kept}
+use Rattle.hook_lists.specs.States.{both_of, state_of, AreKept}
+use Rattle.hook_lists.specs.Steps.{SameTables}
+use Rattle.hook_lists.specs.Done.{IsDone}
+use Rattle.hook_lists.proofs.Covered.{covered_bound}
+use Rattle.hook_lists.proofs.Holding.{covered_gone}
+use Rattle.hook_lists.proofs.Later.{bound_later}
 use Rattle.filter_replacing.specs.declared.replacement.Old.{Old}
 use Rattle.filter_replacing.specs.declared.replacement.Replacement.{Replacement}
 use Rattle.filter_replacing.specs.Replacements.{state_after, answer_of, IsOld, IsReady}

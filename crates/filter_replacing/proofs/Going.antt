@@ -20,15 +20,15 @@ use Rattle.filter_tables.specs.Places.{item_at, place_where}
 use Rattle.filter_tables.specs.Changes.{has_words}
 use Rattle.filter_tables.specs.Room.{masks_spare, filters_spare}
 use Rattle.filter_tables.specs.Rows.{tables_on, row_of, all_rows}
-use Rattle.rows_asked.specs.Asked.{unless_left_out}
-use Rattle.rows_asked.proofs.Masks.{mask_found, mask_some}
-use Rattle.rows_asked.proofs.Tables.{full_at}
-use Rattle.rows_asked.proofs.Together.{bytes_eq_true, table_together}
-use Rattle.kept_lists.specs.declared.kept.Kept.{Kept}
-use Rattle.kept_lists.specs.States.{both_of, room_on, state_of, AreKept}
-use Rattle.kept_lists.specs.Steps.{IsRoomier}
-use Rattle.kept_lists.proofs.Asked.{existing, exists_found}
-use Rattle.kept_lists.proofs.Sought.{place_within, place_nowhere, place_passes}
+use Rattle.row_lookup_laws.specs.Asked.{unless_left_out}
+use Rattle.row_lookup_laws.proofs.Masks.{mask_found, mask_some}
+use Rattle.row_lookup_laws.proofs.Tables.{full_at}
+use Rattle.row_lookup_laws.proofs.Together.{bytes_eq_true, table_together}
+use Rattle.hook_lists.specs.declared.kept.Kept.{Kept}
+use Rattle.hook_lists.specs.States.{both_of, room_on, state_of, AreKept}
+use Rattle.hook_lists.specs.Steps.{IsRoomier}
+use Rattle.hook_lists.proofs.Asked.{existing, exists_found}
+use Rattle.hook_lists.proofs.Sought.{place_within, place_nowhere, place_passes}
 use Rattle.filter_adding.specs.declared.arrival.Arrival.{Arrival}
 use Rattle.filter_adding.specs.Arrivals.{row_of_arrival, IsEmptyRoom}
 use Rattle.filter_replacing.specs.declared.replacement.Change.TheVariants as changes

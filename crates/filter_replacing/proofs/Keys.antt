@@ -15,13 +15,13 @@ use Rattle.filter_tables.specs.Places.{item_at}
 use Rattle.filter_tables.specs.Changes.{has_words}
 use Rattle.filter_tables.specs.Whole.{IsFull}
 use Rattle.filter_tables.specs.Rows.{row_of, rows_of_mask, rows_of_table}
-use Rattle.rows_asked.specs.Asked.{unless_left_out}
-use Rattle.rows_asked.proofs.Heads.{head_of, find_head}
-use Rattle.rows_asked.proofs.Blocks.{each_map}
-use Rattle.rows_asked.proofs.Pairs.{pairs_both, pairs_blocks, pairs_filter}
-use Rattle.rows_asked.proofs.Among.{NotBoth, among_at, among_found, one_kept}
-use Rattle.rows_asked.proofs.Masks.{words_kept, some_filters}
-use Rattle.rows_asked.proofs.Together.{bytes_eq_true}
+use Rattle.row_lookup_laws.specs.Asked.{unless_left_out}
+use Rattle.row_lookup_laws.proofs.Heads.{head_of, find_head}
+use Rattle.row_lookup_laws.proofs.Blocks.{each_map}
+use Rattle.row_lookup_laws.proofs.Pairs.{pairs_both, pairs_blocks, pairs_filter}
+use Rattle.row_lookup_laws.proofs.Among.{NotBoth, among_at, among_found, one_kept}
+use Rattle.row_lookup_laws.proofs.Masks.{words_kept, some_filters}
+use Rattle.row_lookup_laws.proofs.Together.{bytes_eq_true}
 
 -- ---- masks
 abbrev IsOf : PlainTable → PlainMask → Row → Type 0

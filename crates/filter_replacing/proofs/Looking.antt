@@ -20,13 +20,13 @@ use Rattle.filter_tables.specs.Plain.{PlainMask, PlainTable}
 use Rattle.filter_tables.specs.Places.{place_where}
 use Rattle.filter_tables.specs.Changes.{is_table}
 use Rattle.filter_tables.specs.Rows.{tables_on, row_of}
-use Rattle.rows_asked.proofs.Found.{whole_on}
-use Rattle.rows_asked.proofs.Among.{among_found}
+use Rattle.row_lookup_laws.proofs.Found.{whole_on}
+use Rattle.row_lookup_laws.proofs.Among.{among_found}
 use Rattle.action_plan.specs.declared.planned.PlannedAction.{PlannedAction}
 use Rattle.action_plan.specs.Plans.{carried, serials_of, AreFit, PlanTold}
-use Rattle.kept_lists.specs.declared.kept.Kept.{Kept}
-use Rattle.kept_lists.specs.States.{both_of, state_of, AreKept}
-use Rattle.kept_lists.proofs.Asked.{IsAt, clash_found}
+use Rattle.hook_lists.specs.declared.kept.Kept.{Kept}
+use Rattle.hook_lists.specs.States.{both_of, state_of, AreKept}
+use Rattle.hook_lists.proofs.Asked.{IsAt, clash_found}
 use Rattle.filter_replacing.specs.declared.replacement.Old.{Old}
 use Rattle.filter_replacing.specs.Replacements.{old_row, IsFound, IsOld}
 use Rattle.filter_replacing.specs.Planning.{refused_before, refused_after, resolved_to, IsAllowed, IsWithin, IsLooked}

@@ -14,9 +14,9 @@ use Rattle.filter_tables.specs.Rows.{all_rows, row_of}
 use Rattle.action_plan.specs.declared.planned.PlannedAction.{PlannedAction}
 use Rattle.action_plan.specs.Entries.{actions_of}
 use Rattle.action_plan.specs.Plans.{made_of, carried, serials_of}
-use Rattle.kept_lists.specs.declared.kept.Kept.{Kept}
-use Rattle.kept_lists.specs.States.{state_of}
-use Rattle.kept_lists.specs.Steps.{IsRoomier, PlanFits}
+use Rattle.hook_lists.specs.declared.kept.Kept.{Kept}
+use Rattle.hook_lists.specs.States.{state_of}
+use Rattle.hook_lists.specs.Steps.{IsRoomier, PlanFits}
 use Rattle.filter_replacing.specs.declared.replacement.Change.{Change}
 use Rattle.filter_replacing.specs.declared.replacement.Old.{Old}
 use Rattle.filter_replacing.specs.declared.replacement.Replacement.{Replacement}

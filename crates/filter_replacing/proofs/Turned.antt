@@ -13,13 +13,13 @@ use Rattle.filter_tables.specs.Plain.{PlainMask, PlainTable}
 use Rattle.filter_tables.specs.Places.{item_at}
 use Rattle.filter_tables.specs.Changes.{new_mask}
 use Rattle.filter_tables.specs.Rows.{BothHooks, on_hook, row_of, all_rows, BothWhole}
-use Rattle.rows_changed.proofs.Lists.{each_weaker}
-use Rattle.rows_changed.proofs.Whole.{actions_whole}
-use Rattle.rows_changed.proofs.MovedWhole.{moved_whole, moved_out_whole}
-use Rattle.rows_changed.proofs.FilterTaken.{actions_rows}
-use Rattle.rows_changed.proofs.Moved.{moved_rows, moved_out_rows}
-use Rattle.kept_lists.specs.declared.kept.Kept.{Kept}
-use Rattle.kept_lists.specs.States.{both_of, state_of, AreKept}
+use Rattle.row_change_laws.proofs.Lists.{each_weaker}
+use Rattle.row_change_laws.proofs.Whole.{actions_whole}
+use Rattle.row_change_laws.proofs.MovedWhole.{moved_whole, moved_out_whole}
+use Rattle.row_change_laws.proofs.FilterTaken.{actions_rows}
+use Rattle.row_change_laws.proofs.Moved.{moved_rows, moved_out_rows}
+use Rattle.hook_lists.specs.declared.kept.Kept.{Kept}
+use Rattle.hook_lists.specs.States.{both_of, state_of, AreKept}
 use Rattle.filter_adding.specs.declared.arrival.Arrival.{Arrival}
 use Rattle.filter_adding.specs.Arrivals.{row_of_arrival}
 use Rattle.filter_index.specs.Listed.{FilterRoom}

@@ -7,8 +7,8 @@ use Rattle.filter_tables.specs.Places.{item_at, place_where, change_at}
 use Rattle.filter_tables.specs.Changes.{has_handle_in, other_actions, moved, moved_out, in_masks}
 use Rattle.filter_tables.specs.Room.{Spare, TableRoom, masks_spare, filters_spare}
 use Rattle.filter_tables.specs.Rows.{BothHooks}
-use Rattle.kept_lists.specs.declared.kept.Kept.{Kept}
-use Rattle.kept_lists.specs.States.{both_of}
+use Rattle.hook_lists.specs.declared.kept.Kept.{Kept}
+use Rattle.hook_lists.specs.States.{both_of}
 use Rattle.filter_replacing.specs.declared.replacement.Change.{Change}
 use Rattle.filter_replacing.specs.declared.replacement.Change.TheVariants as changes
 use Rattle.filter_replacing.specs.declared.replacement.Old.{Old}

@@ -16,8 +16,8 @@ use Rattle.filter_tables.specs.Rows.{row_of}
 use Rattle.action_plan.specs.declared.planned.PlannedAction.{PlannedAction}
 use Rattle.action_plan.specs.Plans.{made_of, carried, serials_of, AreFit}
 use Rattle.filter_adding.specs.declared.arrival.Arrival.{Arrival}
-use Rattle.kept_lists.specs.declared.kept.Kept.{Kept}
-use Rattle.kept_lists.specs.States.{state_of}
+use Rattle.hook_lists.specs.declared.kept.Kept.{Kept}
+use Rattle.hook_lists.specs.States.{state_of}
 use Rattle.filter_replacing.specs.declared.replacement.Change.{Change}
 use Rattle.filter_replacing.specs.declared.replacement.Old.{Old}
 use Rattle.filter_replacing.specs.Replacements.{IsOld, IsPlace, changed, old_row}

@@ -18,9 +18,9 @@ use Rattle.filter_tables.specs.Changes.{has_handle_in}
 use Rattle.filter_tables.specs.Room.{masks_spare, filters_spare}
 use Rattle.filter_tables.specs.Rows.{row_of, tables_on}
 use Rattle.action_plan.specs.Plans.{carried}
-use Rattle.kept_lists.specs.declared.kept.Kept.{Kept}
-use Rattle.kept_lists.specs.States.{both_of, room_on, state_of}
-use Rattle.kept_lists.specs.Steps.{PlanFits}
+use Rattle.hook_lists.specs.declared.kept.Kept.{Kept}
+use Rattle.hook_lists.specs.States.{both_of, room_on, state_of}
+use Rattle.hook_lists.specs.Steps.{PlanFits}
 use Rattle.filter_adding.specs.declared.arrival.Arrival.{Arrival}
 use Rattle.filter_adding.specs.Arrivals.{row_of_arrival, IsEmptyRoom}
 use Rattle.filter_replacing.specs.declared.replacement.Change.{Change}

@@ -1,7 +1,7 @@
 //! Replacing a filter that was looked at.
 ghost use Rattle.std.specs.Prelude.{◌≡◌};
-ghost use Rattle.kept_lists.specs.States.{both_of, room_on, state_of, AreKept};
-ghost use Rattle.kept_lists.specs.Done.{IsDone};
+ghost use Rattle.hook_lists.specs.States.{both_of, room_on, state_of, AreKept};
+ghost use Rattle.hook_lists.specs.Done.{IsDone};
 ghost use Rattle.filter_index.specs.declared.filter.Filter.{Filter};
 ghost use Rattle.filter_tables.specs.Plain.{PlainMask, PlainTable};
 ghost use Rattle.filter_tables.specs.Rows.{row_of, tables_on, on_hook};
@@ -11,7 +11,7 @@ ghost use Rattle.filter_replacing.specs.Changing.{CanChange, WereThere, tables_c
 use crate::replacement::{Change, Old, Replacement};
 use filter_state::Done;
 use filter_tables::FilterTables;
-use kept_lists::{Kept, carry_out, unbind};
+use hook_lists::{Kept, carry_out, unbind};
 use tc_base::{Hook, Numbers};
 
 /// Binds and makes the new actions, changes or moves the filter, and lets its old actions go. It takes no memory.

@@ -3,13 +3,13 @@ ghost use Rattle.std.specs.Prelude.{◌≡◌, ◌<◌, length, Some};
 ghost use Rattle.filter_tables.specs.Places.{item_at};
 ghost use Rattle.filter_tables.specs.Seen.{plain_table};
 ghost use Rattle.filter_tables.specs.Rows.{tables_on};
-ghost use Rattle.kept_lists.specs.States.{both_of, AreKept};
+ghost use Rattle.hook_lists.specs.States.{both_of, AreKept};
 ghost use Rattle.filter_replacing.specs.Replacements.{IsFound};
 
 use crate::replacement::Old;
 use filter_state::FilterLine;
 use filter_tables::FilterTable;
-use kept_lists::{Kept, find_table, table_at};
+use hook_lists::{Kept, find_table, table_at};
 use tc_base::Hook;
 
 /// The filter of the line's hook, chain, pref and handle, if it is there.

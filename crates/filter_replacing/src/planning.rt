@@ -10,8 +10,8 @@ ghost use Rattle.filter_tables.specs.Places.{item_at};
 ghost use Rattle.filter_tables.specs.Room.{masks_spare, filters_spare};
 ghost use Rattle.filter_tables.specs.Rows.{tables_on};
 ghost use Rattle.filter_tables.specs.SeenMask.{plain_mask};
-ghost use Rattle.kept_lists.specs.States.{both_of, room_on, state_of, AreKept};
-ghost use Rattle.kept_lists.specs.Steps.{refusal_of, IsRoomier, PlanFits};
+ghost use Rattle.hook_lists.specs.States.{both_of, room_on, state_of, AreKept};
+ghost use Rattle.hook_lists.specs.Steps.{refusal_of, IsRoomier, PlanFits};
 ghost use Rattle.filter_replacing.specs.Planning.{refused_before, refused_after, resolved_to, is_same, arrival_of, IsAllowed, IsWithin, IsLooked, Leaves, HasChange};
 ghost use Rattle.filter_replacing.specs.Replacements.{old_row, IsFound, IsOld, IsPlanned};
 
@@ -21,7 +21,7 @@ use filter_adding::{Arrival, room_for_one};
 use filter_index::Filter;
 use filter_state::{FilterLine, Refusal};
 use filter_tables::MaskList;
-use kept_lists::{
+use hook_lists::{
     Kept, check_actions, check_hook, check_masks, check_match, check_protocol, mask_at,
     reserve_actions, resolve, table_at,
 };

@@ -2,7 +2,7 @@
 ghost use Rattle.std.specs.Prelude.{◌≡◌, ◌++◌, IfOk, OnOk};
 ghost use Rattle.gen_files.specs.Generated.{address_text, action_text, filter_line, batch_text};
 
-use batch_texts::push_number;
+use line_texts::push_number;
 use std::alloc::{AllocError, Global};
 use tc_base::NoMemory;
 

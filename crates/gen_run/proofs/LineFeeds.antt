@@ -7,8 +7,8 @@ use Rattle.std.proofs.lemmas.List.{length-map}
 use Rattle.std.proofs.lemmas.List.Sums.{sum_by-cons, sum_by-append}
 use Rattle.std.proofs.lemmas.List.Splits.{length-slice_split}
 use Rattle.tc_words.specs.Lines.{without_last_empty, lines_of, words_of}
-use Rattle.batch_texts.proofs.Joins.{and-left, and-right, not-true, avoids}
-use Rattle.batch_texts.proofs.Decimals.{decimal-avoids}
+use Rattle.line_texts.proofs.Joins.{and-left, and-right, not-true, avoids}
+use Rattle.line_texts.proofs.Decimals.{decimal-avoids}
 use Rattle.batch_run.specs.Commands.{Command, commands_from, commands_of}
 use Rattle.gen_files.specs.Generated.{address_text, action_text, filter_line, batch_text}
 use Rattle.gen_files.proofs.Growing.{batch_more}

@@ -6,7 +6,7 @@ use Rattle.std.proofs.lemmas.List.Sums.{sum_by-cons}
 use Rattle.filter_state.specs.declared.edit.Edit.{Edit}
 use Rattle.filter_state.specs.States.{State}
 use Rattle.filter_state.specs.Journals.{IsLawfulFrom}
-use Rattle.line_ranges.proofs.Lines.{says}
+use Rattle.line_range_laws.proofs.Lines.{says}
 use Rattle.run_report.specs.declared.events.Event.{Event}
 use Rattle.run_report.specs.declared.events.EventKind.{EventKind}
 use Rattle.run_report.specs.declared.events.EventKind.TheVariants as kinds

@@ -13,7 +13,7 @@ use Rattle.filter_state.specs.declared.edit.Edit.TheVariants as edits
 use Rattle.tc_words.specs.Lines.{lines_of, words_of, parts_between_blanks}
 use Rattle.tc_words.specs.Numbers.{number_of, decimal_of}
 use Rattle.tc_words.specs.Addresses.{ipv4_of, address_of}
-use Rattle.batch_words.specs.Forms.{protocol_of, ether_type_of}
+use Rattle.line_words.specs.Forms.{protocol_of, ether_type_of}
 use Rattle.tc_batch.specs.States.{State}
 use Rattle.tc_batch.specs.Grammar.{Gives}
 use Rattle.tc_batch.specs.Machine.{edit_at, run}

@@ -1,7 +1,7 @@
 -- The report of the worked run.
 use Rattle.std.proofs.Common.{◌≡◌, refl}
 use Rattle.std.specs.Fmt.{digits}
-use Rattle.batch_texts.specs.Texts.{handle_text}
+use Rattle.line_texts.specs.Texts.{handle_text}
 use Rattle.batch_walk.specs.Texts.{counted, end_text, action_text, count_text, edits_text, verdicts_text}
 use Rattle.run_report.specs.EventTexts.{filter_name, filter_text, edit_place}
 use Rattle.run_report.specs.PacketTexts.{packet_name, points_text}

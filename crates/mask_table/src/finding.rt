@@ -6,7 +6,7 @@ ghost use Rattle.store_history.specs.Reads.{read_all, read_first};
 ghost use Rattle.pin_store.specs.Calls.{seen_by, floor_start, IsInside, IsSeatOf, IsSameReader};
 ghost use Rattle.block_codec.specs.declared.filter.StoredFilter.{StoredFilter};
 ghost use Rattle.block_reading.specs.Read.{filter_in, mask_of_words};
-ghost use Rattle.chain_reading.specs.Ways.{block_words};
+ghost use Rattle.block_chain.specs.Ways.{block_words};
 ghost use Rattle.mask_table.specs.Buckets.{mask_root, bucket_root, bucket_for, IsAnswer};
 ghost use Rattle.mask_table.specs.Told.{LookedUp};
 
@@ -14,7 +14,7 @@ use crate::law::MaskLaw;
 use block_codec::StoredMask;
 use block_codec::places::{BUCKET_ROOTS, MASK_ROOTS, ROOTS, ROW_BUCKETS};
 use block_reading::{filter_in, mask_in};
-use chain_reading::Walk;
+use block_chain::Walk;
 use flow_fields::Key;
 use flow_mask::{hash, masked};
 use pin_store::{Reader, Steps, Store};

@@ -6,7 +6,7 @@ ghost use Rattle.mask_mirror.specs.Kept.{Stands};
 
 use crate::blocks::Blocks;
 use block_codec::StoredFilter;
-use chain_edits::rename;
+use mask_bucket_edits::rename;
 use mask_mirror::{Mirror, NumberRoom, gather_mask, place_in, put_in_front};
 use pin_store::{Shape, Store, Writer};
 use std::alloc::Global;

@@ -17,7 +17,7 @@ use crate::blocks::Blocks;
 use crate::mask_writer::MaskWriter;
 use block_codec::{StoredFilter, StoredMask};
 use mask_mirror::StoredFilters;
-use mask_raising::make_mask;
+use mask_build::make_mask;
 use pin_store::{Store, Writer};
 use std::slice;
 use store_history::{EditName, Law};

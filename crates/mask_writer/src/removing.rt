@@ -3,7 +3,7 @@
 use crate::blocks::Blocks;
 use crate::mask_writer::MaskWriter;
 use block_codec::StoredFilter;
-use chain_edits::{exchange, take_out};
+use mask_bucket_edits::{exchange, take_out};
 use pin_store::{Store, Writer};
 use store_history::{EditName, Law};
 use tc_base::Point;

@@ -10,7 +10,7 @@ use crate::mask_writer::MaskWriter;
 use block_codec::StoredMask;
 use mask_mirror::{Mirror, gather_mask};
 use mask_order::in_order;
-use mask_raising::{clear_buckets, lay_copies, raise, rows_of};
+use mask_build::{clear_buckets, lay_copies, raise, rows_of};
 use pin_store::{Store, Writer};
 use store_history::{EditName, Law};
 use tc_base::Point;
@@ -56,7 +56,7 @@ impl MaskWriter {
     ghost use Rattle.mask_mirror.specs.Lists.{HasFilters};
     ghost use Rattle.mask_mirror.specs.Linked.{placed, raise_commits};
     ghost use Rattle.mask_mirror.specs.Forgetting.{bucket_blocks};
-    ghost use Rattle.mask_raising.specs.Laid.{laid_in, IsLaid};
+    ghost use Rattle.mask_build.specs.Laid.{laid_in, IsLaid};
 
     // Lays the filters of the mask at a slot once more, in order, into given blocks, for a mask whose rows are free, and answers how many
     // they are. The blocks and rows that the mask at the slot has are told as those that leave.

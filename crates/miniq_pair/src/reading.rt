@@ -3,14 +3,14 @@ ghost use Rattle.std.specs.Prelude.{◌≡◌, ◌++◌, ◌∷◌, [], ◌+◌,
 ghost use mathlib.Core.List.{IsPrefix};
 ghost use Rattle.pin_store.specs.Calls.{seen_by, IsInside, IsSeatOf, IsSameReader};
 ghost use Rattle.visit_room.specs.Heads.{last_masks};
-ghost use Rattle.chain_reading.specs.Ways.{block_words};
+ghost use Rattle.block_chain.specs.Ways.{block_words};
 ghost use Rattle.miniq_pair.specs.Heads.{told_of, hook_number, head_root, HeadTold};
 
 use crate::law::HeadLaw;
 use block_codec::StoredTable;
 use block_codec::places::HEAD_ROOTS;
 use block_reading::table_in;
-use chain_reading::Walk;
+use block_chain::Walk;
 use pin_store::{Reader, Steps, Store};
 use std::sync::ledger::Ledger;
 use tc_base::{Hook, Point};

@@ -1,7 +1,7 @@
 -- The lines of a run's events. They are this project's own.
 use Rattle.std.specs.Prelude.{ℕ, ◌+◌, List, [], ◌∷◌, ◌++◌, map, take, codes, decimal}
 use Rattle.std.specs.List.{join_with_byte, enumerate_from}
-use Rattle.batch_texts.specs.Texts.{handle_text}
+use Rattle.line_texts.specs.Texts.{handle_text}
 use Rattle.filter_state.specs.declared.refusal.Done.{Done}
 use Rattle.filter_state.specs.declared.refusal.Done.TheVariants as dones
 use Rattle.tc_report.specs.Refusals.{refusal_words, syntax_words, refused_line}

@@ -5,7 +5,7 @@ ghost use Rattle.batch_walk.specs.Texts.{counted};
 ghost use Rattle.run_report.specs.EventTexts.{serials_text, filter_name, filter_text, action_made_text, done_text};
 
 use crate::pieces::push_text;
-use batch_texts::{push_handle, push_number};
+use line_texts::{push_handle, push_number};
 use batch_walk::push_count;
 use filter_state::Done;
 use std::alloc::AllocError;

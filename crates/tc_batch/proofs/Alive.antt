@@ -6,7 +6,7 @@ use Rattle.tc_words.specs.Numbers as numbers
 use Rattle.tc_words.specs.Hexadecimal as hexadecimal
 use Rattle.tc_words.specs.Addresses as addresses
 use Rattle.tc_words.specs.MacAddresses as mac_addresses
-use Rattle.batch_words.specs.Forms as forms
+use Rattle.line_words.specs.Forms as forms
 use Rattle.tc_base.specs.declared.hook.Hook.TheVariants.{Ingress}
 use Rattle.tc_base.specs.declared.hook.Proto.TheVariants.{All}
 use Rattle.tc_base.specs.declared.hook.Hook.{Hook}

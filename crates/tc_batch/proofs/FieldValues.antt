@@ -5,10 +5,10 @@ use Rattle.flow_fields.specs.Table as table
 use Rattle.flow_fields.specs.Table.{field_at}
 use Rattle.tc_words.specs.Addresses.{prefix_mask}
 use Rattle.tc_words.specs.Numbers.{number_of}
-use Rattle.batch_words.specs.Forms.{ether_type_of, ip_protocol_of}
-use Rattle.batch_words.proofs.Ranges.{ether_type_range, ip_protocol_range, masked_hex_range, masked_octet_range}
-use Rattle.batch_words.proofs.AddressRanges.{mac_range, ipv4_range}
-use Rattle.batch_words.proofs.Spelled.{number_at_most}
+use Rattle.line_words.specs.Forms.{ether_type_of, ip_protocol_of}
+use Rattle.line_words.proofs.Ranges.{ether_type_range, ip_protocol_range, masked_hex_range, masked_octet_range}
+use Rattle.line_words.proofs.AddressRanges.{mac_range, ipv4_range}
+use Rattle.line_words.proofs.Spelled.{number_at_most}
 use Rattle.tc_batch.specs.declared.field_name.FieldName.{FieldName}
 use Rattle.tc_batch.specs.declared.field_name.FieldName.TheVariants as names
 use Rattle.tc_batch.specs.FieldNames.{field_number, field_value, whole}

@@ -1,7 +1,7 @@
 -- What an action's words set: the tag of vlan, the marks of skbedit, and the action that comes of them.
 use Rattle.std.specs.Prelude.{ℕ, Bool, ◌||◌, List, Option, Some, None, is_some}
 use Rattle.std.specs.Option.{option_map, unwrap_or}
-use Rattle.batch_words.specs.Forms.{number_between, tpid_of, class_of}
+use Rattle.line_words.specs.Forms.{number_between, tpid_of, class_of}
 use Rattle.act_kinds.specs.declared.params.Kind.{Kind}
 use Rattle.act_kinds.specs.declared.params.Control.TheVariants as controls
 use Rattle.act_kinds.specs.declared.params.VlanOp.TheVariants as ops

@@ -5,7 +5,7 @@ use Rattle.std.specs.Str.{bytes_eq}
 use Rattle.tc_words.specs.Addresses.{ipv4_of}
 use Rattle.tc_words.specs.MacAddresses.{mac_of}
 use Rattle.tc_words.specs.Numbers.{number_of}
-use Rattle.batch_words.specs.Forms.{ether_type_of, ip_protocol_of, masked_hex_of, masked_octet_of}
+use Rattle.line_words.specs.Forms.{ether_type_of, ip_protocol_of, masked_hex_of, masked_octet_of}
 use Rattle.tc_batch.specs.declared.field_name.FieldName.{FieldName}
 use Rattle.tc_batch.specs.declared.field_name.FieldName.TheVariants as names
 

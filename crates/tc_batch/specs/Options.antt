@@ -1,7 +1,7 @@
 -- What may stand between a hook and `flower`, and the edits that come of it.
 use Rattle.std.specs.Prelude.{ℕ, Bool, true, false, ◌&&◌, not, List, Option, Some, None, is_some, if◌then◌else◌}
 use Rattle.std.specs.Option.{option_map, unwrap_or}
-use Rattle.batch_words.specs.Forms.{number_between, protocol_of}
+use Rattle.line_words.specs.Forms.{number_between, protocol_of}
 use Rattle.tc_base.specs.declared.hook.Hook.{Hook}
 use Rattle.filter_state.specs.declared.edit.Edit.{Edit}
 use Rattle.filter_state.specs.declared.edit.Edit.TheVariants as edits

@@ -1,11 +1,11 @@
 //! What the words of fields spell.
 ghost use Rattle.std.specs.Prelude.{◌≡◌, ◌≤◌};
 ghost use Rattle.tc_words.specs.Addresses.{ipv4_of};
-ghost use Rattle.batch_words.specs.Forms.{ether_type_of, ip_protocol_of};
+ghost use Rattle.line_words.specs.Forms.{ether_type_of, ip_protocol_of};
 ghost use Rattle.tc_batch.specs.FieldNames.{whole, field_value};
 
 use crate::field_name::FieldName;
-use batch_words::{read_ether_type, read_ip_protocol, read_masked_hex, read_masked_octet};
+use line_words::{read_ether_type, read_ip_protocol, read_masked_hex, read_masked_octet};
 use tc_words::{read_ipv4, read_mac, read_number};
 
 // A value that counts in all bits of a field of that width.

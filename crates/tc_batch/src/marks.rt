@@ -4,7 +4,7 @@ ghost use Rattle.tc_batch.specs.Actions.{no_marks, is_marked, with_mark, has_mar
 
 use crate::action_keywords::MarkName;
 use act_kinds::{Control, Params};
-use batch_words::{read_class, read_number_between};
+use line_words::{read_class, read_number_between};
 
 /// What stood of skbedit's three so far: `None` where the word didn't.
 #[derive(Clone, Copy, Debug, PartialEq, Eq)]

@@ -2,7 +2,7 @@
 ghost use Rattle.std.specs.Prelude.{◌≡◌};
 ghost use Rattle.tc_batch.specs.Options.{chain_number, index_number, pref_number};
 
-use batch_words::read_number_between;
+use line_words::read_number_between;
 
 // A chain, or a place to jump to.
 pub(crate) fn read_chain(word: &[u8]) -> Option<u32>

@@ -4,7 +4,7 @@ ghost use Rattle.tc_batch.specs.Options.{no_options, is_given, with_option, may_
 
 use crate::keywords::{FilterVerb, OptionName, QdiscVerb};
 use crate::numbers::{read_chain, read_index, read_pref};
-use batch_words::read_protocol;
+use line_words::read_protocol;
 use filter_state::Edit;
 use tc_base::{Hook, Proto};
 

@@ -4,7 +4,7 @@ ghost use Rattle.tc_batch.specs.Actions.{no_tag, is_tagged, with_tag, tag_params
 
 use crate::action_keywords::{TagName, TagVerb};
 use act_kinds::{Control, Params, VlanOp};
-use batch_words::{read_number_between, read_tpid};
+use line_words::{read_number_between, read_tpid};
 
 /// The EtherType of a customer's tag (IEEE 802.1Q, clause 9.5).
 const CUSTOMER_TAG: u16 = 0x8100;

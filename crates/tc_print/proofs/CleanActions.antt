@@ -4,12 +4,12 @@ use Rattle.std.specs.Prelude.{codes, IfSome}
 use Rattle.std.specs.List.{list_all}
 use Rattle.std.specs.Fmt.{decimal}
 use Rattle.std.proofs.lemmas.List.Folds.{list_all-append}
-use Rattle.batch_texts.specs.CleanWords.{is_clean}
-use Rattle.batch_texts.specs.Texts.{ether_type_text, class_text}
-use Rattle.batch_texts.proofs.Joins.{and-both}
-use Rattle.batch_texts.proofs.Decimals.{decimal-clean}
-use Rattle.batch_texts.proofs.EtherTypes.{ether_type-clean}
-use Rattle.batch_texts.proofs.Classes.{class-clean}
+use Rattle.line_texts.specs.CleanWords.{is_clean}
+use Rattle.line_texts.specs.Texts.{ether_type_text, class_text}
+use Rattle.line_texts.proofs.Joins.{and-both}
+use Rattle.line_texts.proofs.Decimals.{decimal-clean}
+use Rattle.line_texts.proofs.EtherTypes.{ether_type-clean}
+use Rattle.line_texts.proofs.Classes.{class-clean}
 use Rattle.act_kinds.specs.declared.params.Control.{Control}
 use Rattle.act_kinds.specs.declared.params.Control.TheVariants as controls
 use Rattle.act_kinds.specs.declared.params.Kind.{Kind}

@@ -9,13 +9,13 @@ use Rattle.tc_base.specs.declared.hook.Hook.TheVariants.{Ingress, Egress}
 use Rattle.tc_base.specs.declared.hook.Proto.{Proto}
 use Rattle.tc_base.specs.declared.hook.Proto.TheVariants.{All, Ether}
 use Rattle.tc_words.specs.Lines.{words_of}
-use Rattle.batch_texts.specs.CleanWords.{is_clean}
-use Rattle.batch_texts.specs.Texts.{protocol_text, handle_text}
-use Rattle.batch_texts.proofs.Joins.{and-left, and-right}
-use Rattle.batch_texts.proofs.Clean.{words-joined}
-use Rattle.batch_texts.proofs.Decimals.{decimal-clean}
-use Rattle.batch_texts.proofs.EtherTypes.{all-clean, ether_type-clean}
-use Rattle.batch_texts.proofs.Handles.{handle-clean}
+use Rattle.line_texts.specs.CleanWords.{is_clean}
+use Rattle.line_texts.specs.Texts.{protocol_text, handle_text}
+use Rattle.line_texts.proofs.Joins.{and-left, and-right}
+use Rattle.line_texts.proofs.Clean.{words-joined}
+use Rattle.line_texts.proofs.Decimals.{decimal-clean}
+use Rattle.line_texts.proofs.EtherTypes.{all-clean, ether_type-clean}
+use Rattle.line_texts.proofs.Handles.{handle-clean}
 use Rattle.act_kinds.specs.Ranges.{IsChain}
 use Rattle.filter_state.specs.declared.edit.FilterLine.{FilterLine}
 use Rattle.filter_state.specs.declared.edit.Edit.{Edit}

@@ -2,15 +2,15 @@
 use Rattle.std.proofs.Common.{◌≡◌, ℕ, ◌^◌, ◌<◌, Bool, true, false, List, [], ◌∷◌, lit<, refl, inl, inr, arith}
 use Rattle.std.specs.Prelude.{◌&&◌, ◌==◌, if◌then◌else◌}
 use Rattle.std.specs.List.{list_all}
-use Rattle.batch_texts.specs.CleanWords.{is_clean}
-use Rattle.batch_texts.specs.Texts.{ipv6_text, prefix_length_of, ipv6_length_of}
-use Rattle.batch_texts.proofs.Decimals.{decimal-clean}
-use Rattle.batch_texts.proofs.EtherTypes.{ether_type-clean}
-use Rattle.batch_texts.proofs.IpProtocols.{ip_protocol-clean}
-use Rattle.batch_texts.proofs.Ipv4Texts.{ipv4-clean}
-use Rattle.batch_texts.proofs.Ipv6Texts.{ipv6-clean}
-use Rattle.batch_texts.proofs.MacTexts.{mac-clean}
-use Rattle.batch_texts.proofs.Masked.{masked_hex-clean, masked_octet-clean}
+use Rattle.line_texts.specs.CleanWords.{is_clean}
+use Rattle.line_texts.specs.Texts.{ipv6_text, prefix_length_of, ipv6_length_of}
+use Rattle.line_texts.proofs.Decimals.{decimal-clean}
+use Rattle.line_texts.proofs.EtherTypes.{ether_type-clean}
+use Rattle.line_texts.proofs.IpProtocols.{ip_protocol-clean}
+use Rattle.line_texts.proofs.Ipv4Texts.{ipv4-clean}
+use Rattle.line_texts.proofs.Ipv6Texts.{ipv6-clean}
+use Rattle.line_texts.proofs.MacTexts.{mac-clean}
+use Rattle.line_texts.proofs.Masked.{masked_hex-clean, masked_octet-clean}
 use Rattle.tc_batch.specs.declared.field_name.FieldName.{FieldName}
 use Rattle.tc_batch.specs.declared.field_name.FieldName.TheVariants as names
 use Rattle.tc_batch.specs.FieldNames.{field_number}

@@ -3,11 +3,11 @@ use Rattle.std.proofs.Common.{◌≡◌, ℕ, ◌^◌, ◌<◌, ◌⊎◌, true,
 use Rattle.std.specs.Prelude.{codes, IfSome, IsSome}
 use Rattle.std.specs.Option.{option_map}
 use Rattle.std.specs.Fmt.{decimal}
-use Rattle.batch_words.specs.Forms.{tpid_of}
-use Rattle.batch_texts.specs.Texts.{ether_type_text, class_text}
-use Rattle.batch_texts.proofs.Decimals.{number-read_between}
-use Rattle.batch_texts.proofs.EtherTypes.{tpid-read}
-use Rattle.batch_texts.proofs.Classes.{class-read}
+use Rattle.line_words.specs.Forms.{tpid_of}
+use Rattle.line_texts.specs.Texts.{ether_type_text, class_text}
+use Rattle.line_texts.proofs.Decimals.{number-read_between}
+use Rattle.line_texts.proofs.EtherTypes.{tpid-read}
+use Rattle.line_texts.proofs.Classes.{class-read}
 use Rattle.act_kinds.specs.declared.params.Control.TheVariants as controls
 use Rattle.act_kinds.specs.declared.params.Kind.{Kind}
 use Rattle.act_kinds.specs.declared.params.Kind.TheVariants as kinds

@@ -2,9 +2,9 @@
 use Rattle.std.proofs.Common.{◌≡◌, ℕ, List, ◌++◌, Option, Some, None, refl, inl, inr, arith}
 use Rattle.std.specs.Prelude.{IfSome, IsSomeAnd}
 use Rattle.std.specs.Fmt.{decimal}
-use Rattle.batch_texts.specs.Texts.{handle_text}
-use Rattle.batch_texts.proofs.Decimals.{number-read_between}
-use Rattle.batch_texts.proofs.Handles.{handle-read}
+use Rattle.line_texts.specs.Texts.{handle_text}
+use Rattle.line_texts.proofs.Decimals.{number-read_between}
+use Rattle.line_texts.proofs.Handles.{handle-read}
 use Rattle.act_kinds.specs.declared.params.Control.{Control}
 use Rattle.act_kinds.specs.declared.params.Control.TheVariants as controls
 use Rattle.act_kinds.specs.declared.params.Params.{Params}

@@ -3,9 +3,9 @@ use Rattle.std.proofs.Common.{◌≡◌, ℕ, List, ◌∷◌, ◌++◌, Option,
 use Rattle.std.specs.Prelude.{codes, IfSome}
 use Rattle.std.specs.Option.{option_map}
 use Rattle.std.specs.Fmt.{decimal}
-use Rattle.batch_words.specs.Forms.{protocol_of}
-use Rattle.batch_texts.specs.Texts.{protocol_text, handle_text}
-use Rattle.batch_texts.proofs.EtherTypes.{protocol-all, protocol-read}
+use Rattle.line_words.specs.Forms.{protocol_of}
+use Rattle.line_texts.specs.Texts.{protocol_text, handle_text}
+use Rattle.line_texts.proofs.EtherTypes.{protocol-all, protocol-read}
 use Rattle.tc_base.specs.declared.hook.Proto.{Proto}
 use Rattle.tc_base.specs.declared.hook.Proto.TheVariants.{All, Ether}
 use Rattle.act_kinds.specs.Ranges.{IsChain}

@@ -8,9 +8,9 @@ use Rattle.std.proofs.lemmas.Nat.{and_shr, and_mod}
 use Rattle.flow_fields.specs.Values.{values_of}
 use Rattle.flow_fields.proofs.Puts.{value_at}
 use Rattle.tc_words.specs.Ipv6Addresses.{ipv6_of, ipv6_mask}
-use Rattle.batch_texts.specs.Texts.{ipv6_text, ipv6_length_of}
-use Rattle.batch_texts.proofs.Ipv6Texts.{ipv6-read}
-use Rattle.batch_texts.proofs.Lengths.{length-of_ipv6}
+use Rattle.line_texts.specs.Texts.{ipv6_text, ipv6_length_of}
+use Rattle.line_texts.proofs.Ipv6Texts.{ipv6-read}
+use Rattle.line_texts.proofs.Lengths.{length-of_ipv6}
 use Rattle.filter_state.specs.Fields.{IsPrefix, joined, AreFields, AreKeys}
 use Rattle.tc_batch.specs.declared.field_name.FieldName.{FieldName}
 use Rattle.tc_batch.specs.declared.field_name.FieldName.TheVariants as names

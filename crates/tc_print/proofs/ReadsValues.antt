@@ -8,15 +8,15 @@ use Rattle.flow_fields.specs.Table.{fields, field_at}
 use Rattle.flow_fields.specs.Values.{values_of}
 use Rattle.flow_fields.proofs.Puts.{value_at}
 use Rattle.tc_words.specs.Addresses.{ipv4_of}
-use Rattle.batch_texts.specs.Texts.{ipv4_text, ipv6_text, prefix_length_of}
-use Rattle.batch_texts.proofs.Decimals.{number-read}
-use Rattle.batch_texts.proofs.EtherTypes.{ether_type-read}
-use Rattle.batch_texts.proofs.IpProtocols.{ip_protocol-read}
-use Rattle.batch_texts.proofs.Ipv4Texts.{ipv4-read, ipv4-no_colon}
-use Rattle.batch_texts.proofs.Ipv6Texts.{ipv6-colon}
-use Rattle.batch_texts.proofs.Lengths.{length-of_prefix}
-use Rattle.batch_texts.proofs.MacTexts.{mac-read}
-use Rattle.batch_texts.proofs.Masked.{masked_hex-read, masked_octet-read}
+use Rattle.line_texts.specs.Texts.{ipv4_text, ipv6_text, prefix_length_of}
+use Rattle.line_texts.proofs.Decimals.{number-read}
+use Rattle.line_texts.proofs.EtherTypes.{ether_type-read}
+use Rattle.line_texts.proofs.IpProtocols.{ip_protocol-read}
+use Rattle.line_texts.proofs.Ipv4Texts.{ipv4-read, ipv4-no_colon}
+use Rattle.line_texts.proofs.Ipv6Texts.{ipv6-colon}
+use Rattle.line_texts.proofs.Lengths.{length-of_prefix}
+use Rattle.line_texts.proofs.MacTexts.{mac-read}
+use Rattle.line_texts.proofs.Masked.{masked_hex-read, masked_octet-read}
 use Rattle.filter_state.specs.Fields.{IsAllOrNone, IsPrefix, AreFields}
 use Rattle.tc_batch.specs.declared.field_name.FieldName.{FieldName}
 use Rattle.tc_batch.specs.declared.field_name.FieldName.TheVariants as names

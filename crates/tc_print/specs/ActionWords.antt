@@ -2,7 +2,7 @@
 -- written out, and in which order, is this project's own.
 use Rattle.std.specs.Prelude.{ℕ, List, [], ◌∷◌, ◌++◌, Option, Some, None, codes}
 use Rattle.std.specs.Fmt.{decimal}
-use Rattle.batch_texts.specs.Texts.{ether_type_text, class_text}
+use Rattle.line_texts.specs.Texts.{ether_type_text, class_text}
 use Rattle.act_kinds.specs.declared.params.Control.{Control}
 use Rattle.act_kinds.specs.declared.params.Control.TheVariants as controls
 use Rattle.act_kinds.specs.declared.params.Kind.{Kind}

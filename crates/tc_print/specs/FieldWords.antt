@@ -3,7 +3,7 @@ use Rattle.std.specs.Prelude.{ℕ, ◌+◌, ◌&&◌, ◌==◌, List, [], ◌∷
 use Rattle.std.specs.Fmt.{decimal}
 use Rattle.flow_fields.specs.Table.{field_at}
 use Rattle.flow_fields.specs.Values.{value_in}
-use Rattle.batch_texts.specs.Texts.{ether_type_text, ip_protocol_text, masked_hex_text, masked_octet_text, mac_text, ipv4_text, ipv6_text, prefix_length_of, ipv6_length_of}
+use Rattle.line_texts.specs.Texts.{ether_type_text, ip_protocol_text, masked_hex_text, masked_octet_text, mac_text, ipv4_text, ipv6_text, prefix_length_of, ipv6_length_of}
 use Rattle.tc_batch.specs.declared.field_name.FieldName.{FieldName}
 use Rattle.tc_batch.specs.declared.field_name.FieldName.TheVariants as names
 use Rattle.tc_batch.specs.FieldNames.{field_number}

@@ -1,6 +1,6 @@
 //! Actions.
 ghost use Rattle.std.specs.Prelude.{◌≡◌, [], ◌∷◌, ◌++◌, Some, fold, codes, decimal, OnOk};
-ghost use Rattle.batch_texts.specs.Texts.{ether_type_text};
+ghost use Rattle.line_texts.specs.Texts.{ether_type_text};
 ghost use Rattle.tc_print.specs.ActionWords.{number_words, index_words, tag_words, op_words, class_words, mark_words, params_words, given_words, action_words, list_words};
 ghost use Rattle.tc_print.specs.Texts.{onto};
 

@@ -3,7 +3,7 @@
 //! A field whose mask is 0 is not printed. The numbers of the fields are those of `flow_fields::field`.
 ghost use Rattle.std.specs.Prelude.{◌≡◌, ◌+◌, ◌^◌, ◌<◌, ◌==◌, ◌&&◌, ◌⊎◌, [], ◌∷◌, ◌++◌, fold, codes, decimal, OnOk, if◌then◌else◌};
 ghost use Rattle.flow_fields.specs.Table.{field_at};
-ghost use Rattle.batch_texts.specs.Texts.{ether_type_text, ip_protocol_text, masked_hex_text, masked_octet_text, mac_text, ipv4_text, ipv6_text, prefix_length_of, ipv6_length_of};
+ghost use Rattle.line_texts.specs.Texts.{ether_type_text, ip_protocol_text, masked_hex_text, masked_octet_text, mac_text, ipv4_text, ipv6_text, prefix_length_of, ipv6_length_of};
 ghost use Rattle.tc_batch.specs.declared.field_name.FieldName.TheVariants as names;
 ghost use Rattle.tc_print.specs.FieldWords.{value_by_number, words_by_number, field_words, prefix_words, named_words, link_names, ip_names, port_names, inner_names, octet_names, prefixes_words, fields_words};
 ghost use Rattle.tc_print.specs.Texts.{onto};

@@ -1,7 +1,7 @@
 //! What holds of all printed lines. The function does nothing: its contract is the law.
 ghost use Rattle.std.specs.Prelude.{IsTrue};
 ghost use Rattle.std.specs.List.{list_all};
-ghost use Rattle.batch_texts.specs.CleanWords.{is_clean};
+ghost use Rattle.line_texts.specs.CleanWords.{is_clean};
 ghost use Rattle.tc_words.specs.Lines.{words_of};
 ghost use Rattle.filter_state.specs.declared.edit.Edit.{Edit};
 ghost use Rattle.filter_state.specs.Lines.{IsLine};

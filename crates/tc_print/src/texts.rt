@@ -2,10 +2,10 @@
 //!
 //! Each function puts one space behind what is there, unless nothing is, and then its word.
 ghost use Rattle.std.specs.Prelude.{◌≡◌, ◌<◌, ◌^◌, [], ◌∷◌, fold, decimal, OnOk};
-ghost use Rattle.batch_texts.specs.Texts.{handle_text, protocol_text, ether_type_text, ip_protocol_text, class_text, masked_hex_text, masked_octet_text, mac_text, ipv4_text, ipv6_text, prefix_length_of, ipv6_length_of};
+ghost use Rattle.line_texts.specs.Texts.{handle_text, protocol_text, ether_type_text, ip_protocol_text, class_text, masked_hex_text, masked_octet_text, mac_text, ipv4_text, ipv6_text, prefix_length_of, ipv6_length_of};
 ghost use Rattle.tc_print.specs.Texts.{spaced, onto};
 
-use batch_texts::{
+use line_texts::{
     push_class, push_ether_type, push_handle, push_ip_protocol, push_ipv4, push_ipv6, push_mac,
     push_masked_hex, push_masked_octet, push_number, push_protocol,
 };

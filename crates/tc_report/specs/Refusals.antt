@@ -1,7 +1,7 @@
 -- The line that tells why a batch stopped (this project's own).
 use Rattle.std.specs.Prelude.{ℕ, List, [], ◌∷◌, ◌++◌, codes}
 use Rattle.std.specs.Fmt.{decimal}
-use Rattle.batch_texts.specs.Texts.{handle_text, protocol_text}
+use Rattle.line_texts.specs.Texts.{handle_text, protocol_text}
 use Rattle.filter_state.specs.declared.refusal.Refusal.{Refusal}
 use Rattle.filter_state.specs.declared.refusal.Refusal.TheVariants as refusals
 use Rattle.tc_print.specs.ActionWords.{kind_text}

@@ -3,11 +3,11 @@
 //! It grows at the end of a text that may hold lines, so its first word has no space before it and each other word has one.
 ghost use Rattle.std.specs.Prelude.{◌≡◌, [], ◌∷◌, ◌++◌, codes, decimal, OnOk};
 ghost use Rattle.std.specs.List.{join_with_byte};
-ghost use Rattle.batch_texts.specs.Texts.{handle_text, protocol_text};
+ghost use Rattle.line_texts.specs.Texts.{handle_text, protocol_text};
 ghost use Rattle.tc_report.specs.Refusals.{refusal_name, refusal_fields, refusal_words, syntax_words, place_words, refused_line};
 ghost use Rattle.tc_report.specs.Steps.{spaced_words};
 
-use batch_texts::{push_handle, push_number, push_protocol};
+use line_texts::{push_handle, push_number, push_protocol};
 use filter_state::Refusal;
 use std::alloc::AllocError;
 use tc_base::{NoMemory, Proto};

@@ -7,7 +7,7 @@ ghost use Rattle.filter_state.specs.Tables.{first_where};
 ghost use Rattle.filter_tables.specs.Rows.{row_of, rows_of_mask, rows_of_table, rows_of, tables_on};
 ghost use Rattle.filter_tables.specs.Seen.{plain_table};
 ghost use Rattle.filter_tables.specs.SeenMask.{plain_mask};
-ghost use Rattle.kept_lists.specs.States.{both_of};
+ghost use Rattle.hook_lists.specs.States.{both_of};
 ghost use Rattle.tc_print.specs.ActionWords.{list_words};
 ghost use Rattle.tc_print.specs.EditWords.{filter_words};
 ghost use Rattle.tc_print.specs.Texts.{onto};

@@ -9,9 +9,9 @@ use Rattle.filter_state.specs.States.{Row}
 use Rattle.filter_state.specs.Tables.{hook_eq}
 use Rattle.filter_state.specs.Sound.{Each, EachPair, GoTogether}
 use Rattle.order_laws.proofs.First.{each_weaker}
-use Rattle.row_order.specs.Sorted.{InOrder}
-use Rattle.row_order.specs.Rows.{hook_before, row_before}
-use Rattle.row_order.proofs.Orders.{by_number}
+use Rattle.row_order_laws.specs.Sorted.{InOrder}
+use Rattle.row_order_laws.specs.Rows.{hook_before, row_before}
+use Rattle.row_order_laws.proofs.Orders.{by_number}
 use Rattle.walk_rules.specs.Questions.{Head}
 use Rattle.walk_rules.specs.Heads.{head_with, in_front, with_row, heads_in}
 use Rattle.walk_rules.proofs.Listed.{any_has, each_both}

@@ -10,10 +10,10 @@ use Rattle.filter_state.specs.Tables.{hook_eq, in_hook}
 use Rattle.filter_state.specs.Order.{of_mask}
 use Rattle.filter_state.specs.Sound.{Sound, Each, GoTogether}
 use Rattle.order_laws.proofs.First.{each_weaker}
-use Rattle.row_order.specs.Sorted.{sorted}
-use Rattle.row_order.specs.Rows.{row_before}
-use Rattle.row_order.proofs.Sorting.{sorted_in_order}
-use Rattle.row_order.proofs.Orders.{row_order}
+use Rattle.row_order_laws.specs.Sorted.{sorted}
+use Rattle.row_order_laws.specs.Rows.{row_before}
+use Rattle.row_order_laws.proofs.Sorting.{sorted_in_order}
+use Rattle.row_order_laws.proofs.Orders.{row_order}
 use Rattle.walk_rules.specs.Questions.{Head}
 use Rattle.walk_rules.specs.Heads.{heads_on}
 use Rattle.walk_rules.proofs.Listed.{each_all, kept_have, unkept, any_has, sorted_have, unsorted, each_both, all_pairs, pairs_of_all, pairs_weaker}

@@ -6,7 +6,7 @@ use Rattle.std.proofs.lemmas.List.Sums.{sum_by-cons}
 use Rattle.filter_state.specs.Tables.{first_where}
 use Rattle.filter_state.specs.Sound.{Each, EachPair}
 use Rattle.order_laws.proofs.First.{each_weaker}
-use Rattle.row_order.specs.Sorted.{placed, sorted}
+use Rattle.row_order_laws.specs.Sorted.{placed, sorted}
 
 -- ---- elements of which all is said
 pub each_all : {X : Type 0} (P : X → Type 0) → ((x : X) → P x) → (xs : List X) → Each P xs

@@ -1,5 +1,5 @@
 use Rattle.tc_words.specs.Lines.{words_of}
-use Rattle.line_ranges.proofs.Lines.{says}
+use Rattle.line_range_laws.proofs.Lines.{says}
 use Rattle.batch_run.proofs.Answered.{accepts, refuses}
 use Rattle.batch_run.proofs.run.apply.Goals as goal
 

@@ -2,9 +2,9 @@ use Rattle.std.proofs.Common.{sym, ◌∙◌, ap}
 use Rattle.filter_state.specs.declared.refusal.Refusal.TheVariants as refusals
 use Rattle.filter_state.specs.Refusals.{when, handle_taken}
 use Rattle.filter_tables.specs.Seen.{plain_table}
-use Rattle.kept_lists.specs.States.{state_of}
-use Rattle.kept_lists.proofs.Asked.{IsAt}
-use Rattle.kept_lists.proofs.Sought.{place_within}
+use Rattle.hook_lists.specs.States.{state_of}
+use Rattle.hook_lists.proofs.Asked.{IsAt}
+use Rattle.hook_lists.proofs.Sought.{place_within}
 use Rattle.filter_adding.proofs.Asking.{taken_found, taken_nowhere}
 use Rattle.filter_adding.proofs.looking.check_handle.Goals as goal
 

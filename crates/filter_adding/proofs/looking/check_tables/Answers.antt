@@ -3,7 +3,7 @@ use Rattle.std.specs.Prelude.{nat_le}
 use Rattle.filter_state.specs.declared.refusal.Refusal.TheVariants as refusals
 use Rattle.filter_state.specs.Refusals.{when}
 use Rattle.filter_tables.specs.Rows.{tables_on}
-use Rattle.kept_lists.specs.States.{both_of}
+use Rattle.hook_lists.specs.States.{both_of}
 use Rattle.filter_adding.proofs.Asking.{full_is}
 use Rattle.filter_adding.proofs.looking.check_tables.Goals as goal
 

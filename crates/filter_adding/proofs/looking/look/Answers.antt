@@ -1,5 +1,5 @@
 use Rattle.std.proofs.Common.{◌≡◌, Err, sym, rules}
-use Rattle.kept_lists.specs.States.{state_of}
+use Rattle.hook_lists.specs.States.{state_of}
 use Rattle.action_plan.specs.Plans.{made_of}
 use Rattle.filter_state.specs.Steps.{filter_add, resolved_for}
 use Rattle.filter_adding.specs.Looks.{resolved_by_plan}

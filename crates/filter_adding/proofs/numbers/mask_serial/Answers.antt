@@ -1,7 +1,7 @@
 use Rattle.std.proofs.Common.{subst}
 use Rattle.filter_tables.specs.Seen.{plain_table}
 use Rattle.filter_tables.specs.Rows.{tables_on}
-use Rattle.kept_lists.specs.States.{both_of}
+use Rattle.hook_lists.specs.States.{both_of}
 use Rattle.filter_adding.specs.Seats.{IsThere}
 use Rattle.filter_adding.proofs.numbers.mask_serial.Goals as goal
 

@@ -2,7 +2,7 @@ use Rattle.std.proofs.Common.{ℕ, List, sym, subst, arith}
 use Rattle.filter_tables.specs.Changes.{is_table}
 use Rattle.filter_tables.specs.Rows.{tables_on}
 use Rattle.action_plan.specs.Plans.{made_of, carried}
-use Rattle.kept_lists.specs.States.{both_of, room_on, state_of}
+use Rattle.hook_lists.specs.States.{both_of, room_on, state_of}
 use Rattle.filter_adding.specs.Seats.{IsThere}
 use Rattle.action_plan.specs.declared.planned.PlannedAction.{PlannedAction}
 use Rattle.filter_adding.specs.Ready.{IsArrival, IsAdded}

@@ -1,5 +1,5 @@
 use Rattle.std.proofs.Common.{refl, sym, ◌∙◌}
-use Rattle.kept_lists.proofs.Sought.{place_within}
+use Rattle.hook_lists.proofs.Sought.{place_within}
 use Rattle.filter_adding.proofs.Seats.{mask_found, mask_lacking}
 use Rattle.filter_adding.proofs.seating.seat_in_table.Goals as goal
 

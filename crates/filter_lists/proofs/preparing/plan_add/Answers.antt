@@ -1,5 +1,5 @@
 use Rattle.filter_state.specs.Steps.{filter_add}
-use Rattle.kept_lists.specs.States.{state_of}
+use Rattle.hook_lists.specs.States.{state_of}
 use Rattle.filter_lists.proofs.Families.{addition_refused}
 use Rattle.filter_lists.proofs.preparing.plan_add.Goals as goal
 

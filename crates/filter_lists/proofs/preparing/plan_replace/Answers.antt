@@ -1,6 +1,6 @@
 use Rattle.std.proofs.Common.{sym, subst}
 use Rattle.filter_lists.specs.Plans.{IsPlanned}
-use Rattle.kept_lists.specs.States.{state_of}
+use Rattle.hook_lists.specs.States.{state_of}
 use Rattle.filter_replacing.specs.Replacements.{IsFound}
 use Rattle.filter_lists.proofs.Families.{is_add, is_replace}
 use Rattle.filter_lists.proofs.preparing.plan_replace.Goals as goal

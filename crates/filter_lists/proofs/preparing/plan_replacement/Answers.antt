@@ -1,5 +1,5 @@
 use Rattle.filter_state.specs.Steps.{replace_at}
-use Rattle.kept_lists.specs.States.{state_of}
+use Rattle.hook_lists.specs.States.{state_of}
 use Rattle.filter_lists.proofs.Families.{replacement_refused}
 use Rattle.filter_lists.proofs.preparing.plan_replacement.Goals as goal
 

@@ -1,6 +1,6 @@
 use Rattle.std.proofs.Common.{sym, ◌∙◌}
 use Rattle.filter_tables.specs.Seen.{plain_table}
-use Rattle.kept_lists.proofs.Sought.{place_within}
+use Rattle.hook_lists.proofs.Sought.{place_within}
 use Rattle.filter_removing.proofs.Planned.{refused_no_filter, filter_planned}
 use Rattle.filter_removing.proofs.planning.plan_filter.Goals as goal
 

@@ -1,8 +1,8 @@
 use Rattle.std.proofs.Common.{Ok, sym, subst}
 use Rattle.filter_tables.specs.Rows.{tables_on}
 use Rattle.filter_tables.proofs.Moves.{item_there}
-use Rattle.kept_lists.specs.States.{both_of, state_of}
-use Rattle.kept_lists.proofs.Sought.{place_within}
+use Rattle.hook_lists.specs.States.{both_of, state_of}
+use Rattle.hook_lists.proofs.Sought.{place_within}
 use Rattle.filter_removing.specs.declared.removal.Removal.TheVariants as removals
 use Rattle.filter_removing.specs.Planning.{step_found}
 use Rattle.filter_removing.specs.Removals.{IsPlanned}

@@ -1,5 +1,5 @@
 use Rattle.std.proofs.Common.{sym, ◌∙◌, ap, subst}
-use Rattle.kept_lists.specs.Steps.{refusal_of}
+use Rattle.hook_lists.specs.Steps.{refusal_of}
 use Rattle.filter_removing.specs.Removals.{IsPlanned}
 use Rattle.filter_removing.proofs.Planned.{refused_no_table, step_goes_on}
 use Rattle.filter_removing.proofs.planning.plan_removal.Goals as goal

@@ -1,6 +1,6 @@
 use Rattle.std.proofs.Common.{sym, subst}
 use Rattle.filter_tables.specs.Rows.{tables_on}
-use Rattle.kept_lists.specs.States.{both_of}
+use Rattle.hook_lists.specs.States.{both_of}
 use Rattle.filter_replacing.specs.Changing.{WereThere}
 use Rattle.filter_replacing.proofs.Exchanged.{Changes, old_bound, replaced}
 use Rattle.filter_replacing.proofs.doing.replace.Goals as goal

@@ -1,6 +1,6 @@
 use Rattle.std.proofs.Common.{sym, ◌∙◌, subst}
 use Rattle.filter_tables.specs.Seen.{plain_table}
-use Rattle.kept_lists.proofs.Sought.{place_within}
+use Rattle.hook_lists.proofs.Sought.{place_within}
 use Rattle.filter_replacing.specs.Replacements.{IsFound}
 use Rattle.filter_replacing.proofs.Found.{no_table, no_old, old_found}
 use Rattle.filter_replacing.proofs.finding.find_old.Goals as goal

@@ -3,8 +3,8 @@ use Rattle.std.proofs.lemmas.Result.{err_from_is_err_and}
 use Rattle.action_plan.specs.Plans.{made_of, plan_or}
 use Rattle.filter_state.specs.declared.refusal.Refusal.{Refusal}
 use Rattle.filter_state.specs.Steps.{resolved_for}
-use Rattle.kept_lists.specs.States.{state_of}
-use Rattle.kept_lists.specs.Steps.{refusal_of}
+use Rattle.hook_lists.specs.States.{state_of}
+use Rattle.hook_lists.specs.Steps.{refusal_of}
 use Rattle.filter_replacing.specs.Planning.{IsLooked}
 use Rattle.filter_replacing.proofs.Looking.{told_err, told_ok, before_refused, resolving_refused, after_refused, looked}
 use Rattle.filter_replacing.proofs.planning.look.Goals as goal

@@ -4,7 +4,7 @@ use Rattle.store_history.specs.History.{root_of}
 use Rattle.store_history.specs.Reads.{read_first}
 use Rattle.block_reading.specs.Read.{mask_of_words}
 use Rattle.pin_store.specs.Calls.{seen_by}
-use Rattle.chain_reading.proofs.Chains.{first_read, none_read}
+use Rattle.block_chain.proofs.Chains.{first_read, none_read}
 use Rattle.mask_table.proofs.finding.load_mask.Goals as goal
 
 pub returns-then-not-next_block-clause-mask : goal.returns-then-not-next_block-clause-mask

@@ -8,7 +8,7 @@ use Rattle.store_history.specs.Reads.{read_all}
 use Rattle.pin_store.specs.Calls.{seen_by}
 use Rattle.block_codec.specs.declared.filter.StoredFilter.{StoredFilter}
 use Rattle.block_reading.specs.Read.{filter_in}
-use Rattle.chain_reading.proofs.Chains.{read_at, read_length}
+use Rattle.block_chain.proofs.Chains.{read_at, read_length}
 use Rattle.mask_table.proofs.finding.search.Goals as goal
 
 pub returns-in_default-clause-found : goal.returns-in_default-clause-found

@@ -4,7 +4,7 @@ use Rattle.store_history.specs.Reads.{read_all}
 use Rattle.pin_store.specs.Calls.{seen_by, IsSeatAt}
 use Rattle.block_codec.specs.declared.filter.StoredFilter.{StoredFilter}
 use Rattle.block_reading.specs.Read.{filter_in}
-use Rattle.chain_reading.specs.Ways.{IsBefore}
+use Rattle.block_chain.specs.Ways.{IsBefore}
 use Rattle.mask_table.proofs.finding.search.Given as goal
 
 abbrev pub invariant-loop-walk : goal.invariant-loop-walk

@@ -5,7 +5,7 @@ use Rattle.store_history.specs.declared.history.Commit.{Commit}
 use Rattle.store_history.specs.History.{root_of}
 use Rattle.pin_store.specs.Calls.{seen_by, floor_start}
 use Rattle.block_reading.specs.Read.{table_in}
-use Rattle.chain_reading.proofs.Chains.{read_at, read_length}
+use Rattle.block_chain.proofs.Chains.{read_at, read_length}
 use Rattle.miniq_pair.specs.Heads.{head_root, told_of, HeadTold}
 use Rattle.miniq_pair.proofs.Putting.{at_end, few_tables, one_more}
 use Rattle.miniq_pair.proofs.reading.head.Goals as goal

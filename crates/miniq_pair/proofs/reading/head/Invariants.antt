@@ -4,7 +4,7 @@ use Rattle.store_history.specs.Reads.{read_all}
 use Rattle.pin_store.specs.Calls.{seen_by, IsSeatAt}
 use Rattle.block_codec.specs.declared.table.StoredTable.{StoredTable}
 use Rattle.block_reading.specs.Read.{table_in}
-use Rattle.chain_reading.specs.Ways.{IsBefore}
+use Rattle.block_chain.specs.Ways.{IsBefore}
 use Rattle.miniq_pair.specs.Heads.{head_root, told_of}
 use Rattle.miniq_pair.proofs.reading.head.Given as goal
 

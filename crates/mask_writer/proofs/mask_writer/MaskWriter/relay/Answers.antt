@@ -9,7 +9,7 @@ use Rattle.mask_mirror.specs.Kept.{HasFilter}
 use Rattle.mask_mirror.specs.Lists.{kept_in}
 use Rattle.mask_mirror.proofs.Lasting.{kept_same}
 use Rattle.mask_order.proofs.Buckets.{long_ordered}
-use Rattle.mask_raising.proofs.Aside.{free_rows_same}
+use Rattle.mask_build.proofs.Aside.{free_rows_same}
 use Rattle.mask_writer.proofs.Leaving.{all_old}
 use Rattle.mask_writer.proofs.mask_writer.MaskWriter.relay.Goals as goal
 

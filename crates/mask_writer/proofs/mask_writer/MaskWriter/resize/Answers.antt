@@ -11,9 +11,9 @@ use Rattle.mask_mirror.specs.Lists.{age_of, Rises, HasFilters}
 use Rattle.mask_mirror.specs.Linked.{placed, raise_commits, resized}
 use Rattle.mask_mirror.proofs.Keeping.{same_base}
 use Rattle.mask_order.proofs.Buckets.{long_dated}
-use Rattle.mask_raising.specs.Laid.{places, laid_in}
-use Rattle.mask_raising.proofs.Aside.{free_rows_same}
-use Rattle.mask_raising.proofs.Bringing.{few_given, laid_ready, laid_commits, filters_laid, dates_laid}
+use Rattle.mask_build.specs.Laid.{places, laid_in}
+use Rattle.mask_build.proofs.Aside.{free_rows_same}
+use Rattle.mask_build.proofs.Bringing.{few_given, laid_ready, laid_commits, filters_laid, dates_laid}
 use Rattle.mask_writer.proofs.mask_writer.MaskWriter.resize.Goals as goal
 
 pub relay-count-requires-clause-many : goal.relay-count-requires-clause-many

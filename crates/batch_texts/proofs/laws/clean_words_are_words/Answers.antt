@@ -1,5 +1,0 @@
-use Rattle.batch_texts.proofs.Clean.{words-joined}
-use Rattle.batch_texts.proofs.laws.clean_words_are_words.Goals as goal
-
-pub returns : goal.returns
-returns c = words-joined

@@ -1,6 +1,0 @@
-use Rattle.std.proofs.Common.{ℕ, ◌<◌}
-use Rattle.chain_edits.proofs.Buckets.{IsInBucket}
-use Rattle.chain_edits.proofs.finding.find_among.Given as goal
-
-abbrev pub invariant-loop-bucket : goal.invariant-loop-bucket
-invariant-loop-bucket l = (k : ℕ) → k < l.bucket → IsInBucket l.mirror l.kept l.handle k → ⊥

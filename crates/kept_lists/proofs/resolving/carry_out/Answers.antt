@@ -1,6 +1,0 @@
-use Rattle.kept_lists.specs.States.{state_of}
-use Rattle.kept_lists.proofs.Holding.{few_references}
-use Rattle.kept_lists.proofs.resolving.carry_out.Goals as goal
-
-pub carry_out-requires-clause-references : goal.carry_out-requires-clause-references
-carry_out-requires-clause-references c = few_references (state_of c.args.kept.now) _ c.requires.kept.sound c.len.ensures.short

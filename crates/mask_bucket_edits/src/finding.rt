@@ -1,0 +1,104 @@
+//! Where the filter with a handle stands.
+ghost use Rattle.std.specs.Prelude.{◌≡◌, ◌+◌, ◌<◌, ◌≤◌, ◌↔◌, ℕ, List, length, slice_get, slice_index, Some, None, IfSome, IsTrue, All};
+ghost use Rattle.store_history.specs.declared.history.Named.{Named};
+ghost use Rattle.pin_store.specs.declared.shape.Shape.{Shape};
+ghost use Rattle.block_codec.specs.declared.filter.StoredFilter.{StoredFilter};
+ghost use Rattle.mask_mirror.specs.declared.mirror.KeptMask.{KeptMask};
+ghost use Rattle.mask_mirror.specs.Kept.{Stands, Spells, IsKept};
+ghost use Rattle.mask_mirror.specs.Changing.{FilterAt};
+ghost use Rattle.mask_bucket_edits.specs.Finding.{HasHandle, IsFound};
+
+use mask_mirror::{KeptMask, Mirror, NumberRoom, gather, place_of};
+
+/// Where a filter of a mask stands: the place of its bucket among those of all rows, and how many filters of the bucket are in front of it.
+#[derive(Clone, Copy, Debug)]
+pub struct Found {
+    pub place: u32,
+    pub front: usize,
+}
+
+// A filter with the handle is kept in the block.
+fn has_handle(mirror: &Mirror, block: u32, handle: u32) -> bool
+    requires { block < 16384 }
+    ensures { IsTrue result ↔ HasHandle mirror.now.filters.items handle block }
+{
+    match &mirror.filters[block as usize] {
+        Some(filter) => filter.handle == handle,
+        None => false,
+    }
+}
+
+// How many of the blocks stand in front of one with such a filter, or None where there is none.
+pub(crate) fn count_before(mirror: &Mirror, blocks: &[u32], handle: u32) -> Option<usize>
+    requires { All (λ b. b < 16384) blocks.now }
+    ensures found { IfSome result (λ count. (b : ℕ) × (slice_get blocks.now count ≡ Some b) × HasHandle mirror.now.filters.items handle b) }
+    ensures none { result ≡ None → (place b : ℕ) → slice_get blocks.now place ≡ Some b → HasHandle mirror.now.filters.items handle b → ⊥ }
+{
+    for count in 0..blocks.len() {
+        if has_handle(mirror, blocks[count], handle) {
+            return Some(count);
+        }
+    }
+    None
+}
+
+// Puts the chain of the bucket at a place into the room, and answers how many of its filters stand in front of one with the handle, if there is one.
+fn look(room: &mut NumberRoom, mirror: &Mirror, place: u32, handle: u32) -> Option<usize>
+    requires small { place < 131072 }
+    requires spelled { (blocks : List ℕ) × Spells mirror.now.next.items (slice_index mirror.now.first.items place) blocks }
+    ensures room { (blocks : List ℕ) → Spells mirror.now.next.items (slice_index mirror.now.first.items place) blocks → room.new ≡ blocks }
+    ensures found { IfSome result (λ count. (b : ℕ) × (slice_get room.new count ≡ Some b) × HasHandle mirror.now.filters.items handle b) }
+    ensures none { result ≡ None → (place b : ℕ) → slice_get room.new place ≡ Some b → HasHandle mirror.now.filters.items handle b → ⊥ }
+{
+    room.clear();
+    gather(room, &mirror.next, mirror.first[place as usize]);
+    count_before(mirror, room.as_slice(), handle)
+}
+
+// Looks for the handle in all buckets of a mask that stands.
+fn find_among(room: &mut NumberRoom, mirror: &Mirror, kept: &KeptMask, handle: u32) -> Found
+    requires there { (slot : ℕ) × (shape : Shape) × (cells : List ℕ) × (roots : ℕ → Named) × (root : ℕ) × (front : List StoredFilter) × (filter : StoredFilter)
+        × Stands mirror.now slot kept.now × IsKept mirror.now shape cells roots × FilterAt roots kept.now.mask handle root front filter }
+    ensures small { result.place < 131072 }
+    ensures found { (slot : ℕ) (shape : Shape) (cells : List ℕ) (roots : ℕ → Named) → Stands mirror.now slot kept.now → IsKept mirror.now shape cells roots
+        → IsFound roots kept.now.mask handle result.place result.front room.new }
+{
+    for bucket in 0..kept.mask.size {
+        let place = place_of(&kept.mask, bucket);
+        if let Some(front) = look(room, mirror, place, handle) {
+            return Found { place, front };
+        }
+    }
+    unreachable!()
+}
+
+/// Finds a filter with a handle in the mask at a slot, which has one, and puts the chain of its bucket into the room.
+pub fn find(room: &mut NumberRoom, mirror: &Mirror, slot: u32, handle: u32) -> Found
+    requires slot { slot < 8192 }
+    requires there { (kept : KeptMask) × (shape : Shape) × (cells : List ℕ) × (roots : ℕ → Named) × (root : ℕ) × (front : List StoredFilter) × (filter : StoredFilter)
+        × Stands mirror.now slot kept × IsKept mirror.now shape cells roots × FilterAt roots kept.mask handle root front filter }
+    ensures small { result.place < 131072 }
+    ensures found { (kept : KeptMask) (shape : Shape) (cells : List ℕ) (roots : ℕ → Named) → Stands mirror.now slot kept → IsKept mirror.now shape cells roots
+        → IsFound roots kept.mask handle result.place result.front room.new }
+{
+    match &mirror.slots[slot as usize] {
+        Some(kept) => find_among(room, mirror, kept, handle),
+        None => unreachable!(),
+    }
+}
+
+/// How many filters stand in front of one with a handle in the bucket at a place, which has one. The bucket's chain is put into the
+/// room.
+pub fn find_in(room: &mut NumberRoom, mirror: &Mirror, place: u32, handle: u32) -> usize
+    requires small { place < 131072 }
+    requires there { (slot : ℕ) × (kept : KeptMask) × (shape : Shape) × (cells : List ℕ) × (roots : ℕ → Named) × (front : List StoredFilter) × (filter : StoredFilter)
+        × Stands mirror.now slot kept × IsKept mirror.now shape cells roots × FilterAt roots kept.mask handle (10243 + place) front filter }
+    ensures found { (slot : ℕ) (kept : KeptMask) (shape : Shape) (cells : List ℕ) (roots : ℕ → Named) (front : List StoredFilter) (filter : StoredFilter)
+        → Stands mirror.now slot kept → IsKept mirror.now shape cells roots → FilterAt roots kept.mask handle (10243 + place) front filter
+        → IsFound roots kept.mask handle place result room.new }
+{
+    match look(room, mirror, place, handle) {
+        Some(front) => front,
+        None => unreachable!(),
+    }
+}

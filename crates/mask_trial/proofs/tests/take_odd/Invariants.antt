@@ -1,6 +1,0 @@
-use Rattle.pin_store.specs.Calls.{IsInside, IsSeatOf}
-use Rattle.mask_trial.specs.Trial.{IsTried, IsAtRest}
-use Rattle.mask_trial.proofs.tests.take_odd.Given as goal
-
-abbrev pub invariant-loop-half : goal.invariant-loop-half
-invariant-loop-half l = IsSeatOf l.store l.writer.place × IsSeatOf l.store l.reader.place × IsInside l.reader.place × IsTried l.trial l.store.shape l.writer.place × IsAtRest l.trial

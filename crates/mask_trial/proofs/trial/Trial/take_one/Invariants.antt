@@ -1,5 +1,0 @@
-use Rattle.lone_mask.specs.declared.change.Change.TheVariants as changes
-use Rattle.mask_trial.proofs.trial.Trial.take_one.Given as goal
-
-abbrev pub ghosts-remove : goal.ghosts-remove
-ghosts-remove a = record { edit = changes.Take a.handle }
