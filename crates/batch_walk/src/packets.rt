@@ -3,9 +3,9 @@ ghost use Rattle.std.specs.Prelude.{◌≡◌, ◌++◌, OnOk};
 ghost use Rattle.batch_walk.specs.Texts.{verdict_text, meta_text, end_text, packet_line};
 
 use crate::pieces::{push_count, push_text};
-use line_texts::push_class;
 use capture_walk::PacketEnd;
 use frame_edit::Meta;
+use line_texts::push_class;
 use std::alloc::AllocError;
 use walk_rules::Verdict;
 

@@ -11,10 +11,10 @@ ghost use Rattle.mask_table.specs.Buckets.{mask_root, bucket_root, bucket_for, I
 ghost use Rattle.mask_table.specs.Told.{LookedUp};
 
 use crate::law::MaskLaw;
+use block_chain::Walk;
 use block_codec::StoredMask;
 use block_codec::places::{BUCKET_ROOTS, MASK_ROOTS, ROOTS, ROW_BUCKETS};
 use block_reading::{filter_in, mask_in};
-use block_chain::Walk;
 use flow_fields::Key;
 use flow_mask::{hash, masked};
 use pin_store::{Reader, Steps, Store};

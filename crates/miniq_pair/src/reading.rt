@@ -7,10 +7,10 @@ ghost use Rattle.block_chain.specs.Ways.{block_words};
 ghost use Rattle.miniq_pair.specs.Heads.{told_of, hook_number, head_root, HeadTold};
 
 use crate::law::HeadLaw;
+use block_chain::Walk;
 use block_codec::StoredTable;
 use block_codec::places::HEAD_ROOTS;
 use block_reading::table_in;
-use block_chain::Walk;
 use pin_store::{Reader, Steps, Store};
 use std::sync::ledger::Ledger;
 use tc_base::{Hook, Point};

@@ -5,9 +5,9 @@ ghost use Rattle.batch_walk.specs.Texts.{counted};
 ghost use Rattle.run_report.specs.EventTexts.{serials_text, filter_name, filter_text, action_made_text, done_text};
 
 use crate::pieces::push_text;
-use line_texts::{push_handle, push_number};
 use batch_walk::push_count;
 use filter_state::Done;
+use line_texts::{push_handle, push_number};
 use std::alloc::AllocError;
 
 fn push_other_serials(out: &mut Vec<u8>, serials: &[u32]) -> Result<(), AllocError>

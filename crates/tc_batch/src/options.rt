@@ -4,8 +4,8 @@ ghost use Rattle.tc_batch.specs.Options.{no_options, is_given, with_option, may_
 
 use crate::keywords::{FilterVerb, OptionName, QdiscVerb};
 use crate::numbers::{read_chain, read_index, read_pref};
-use line_words::read_protocol;
 use filter_state::Edit;
+use line_words::read_protocol;
 use tc_base::{Hook, Proto};
 
 /// What stood between the hook and `flower` so far: `None` where the word didn't.

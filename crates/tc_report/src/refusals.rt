@@ -7,8 +7,8 @@ ghost use Rattle.line_texts.specs.Texts.{handle_text, protocol_text};
 ghost use Rattle.tc_report.specs.Refusals.{refusal_name, refusal_fields, refusal_words, syntax_words, place_words, refused_line};
 ghost use Rattle.tc_report.specs.Steps.{spaced_words};
 
-use line_texts::{push_handle, push_number, push_protocol};
 use filter_state::Refusal;
+use line_texts::{push_handle, push_number, push_protocol};
 use std::alloc::AllocError;
 use tc_base::{NoMemory, Proto};
 use tc_print::kind_name;
