@@ -10,14 +10,20 @@
 //! hold, and fail at the calls that they are told: rehearsals and tests run on them. `FileShelf`
 //! and `StdSink` are the trusted edge: they tell nothing of content, and count their faults.
 //!
-//! Shelves and sinks are called from one thread, by `&mut`. A gate is shared by all workers and
-//! controls of a run. The list types are plain data, and may go to any thread.
+//! Two more traits let a program follow a run: an `Ear` hears of each accepted edit, and a `Tender`
+//! does work of its caller's while threads run. Theorems speak of what an ear heard, and of nothing
+//! that a tender does.
+//!
+//! Shelves, sinks and tenders are called from one thread, by `&mut`. A gate is shared by all workers
+//! and controls of a run. An ear goes from thread to thread, and is called by one of them at a time.
+//! The list types are plain data, and may go to any thread.
 //!
 //! Not promised: that memory suffices (each call that takes some may answer `NoMemory`), that a
 //! file which was put has reached the disk, and what a file holds after a put that failed.
 #![tactic(auto)]
 
 mod calls;
+mod ear;
 mod faults;
 mod file_shelf;
 mod gate;
@@ -27,9 +33,11 @@ mod mem_shelf;
 mod mem_sink;
 mod outside;
 mod std_sink;
+mod tender;
 #[cfg(test)]
 mod tests;
 
+pub use ear::{Ear, EventName, NoEar};
 pub use file_shelf::FileShelf;
 pub use gate::{Gate, OpenGate};
 pub use hook::{Hook, Point, Proto};
@@ -38,3 +46,4 @@ pub use mem_shelf::MemShelf;
 pub use mem_sink::MemSink;
 pub use outside::{Fetch, NoMemory, Put, Shelf, Sink};
 pub use std_sink::StdSink;
+pub use tender::{NoTender, Tender};
