@@ -1,6 +1,6 @@
 -- Which values and masks the fields of a filter can have, by what tc-flower(8) lets a line say. A field that a line doesn't name
 -- has the mask 0.
-use Rattle.std.specs.Prelude.{◌≡◌, ℕ, ◌+◌, ◌-◌, ◌*◌, ◌^◌, ◌<◌, ◌≤◌, ◌⊎◌, List, slice_index, bit_and}
+use Rattle.std.specs.Prelude.{◌≡◌, ℕ, ◌+◌, ◌-◌, ◌*◌, ◌^◌, ◌<◌, ◌≤◌, ◌⊎◌, List, length, slice_index, bit_and}
 use Rattle.flow_fields.specs.Values.{values_of, IsTidy}
 
 -- all bits of a field of that width, or none
@@ -9,7 +9,7 @@ IsAllOrNone width mask = (mask ≡ 2 ^ width - 1) ⊎ (mask ≡ 0)
 
 -- RFC 4632, section 3.1: the highest bits, as many as a length says
 abbrev pub IsPrefix : ℕ → ℕ → Type 0
-IsPrefix width mask = (length : ℕ) × (length ≤ width) × (mask ≡ 2 ^ width - 2 ^ (width - length))
+IsPrefix width mask = (bits : ℕ) × (bits ≤ width) × (mask ≡ 2 ^ width - 2 ^ (width - bits))
 
 -- the two halves of an IPv6 address
 abbrev pub joined : ℕ → ℕ → ℕ
@@ -41,8 +41,10 @@ pub record AreFields (values masks : List ℕ) : Type 0 where
   pub one_source : (slice_index masks 6 ≡ 0) ⊎ (joined (slice_index masks 16) (slice_index masks 17) ≡ 0)
   pub one_destination : (slice_index masks 7 ≡ 0) ⊎ (joined (slice_index masks 18) (slice_index masks 19) ≡ 0)
 
--- The words of a filter's key and mask: fields as above, and no stray bit.
+-- The words of a filter's key and mask: fourteen each, fields as above, and no stray bit.
 pub record AreKeys (key mask : List ℕ) : Type 0 where
+  pub key_count : length key ≡ 14
+  pub mask_count : length mask ≡ 14
   pub key_tidy : IsTidy key
   pub mask_tidy : IsTidy mask
   pub fields : AreFields (values_of key) (values_of mask)

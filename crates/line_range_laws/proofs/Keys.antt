@@ -125,4 +125,4 @@ in_range given values masks h =
     }
 
 pub keys_in_range : (fields : Fields) → AreGiven fields → AreKeys fields.key.words fields.mask.words
-keys_in_range fields h = record { key_tidy = h.key.tidy; mask_tidy = h.mask.tidy; fields = in_range fields.given (values_of fields.key.words) (values_of fields.mask.words) h.set }
+keys_in_range fields h = record { key_count = h.key.count; mask_count = h.mask.count; key_tidy = h.key.tidy; mask_tidy = h.mask.tidy; fields = in_range fields.given (values_of fields.key.words) (values_of fields.mask.words) h.set }
