@@ -4,9 +4,10 @@
 //! word may hold any other byte. std's `split_whitespace` would cut at more. Each function answers by what the whole line
 //! or word is (`specs/`), and not by how it is gone over.
 //!
-//! `split` gives the words of a line as places in it, so a line costs one allocation, and its words cost none. `first_word` gives
-//! them one by one, and takes no memory. The readers of words take none either. The functions that do are passed the allocator, and answer `NoMemory` where it has none left; there is no other
-//! fault here. A word that is not of the form asked for is `None`.
+//! `lines` cuts a file at once; `line_from` gives a line at a time, for whoever keeps a place in a file. `split` gives the words of a line
+//! as places in it, so a line costs one allocation, and its words cost none. `first_word` gives them one by one, and takes no memory, as
+//! `line_from` and the readers of words do. The functions that take some are passed the allocator, and answer `NoMemory` where it has none
+//! left; there is no other fault here. A word that is not of the form asked for is `None`.
 //!
 //! Nothing is kept between calls, so any thread may call any function.
 //!
@@ -29,7 +30,7 @@ mod texts;
 
 pub use addresses::read_ipv4;
 pub use cuts::cut_at;
-pub use file_lines::lines;
+pub use file_lines::{FileLine, line_from, lines};
 pub use first_words::{first_word, has_words};
 pub use hexadecimal::{read_hex, read_hex_digits};
 pub use ipv6_addresses::{Ipv6Word, ipv6_mask, read_ipv6};
