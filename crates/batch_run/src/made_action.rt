@@ -30,8 +30,11 @@ impl MadeAction {
     }
 }
 
-/// Puts the names of the entries that were made when `before` actions had been made already.
-pub(crate) fn log_made(
+/// Puts the names of the entries that were made when `before` actions had been made already behind those that are there.
+///
+/// Entries stand in the order of their serials, so only the last ones are looked at. `NoMemory`: memory was refused; then some of the names
+/// may be there.
+pub fn log_made(
     made: &mut Vec<MadeAction>,
     entries: &[Entry<Params>],
     before: u32,

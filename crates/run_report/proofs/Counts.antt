@@ -1,10 +1,13 @@
 -- Counts over one more.
-use Rattle.std.proofs.Common.{◌≡◌, ◌∙◌, ℕ, ◌+◌, ◌<◌, ◌≤◌, List, length, take, get_or, ap, arith}
-use Rattle.std.specs.Prelude.{if◌then◌else◌}
+use Rattle.std.proofs.Common.{◌≡◌, ◌∙◌, ℕ, ◌+◌, ◌<◌, ◌≤◌, Bool, true, false, List, length, take, get_or, Some, ap, arith}
+use Rattle.std.specs.Prelude.{if◌then◌else◌, slice_get}
+use Rattle.std.proofs.lemmas.Option.{slice_get_within, get_or_from_slice_get}
+use Rattle.batch_walk.specs.Walked.{is_pass}
+use Rattle.run_report.specs.declared.outcomes.Outcome.{Outcome}
 use Rattle.std.proofs.lemmas.List.Sums.{sum_by_more, sum_by_more_le_part, count_by-le-length}
 use Rattle.run_report.specs.declared.events.Event.{Event}
 use Rattle.run_report.specs.declared.rounds.RoundRecord.{RoundRecord}
-use Rattle.run_report.specs.Counts.{is_accepted, accepted_count, events_in, edits_in}
+use Rattle.run_report.specs.Counts.{is_accepted, accepted_count, passed_count, events_in, edits_in}
 
 -- one event more
 pub accepted_more : (events : List Event) (k : ℕ) (event : Event) (before edits one : ℕ) → get_or events k event ≡ event → k < length events →
@@ -33,3 +36,17 @@ room_for_round rounds k round edits most is within so_far few =
     (λ (r : RoundRecord). count_by-le-length (λ (e : Event). is_accepted e.kind) r.events) in
     let same : length (get_or rounds k round).events ≡ length round.events = ap (λ (r : RoundRecord). length r.events) is in
     omega (arith, part, same, so_far, few)
+
+-- ---- packets that passed
+pub at_most_one : (b : Bool) → (if b then 1 else 0) ≤ 1
+at_most_one true = omega arith
+at_most_one false = omega arith
+
+-- one packet more
+pub passed_more : (outcomes : List Outcome) (place : ℕ) (outcome : Outcome) (count one : ℕ) → slice_get outcomes place ≡ Some outcome → count ≡ passed_count (take place outcomes)
+    → one ≡ (if is_pass outcome.verdict then 1 else 0) → count + one ≡ passed_count (take (place + 1) outcomes)
+passed_more outcomes place outcome count one there so_far is =
+    let more : passed_count (take (place + 1) outcomes) ≡ passed_count (take place outcomes) + (if is_pass outcome.verdict then 1 else 0) =
+    sum_by_more (λ (o : Outcome). if is_pass o.verdict then 1 else 0) outcomes place outcome (slice_get_within outcomes place outcome there)
+    ∙ ap (λ (o : Outcome). passed_count (take place outcomes) + (if is_pass o.verdict then 1 else 0)) (get_or_from_slice_get outcomes place outcome outcome there) in
+    omega (arith, more, so_far, is)

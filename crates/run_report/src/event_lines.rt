@@ -37,8 +37,10 @@ fn push_edit(
     push_text(out, "\n")
 }
 
-// Puts the line of an event before which so many edits were accepted.
-fn push_event(out: &mut Vec<u8>, before: u32, event: &Event) -> Result<(), NoMemory>
+/// Puts the line of an event before which so many edits were accepted.
+///
+/// `NoMemory`: memory was refused.
+pub fn push_event_line(out: &mut Vec<u8>, before: u32, event: &Event) -> Result<(), NoMemory>
     requires { before + 1 < 2 ^ 32 }
     ensures { OnOk result (out.new.items ≡ out.old.items ++ event_line before event.now) }
 {
@@ -65,7 +67,7 @@ pub(crate) fn push_events(out: &mut Vec<u8>, before: u32, events: &[Event]) -> R
 {
     let mut edits = before;
     for event in events {
-        push_event(out, edits, event)?;
+        push_event_line(out, edits, event)?;
         edits += accepted(event);
     }
     Ok(edits)

@@ -11,7 +11,11 @@
 //! state to which an edit was applied, and a point names a state by the same number. A frame's line has its length, and not its
 //! bytes. The last line is `end`, by which a report that was cut off is known.
 //!
-//! All lines grow in one buffer, one piece after the other, and its memory is all that is taken.
+//! All lines grow in one buffer, one piece after the other, and its memory is all that is taken. The line of an event and that of a packet
+//! can also be had alone, from what they show (`push_event_line`, `push_packet_line`), for whoever compares a report line by line.
+//!
+//! A round has as many outcomes as packets, so `Outcomes` keeps their frames, points and executions in three buffers that all share, and
+//! lends an outcome by its place. Contracts see the list of outcomes.
 //!
 //! Records are plain data, which may go to any thread. `report` keeps nothing, and may be called by any thread that may read the
 //! record.
@@ -34,8 +38,10 @@ mod summing;
 mod tests;
 
 pub use counters::{CounterLine, CounterLines};
+pub use event_lines::push_event_line;
 pub use events::{Event, EventKind, Events};
-pub use outcomes::{Outcome, Outcomes};
+pub use outcomes::{Outcome, OutcomeView, Outcomes};
+pub use packet_lines::push_packet_line;
 pub use record::RunRecord;
 pub use reporting::report;
 pub use rounds::{RoundRecord, RoundRecords};

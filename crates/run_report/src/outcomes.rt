@@ -1,12 +1,13 @@
 //! What the walks of a round's packets came to.
-ghost use Rattle.std.specs.Prelude.{◌≡◌};
+ghost use Rattle.std.specs.Prelude.{◌≡◌, ◌<◌, ◌≤◌, ◌↔◌, length, slice_range, IsTrue};
 
 use frame_edit::Meta;
+use std::alloc::Global;
 use std::marker::Model;
-use tc_base::{Bytes, Numbers, Pairs};
+use tc_base::{Bytes, NoMemory, Numbers, Pairs, Point};
 use walk_rules::Verdict;
 
-/// How the walk of a packet ended, and what it met.
+/// How the walk of a packet ended, and what it met. It is what contracts see of a packet's record.
 #[derive(Drop, Debug)]
 pub struct Outcome {
     /// The worker that walked the packet, counted from 1.
@@ -22,41 +23,140 @@ pub struct Outcome {
     pub executed: Pairs,
 }
 
-/// The outcomes of a round's packets, in the order of the capture.
+/// An outcome whose lists are lent: by a walk that has ended, or by the outcomes of a round.
+#[derive(Clone, Copy, Debug)]
+pub struct OutcomeView<'a> {
+    pub worker: u32,
+    pub verdict: Verdict,
+    pub bytes: &'a [u8],
+    pub meta: Meta,
+    pub points: &'a [Point],
+    pub executed: &'a [(u32, u32)],
+}
+
+// Where a packet's part of a list begins, and where the next one's does.
+#[derive(Clone, Copy, Debug)]
+struct Span {
+    start: usize,
+    end: usize,
+}
+
+// The record of a packet, but for its lists.
+#[derive(Clone, Copy, Debug)]
+struct Row {
+    worker: u32,
+    verdict: Verdict,
+    meta: Meta,
+    bytes: Span,
+    points: Span,
+    executed: Span,
+}
+
+/// The outcomes of a round's packets, in the order of the capture. The frames of all of them lie in one buffer, and so do the points and
+/// the executions: one packet more takes no memory of its own.
 #[derive(Drop, Debug)]
 pub struct Outcomes {
-    items: Vec<Outcome>,
+    rows: Vec<Row>,
+    bytes: Vec<u8>,
+    points: Vec<Point>,
+    executed: Vec<(u32, u32)>,
 }
 
 impl Model for Outcomes {
-    ghost use Rattle.std.specs.Prelude.{List};
+    ghost use Rattle.std.specs.Prelude.{List, length};
+    ghost use Rattle.filter_state.specs.Sound.{Each};
     ghost use Rattle.run_report.specs.declared.outcomes.Outcome.{Outcome};
+    ghost use Rattle.run_report.specs.Kept.{outcomes_in, IsRowOf};
 
     ghost Value = { List Outcome };
 
-    ghost view = { λ o. o.items.items };
+    ghost view = { λ o. outcomes_in o.bytes.items o.points.items o.executed.items o.rows.items };
+
+    ghost invariant = { λ o. Each (IsRowOf (length o.bytes.items) (length o.points.items) (length o.executed.items)) o.rows.items };
+}
+
+// The part of a list that a span names.
+fn part<T>(list: &[T], span: Span) -> &[T]
+    requires { (span.start ≤ span.end) × (span.end ≤ length list.now) }
+    ensures { result.now ≡ slice_range list.now span.start span.end }
+{
+    &list[span.start..span.end]
 }
 
 impl Outcomes {
-    /// The list of these items.
-    pub fn from_vec(items: Vec<Outcome>) -> Self
-        ensures { result ≡ items.items }
+    ghost use Rattle.std.specs.Prelude.{◌++◌, ◌∷◌, [], slice_get, Some, OnOk, OnErr};
+    ghost use Rattle.run_report.specs.Kept.{outcome_seen};
+
+    /// No outcomes yet.
+    pub fn new(alloc: Global) -> Outcomes
+        ensures { result ≡ [] }
     {
-        Outcomes { items }
+        Outcomes {
+            rows: Vec::new(alloc),
+            bytes: Vec::new(alloc),
+            points: Vec::new(alloc),
+            executed: Vec::new(alloc),
+        }
     }
 
-    /// The items, in the `Vec` that they stand in.
-    pub fn into_vec(self) -> Vec<Outcome>
-        ensures { result.items ≡ self }
+    /// Puts the outcome of the next packet behind those that are there. Its lists are copied.
+    ///
+    /// `NoMemory`: memory was refused, and the outcomes are as they were.
+    pub fn push(&mut self, outcome: &OutcomeView<'_>) -> Result<(), NoMemory>
+        ensures put { OnOk result (self.new ≡ self.old ++ outcome_seen outcome.now ∷ []) }
+        ensures kept { OnErr result (self.new ≡ self.old) }
     {
-        let Outcomes { items } = self;
-        items
+        let (bytes, points, executed) = (self.bytes.len(), self.points.len(), self.executed.len());
+        self.bytes.extend_from_slice(outcome.bytes)?;
+        self.points.extend_from_slice(outcome.points)?;
+        self.executed.extend_from_slice(outcome.executed)?;
+        self.rows.push(Row {
+            worker: outcome.worker,
+            verdict: outcome.verdict,
+            meta: outcome.meta,
+            bytes: Span {
+                start: bytes,
+                end: self.bytes.len(),
+            },
+            points: Span {
+                start: points,
+                end: self.points.len(),
+            },
+            executed: Span {
+                start: executed,
+                end: self.executed.len(),
+            },
+        })?;
+        Ok(())
     }
 
-    /// The items, in order.
-    pub fn as_slice(&self) -> &[Outcome]
-        ensures { result.now ≡ self.now }
+    /// How many there are.
+    pub fn len(&self) -> usize
+        ensures { result ≡ length self.now }
     {
-        &self.items
+        self.rows.len()
+    }
+
+    /// Whether there is none.
+    pub fn is_empty(&self) -> bool
+        ensures { IsTrue result ↔ (length self.now ≡ 0) }
+    {
+        self.rows.is_empty()
+    }
+
+    /// The outcome of the packet at a place, from 0.
+    pub fn at(&self, place: usize) -> OutcomeView<'_>
+        requires { place < length self.now }
+        ensures { slice_get self.now place ≡ Some (outcome_seen result) }
+    {
+        let row = &self.rows[place];
+        OutcomeView {
+            worker: row.worker,
+            verdict: row.verdict,
+            bytes: part(&self.bytes, row.bytes),
+            meta: row.meta,
+            points: part(&self.points, row.points),
+            executed: part(&self.executed, row.executed),
+        }
     }
 }

@@ -2,12 +2,16 @@
 ghost use Rattle.std.specs.Prelude.{◌≡◌, ◌++◌, codes, OnOk};
 ghost use Rattle.std.specs.List.{flat_map};
 ghost use Rattle.batch_walk.specs.Texts.{joined, counted};
-ghost use Rattle.run_report.specs.PacketTexts.{packet_name, points_text, packet_line, packet_lines};
+ghost use Rattle.run_report.specs.Kept.{outcome_seen};
+ghost use Rattle.run_report.specs.PacketTexts.{packet_name, points_text, shown_packet, packet_line, packet_lines};
 
-use crate::outcomes::Outcome;
+use crate::outcomes::{OutcomeView, Outcomes};
 use crate::pieces::push_text;
 use batch_walk::{push_count, push_end};
+use frame_edit::Meta;
 use std::alloc::AllocError;
+use tc_base::Point;
+use walk_rules::Verdict;
 
 #[tactic(auto, unfolding(crate::specs::PacketTexts::packet_name))]
 fn push_packet_name(out: &mut Vec<u8>, number: u64, worker: u32) -> Result<(), AllocError>
@@ -17,7 +21,7 @@ fn push_packet_name(out: &mut Vec<u8>, number: u64, worker: u32) -> Result<(), A
     push_count(out, " worker ", u64::from(worker))
 }
 
-fn push_each_point(out: &mut Vec<u8>, points: &[u32]) -> Result<(), AllocError>
+fn push_each_point(out: &mut Vec<u8>, points: &[Point]) -> Result<(), AllocError>
     ensures { OnOk result (out.new.items ≡ out.old.items ++ flat_map (λ point. counted (codes " ") point) points.now) }
 {
     for point in points {
@@ -27,29 +31,54 @@ fn push_each_point(out: &mut Vec<u8>, points: &[u32]) -> Result<(), AllocError>
 }
 
 #[tactic(auto, unfolding(crate::specs::PacketTexts::points_text))]
-fn push_points(out: &mut Vec<u8>, points: &[u32]) -> Result<(), AllocError>
+fn push_points(out: &mut Vec<u8>, points: &[Point]) -> Result<(), AllocError>
     ensures { OnOk result (out.new.items ≡ out.old.items ++ points_text points.now) }
 {
     push_text(out, " points")?;
     push_each_point(out, points)
 }
 
-fn push_packet(out: &mut Vec<u8>, number: u64, outcome: &Outcome) -> Result<(), AllocError>
-    ensures { OnOk result (out.new.items ≡ out.old.items ++ packet_line number outcome.now) }
+/// Puts the line of a packet by what it shows: its number in the capture, from 1, the worker that walked it, its verdict, its frame's length
+/// in bytes and its metadata as the walk left them, and the point of each visit in order.
+///
+/// `AllocError`: memory was refused.
+pub fn push_packet_line(
+    out: &mut Vec<u8>,
+    number: u64,
+    worker: u32,
+    verdict: Verdict,
+    length: u64,
+    meta: Meta,
+    points: &[Point],
+) -> Result<(), AllocError>
+    ensures { OnOk result (out.new.items ≡ out.old.items ++ shown_packet number worker verdict length meta points.now) }
 {
-    push_packet_name(out, number, outcome.worker)?;
-    let length = outcome.bytes.as_slice().len() as u64;
-    push_end(out, outcome.verdict, length, outcome.meta)?;
-    push_points(out, outcome.points.as_slice())?;
+    push_packet_name(out, number, worker)?;
+    push_end(out, verdict, length, meta)?;
+    push_points(out, points)?;
     push_text(out, "\n")
 }
 
+fn push_packet(out: &mut Vec<u8>, number: u64, outcome: &OutcomeView<'_>) -> Result<(), AllocError>
+    ensures { OnOk result (out.new.items ≡ out.old.items ++ packet_line number (outcome_seen outcome.now)) }
+{
+    push_packet_line(
+        out,
+        number,
+        outcome.worker,
+        outcome.verdict,
+        outcome.bytes.len() as u64,
+        outcome.meta,
+        outcome.points,
+    )
+}
+
 /// Puts a line for each packet of a round.
-pub(crate) fn push_packets(out: &mut Vec<u8>, outcomes: &[Outcome]) -> Result<(), AllocError>
+pub(crate) fn push_packets(out: &mut Vec<u8>, outcomes: &Outcomes) -> Result<(), AllocError>
     ensures { OnOk result (out.new.items ≡ out.old.items ++ joined (packet_lines outcomes.now)) }
 {
-    for (index, outcome) in outcomes.iter().enumerate() {
-        push_packet(out, index as u64 + 1, outcome)?;
+    for place in 0..outcomes.len() {
+        push_packet(out, place as u64 + 1, &outcomes.at(place))?;
     }
     Ok(())
 }

@@ -30,7 +30,7 @@ fn push_round(
 {
     push_numbered_line(out, "round ", number)?;
     let edits = push_events(out, before, round.events.as_slice())?;
-    push_packets(out, round.outcomes.as_slice())?;
+    push_packets(out, &round.outcomes)?;
     push_numbered_line(out, "end round ", number)?;
     Ok(edits)
 }

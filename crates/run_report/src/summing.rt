@@ -1,9 +1,10 @@
 //! What the rounds of a run came to.
-ghost use Rattle.std.specs.Prelude.{◌≡◌, ◌+◌, ◌<◌, ◌≤◌, ◌^◌, length};
+ghost use Rattle.std.specs.Prelude.{◌≡◌, ◌+◌, ◌<◌, ◌≤◌, ◌^◌, length, if◌then◌else◌};
+ghost use Rattle.batch_walk.specs.Walked.{is_pass};
 ghost use Rattle.run_report.specs.Counts.{accepted_count, passed_count, events_in, packets_in, summary_of};
 
 use crate::events::{Event, EventKind};
-use crate::outcomes::Outcome;
+use crate::outcomes::Outcomes;
 use crate::rounds::RoundRecord;
 use batch_walk::Summary;
 use walk_rules::Verdict;
@@ -18,14 +19,22 @@ fn count_accepted(events: &[Event]) -> usize
         .count()
 }
 
-fn count_passed(outcomes: &[Outcome]) -> usize
+// How many packets passed by this outcome.
+fn passed(verdict: Verdict) -> usize
+    ensures { result ≡ (if is_pass verdict then 1 else 0) }
+{
+    usize::from(matches!(verdict, Verdict::Pass))
+}
+
+fn count_passed(outcomes: &Outcomes) -> usize
     ensures value { result ≡ passed_count outcomes.now }
     ensures within { result ≤ length outcomes.now }
 {
-    outcomes
-        .iter()
-        .filter(|outcome| matches!(outcome.verdict, Verdict::Pass))
-        .count()
+    let mut count = 0;
+    for place in 0..outcomes.len() {
+        count += passed(outcomes.at(place).verdict);
+    }
+    count
 }
 
 // Adds what a round came to.
@@ -41,10 +50,9 @@ fn add_round(summary: &mut Summary, round: &RoundRecord)
     let accepted = count_accepted(events);
     summary.edits += accepted as u64;
     summary.refused += (events.len() - accepted) as u64;
-    let outcomes = round.outcomes.as_slice();
-    let passed = count_passed(outcomes);
+    let passed = count_passed(&round.outcomes);
     summary.passed += passed as u64;
-    summary.dropped += (outcomes.len() - passed) as u64;
+    summary.dropped += (round.outcomes.len() - passed) as u64;
 }
 
 /// What the rounds came to, together.

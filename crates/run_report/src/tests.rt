@@ -2,7 +2,7 @@ ghost use Rattle.std.specs.Prelude.{◌<◌, ◌^◌, IfOk};
 ghost use Rattle.run_report.specs.Counts.{events_in, packets_in};
 
 use crate::{
-    CounterLine, CounterLines, Event, EventKind, Events, Outcome, Outcomes, RoundRecord,
+    CounterLine, CounterLines, Event, EventKind, Events, OutcomeView, Outcomes, RoundRecord,
     RoundRecords, RunRecord, report,
 };
 use act_kinds::Kind;
@@ -10,7 +10,7 @@ use filter_state::Done;
 use frame_edit::Meta;
 use std::alloc::{AllocError, Global};
 use std::test::Fail;
-use tc_base::{Bytes, Numbers, Pairs};
+use tc_base::{NoMemory, Numbers};
 use walk_rules::Verdict;
 
 // A batch drops 10.0.0.1. The next round's batch lets 10.0.0.2 pass, and that edit is accepted between the first and the second visit
@@ -48,28 +48,30 @@ fn filter(alloc: Global, line: u64, number: u32) -> Result<Event, AllocError> {
     Ok(accepted(line, done))
 }
 
-fn outcome(alloc: Global) -> Result<Outcome, AllocError> {
-    Ok(Outcome {
+fn outcomes(alloc: Global) -> Result<Outcomes, NoMemory> {
+    let mut outcomes = Outcomes::new(alloc);
+    outcomes.push(&OutcomeView {
         worker: 1,
         verdict: Verdict::Pass,
-        bytes: Bytes::from_vec(vec![in alloc; 0; 60]?),
+        bytes: &[0; 60],
         meta: Meta::default(),
-        points: Numbers::from_vec(vec![in alloc; 2, 3, 3]?),
-        executed: Pairs::from_vec(vec![in alloc; (2, 60)]?),
-    })
+        points: &[2, 3, 3],
+        executed: &[(2, 60)],
+    })?;
+    Ok(outcomes)
 }
 
-fn rounds(alloc: Global) -> Result<RoundRecords, AllocError>
+fn rounds(alloc: Global) -> Result<RoundRecords, NoMemory>
     ensures events { IfOk result (λ rounds. events_in rounds < 2 ^ 32) }
     ensures packets { IfOk result (λ rounds. packets_in rounds < 2 ^ 64) }
 {
     let first = RoundRecord {
         events: Events::from_vec(vec![in alloc; accepted(1, Done::Hooked), filter(alloc, 2, 1)?]?),
-        outcomes: Outcomes::from_vec(Vec::new(alloc)),
+        outcomes: Outcomes::new(alloc),
     };
     let second = RoundRecord {
         events: Events::from_vec(vec![in alloc; filter(alloc, 1, 2)?]?),
-        outcomes: Outcomes::from_vec(vec![in alloc; outcome(alloc)?]?),
+        outcomes: outcomes(alloc)?,
     };
     Ok(RoundRecords::from_vec(vec![in alloc; first, second]?))
 }

@@ -12,7 +12,7 @@ pub loop-event-preserved : goal.loop-event-preserved
 loop-event-preserved c = record {
   text = line_more (λ (placed : ℕ × Event). event_line (c.args.before + accepted_count (take placed.0 c.args.events.now)) placed.1) 0 _ _ _ c.args.events.now c.loop-event.event-index c.loop-event.event-index _
       c.loop-event-test.true (omega arith) (sym c.event-item.is) c.loop-event.invariant.text
-      (c.in_ok-push_event.ensures ∙ ap (λ (n : ℕ). c.loop-event.out.items ++ event_line n c.event-item.result) c.loop-event.invariant.edits);
+      (c.in_ok-push_event_line.ensures ∙ ap (λ (n : ℕ). c.loop-event.out.items ++ event_line n c.event-item.result) c.loop-event.invariant.edits);
   edits = accepted_more c.args.events.now c.loop-event.event-index _ _ _ _ (sym c.event-item.is) c.loop-event-test.true c.loop-event.invariant.edits c.accepted-edits.ensures;
 }
 

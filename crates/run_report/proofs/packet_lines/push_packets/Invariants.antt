@@ -6,6 +6,6 @@ use Rattle.run_report.specs.declared.outcomes.Outcome.{Outcome}
 use Rattle.run_report.specs.PacketTexts.{packet_line}
 use Rattle.run_report.proofs.packet_lines.push_packets.Given as goal
 
-abbrev pub invariant-loop-index : goal.invariant-loop-index
-invariant-loop-index l =
-    l.out.items ≡ l.initial.out.items ++ joined (map (λ (numbered : ℕ × Outcome). packet_line numbered.0 numbered.1) (take l.index (enumerate_from 1 l.outcomes)))
+abbrev pub invariant-loop-place : goal.invariant-loop-place
+invariant-loop-place l =
+    l.out.items ≡ l.initial.out.items ++ joined (map (λ (numbered : ℕ × Outcome). packet_line numbered.0 numbered.1) (take l.place (enumerate_from 1 l.outcomes)))
