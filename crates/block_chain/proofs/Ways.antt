@@ -7,7 +7,7 @@ use Rattle.store_history.specs.History.{root_of, first_number, IsNamed, IsLinked
 use Rattle.pin_store.specs.declared.shape.Shape.{Shape}
 use Rattle.pin_store.specs.declared.view.View.{View}
 use Rattle.pin_store.specs.Layout.{IsInShape, word_count}
-use Rattle.pin_store.specs.Calls.{seen_by, floor_start, start_in}
+use Rattle.pin_store.specs.Calls.{seen_by, floor_start, start_in, IsSameButLoads}
 use Rattle.block_chain.specs.Ways.{block_words, IsBefore}
 use Rattle.block_chain.proofs.Chains.{next_at, named_end}
 
@@ -36,7 +36,7 @@ next_of {E} shape p root place next some b =
     }
 
 -- and behind it
-pub behind : {E : Type 0} (shape : Shape) (p q : Seat (Unit {0}) (View E)) (root place next last : ℕ) (n : IsNext shape p root place next) → q.me ≡ p.me → last ≡ get_or n.link.words 39 0 → IsBefore shape p root place next
+pub behind : {E : Type 0} (shape : Shape) (p q : Seat (Unit {0}) (View E)) (root place next last : ℕ) (n : IsNext shape p root place next) → IsSameButLoads p q → last ≡ get_or n.link.words 39 0 → IsBefore shape p root place next
     → IsBefore shape q root (place + 1) last
 behind {E} shape p q root place next last n same is b = record {
   next_is = is ∙ (n.linked ∙ ap (λ (h : List (Commit E)). first_number (drop (place + 1) (root_of h root).chain)) (sym seen));
@@ -47,10 +47,10 @@ behind {E} shape p q root place next last n same is b = record {
 }
   where
     seen : seen_by q ≡ seen_by p
-    seen = ap (λ m. m.0.seen) same
+    seen = same.seen
 
     floor : floor_start q ≡ floor_start p
-    floor = ap (λ m. start_in m.0.floor) same
+    floor = ap start_in same.floor
 
 -- a store of such blocks has less than 2^32 of them
 pub narrow : (shape : Shape) → shape.words ≡ block_words → word_count shape < 2147483648 → shape.blocks < 4294967296

@@ -8,7 +8,7 @@
 //! `next_block` and one reading function, stand on this crate, so that neither has to know of single words.
 //!
 //! The calls are a reader's, made by the one thread that has it. None waits or takes memory. Not promised: that a chain is
-//! short. Each block costs forty loads, which `Steps` counts.
+//! short. Each block costs forty loads, which the reader's seat counts, and `Steps` for the caller.
 #![tactic(auto)]
 
 mod block;

@@ -1,3 +1,4 @@
 pub mod Buckets
 pub mod Looking
 pub mod Limits
+pub mod Stamps

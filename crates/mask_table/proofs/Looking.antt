@@ -29,8 +29,8 @@ module _ {E : Type 0} where
       → TellsMask words fs (root_of (take o.at h) (mask_root slot)) (edits_by h o.at)
       → ((xs : List StoredFilter) → read_all filter_in (root_of h (bucket_root mask i)).chain ≡ Some xs → IsAnswer xs (each_and key mask.mask.words) found actions)
       → t1 ≤ point → t2 ≤ point → (point ≡ t1) ⊎ (point ≡ t2) → loads ≤ 41 + 1 + 40 * length (root_of h (bucket_root mask i)).chain
-      → LookedUp stands words fs h n slot serial key found actions point loads
-  looked_up stands words fs h n p slot serial key mask found actions t1 t2 point loads i le is read s1 o s2 a d ans le1 le2 one cost = record {
+      → length mask.mask.words ≡ 14 → LookedUp stands words fs h n slot serial key found actions point loads
+  looked_up stands words fs h n p slot serial key mask found actions t1 t2 point loads i le is read s1 o s2 a d ans le1 le2 one cost long = record {
     at = o.at;
     late = let x = o.late in omega arith;
     made = o.made;
@@ -39,7 +39,13 @@ module _ {E : Type 0} where
     answer = λ k low high. subst (λ (z : List ℕ). IsAnswer (fs k) (each_and key z) found actions) (sym (word k (omega arith) high))
         (answer_of mask.size i (fs k) (each_and key mask.mask.words) found actions (sym is)
         (subst (λ (z : List StoredFilter). IsAnswer z (each_and key mask.mask.words) found actions) (o.tells.are k (omega arith) high) (ans o.tells.there o.tells.read)));
-    size = mask.size;
+    read_at = p;
+    read_late = le;
+    read_before = o.late;
+    mask = mask;
+    read = read;
+    words_are = λ k low high. word k (omega arith) high;
+    wide = λ k low high. ap length (word k (omega arith) high) ∙ long;
     fits = λ k low high. subst (λ (z : ℕ). FitsSize fs z k) same_size (d.fits k (omega arith) high);
     few = λ k low high. let e = chain_length k low high in rw (word k (omega arith) high, ← is) (omega (arith, cost, e));
   }

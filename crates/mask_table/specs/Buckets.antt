@@ -1,6 +1,7 @@
 -- The buckets of a mask, and what a search of filters answers (this project's own).
 use Rattle.std.specs.Prelude.{◌≡◌, ◌≢◌, ℕ, ◌+◌, ◌*◌, ◌/◌, ◌%◌, ◌==◌, Bool, true, false, List, [], ◌∷◌, ◌++◌, slice_get, slice_index, Some, if◌then◌else◌}
 use Rattle.flow_mask.specs.Hashes.{hash_of}
+use Rattle.flow_mask.specs.Masks.{each_and}
 use Rattle.visit_room.specs.declared.names.ActionName.{ActionName}
 use Rattle.block_codec.specs.declared.filter.StoredFilter.{StoredFilter}
 use Rattle.block_codec.specs.declared.mask.StoredMask.{StoredMask}
@@ -19,6 +20,10 @@ bucket_root mask bucket = 10243 + 16 * slice_index mask.rows (bucket / 16) + buc
 -- the bucket of a key, of so many
 abbrev pub bucket_for : ℕ → List ℕ → ℕ
 bucket_for size key = hash_of key % size
+
+-- the root of the bucket of a key, which is taken under the mask
+abbrev pub key_root : StoredMask → List ℕ → ℕ
+key_root mask key = bucket_root mask (bucket_for mask.size (each_and key mask.mask.words))
 
 -- the filters of a bucket, the latest of the mask's first
 abbrev pub bucket_of : ℕ → ℕ → List StoredFilter → List StoredFilter

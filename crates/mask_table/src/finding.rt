@@ -3,12 +3,12 @@ ghost use Rattle.std.specs.Prelude.{◌≡◌, ℕ, ◌+◌, ◌*◌, ◌-◌, �
 ghost use mathlib.Core.List.{IsPrefix};
 ghost use Rattle.store_history.specs.History.{root_of};
 ghost use Rattle.store_history.specs.Reads.{read_all, read_first};
-ghost use Rattle.pin_store.specs.Calls.{seen_by, floor_start, IsInside, IsSeatOf, IsSameReader};
+ghost use Rattle.pin_store.specs.Calls.{seen_by, floor_start, loads_of, IsInside, IsSeatOf, IsSameReader};
 ghost use Rattle.block_codec.specs.declared.filter.StoredFilter.{StoredFilter};
 ghost use Rattle.block_reading.specs.Read.{filter_in, mask_of_words};
 ghost use Rattle.block_chain.specs.Ways.{block_words};
 ghost use Rattle.mask_table.specs.Buckets.{mask_root, bucket_root, bucket_for, IsAnswer};
-ghost use Rattle.mask_table.specs.Told.{LookedUp};
+ghost use Rattle.mask_table.specs.Told.{LookedUp, IsLoadedPoint};
 
 use crate::law::MaskLaw;
 use block_chain::Walk;
@@ -39,7 +39,8 @@ fn load_mask<L: Law, M: Ledger>(
     ensures lawful { L.keeps (seen_by reader.new.place) (floor_start reader.new.place) }
     ensures mask { result.0 ≡ read_first mask_of_words (root_of (seen_by reader.new.place) root).chain }
     ensures stamp { result.1 ≡ (root_of (seen_by reader.new.place) root).stamp }
-    ensures few { steps.new ≤ steps.old + 1 + block_words }
+    ensures few { loads_of reader.new.place ≤ loads_of reader.old.place + 1 + block_words }
+    ensures steps { steps.new + loads_of reader.old.place ≡ steps.old + loads_of reader.new.place }
 {
     let (mut walk, stamp) = Walk::along(reader, store, root, steps);
     let mut words = [0; 40];
@@ -68,7 +69,9 @@ fn search<L: Law, M: Ledger>(
     ensures found { (there : List StoredFilter) → read_all filter_in (root_of (seen_by reader.new.place) root).chain ≡ Some there
         → IsAnswer there key.now.words result.0 into.new }
     ensures stamp { result.1 ≡ (root_of (seen_by reader.new.place) root).stamp }
-    ensures few { steps.new ≤ steps.old + 1 + block_words * length (root_of (seen_by reader.new.place) root).chain }
+    ensures few { loads_of reader.new.place
+        ≤ loads_of reader.old.place + 1 + block_words * length (root_of (seen_by reader.new.place) root).chain }
+    ensures steps { steps.new + loads_of reader.old.place ≡ steps.old + loads_of reader.new.place }
 {
     let (mut walk, stamp) = Walk::along(reader, store, root, steps);
     let mut words = [0; 40];
@@ -96,11 +99,20 @@ fn root_for(mask: &StoredMask, key: &Key<14>) -> u32
     BUCKET_ROOTS + ROW_BUCKETS * row + bucket % ROW_BUCKETS
 }
 
+// The words of a key: there are fourteen.
+fn words_of(key: &Key<14>) -> &[u64]
+    ensures words { result.now ≡ key.now.words }
+    ensures count { length result.now ≡ 14 }
+{
+    &key.words
+}
+
 /// Whether the mask at a slot has a filter whose key is that of the packet under the mask, with its actions in `into`, and the point of the
 /// answer: the greatest of the stamps that were loaded.
 ///
 /// Where the slot stood for a mask at a time that the reader had seen, and not before its floor, the answer is that of a search of the mask's
-/// filters, in each state from the point up to a later time at which the slot still stood.
+/// filters, in each state from the point up to a later time at which the slot still stood. The reader's seat counts the loads, and `steps`
+/// counts the same.
 pub fn lookup<L: MaskLaw, M: Ledger>(
     reader: &mut Reader<L>,
     store: &Store<L>,
@@ -116,14 +128,19 @@ pub fn lookup<L: MaskLaw, M: Ledger>(
     ensures store { IsSeatOf store.now reader.new.place }
     ensures same { IsSameReader reader.old.place reader.new.place }
     ensures longer { IsPrefix (seen_by reader.old.place) (seen_by reader.new.place) }
+    ensures lawful { L.keeps (seen_by reader.new.place) (floor_start reader.new.place) }
+    ensures stamps { IsLoadedPoint (seen_by reader.old.place) (seen_by reader.new.place) slot key.now.words result.0 result.1 }
+    ensures steps { steps.new + loads_of reader.old.place ≡ steps.old + loads_of reader.new.place }
     ensures found { (n serial : ℕ) → floor_start reader.old.place ≤ n → n ≤ length (seen_by reader.old.place) → L.stands (take n (seen_by reader.old.place)) slot serial
         → LookedUp L.stands (λ k. L.words (seen_by reader.new.place) k serial) (λ k. L.filters (seen_by reader.new.place) k serial)
-        (seen_by reader.new.place) n slot serial key.now.words result.0 into.new result.1 (steps.new - steps.old) }
+        (seen_by reader.new.place) n slot serial key.now.words result.0 into.new result.1
+        (loads_of reader.new.place - loads_of reader.old.place) }
 {
     let (mask, stamp) = load_mask(reader, store, MASK_ROOTS + slot, steps);
     let Some(mask) = mask else {
         return (false, stamp);
     };
+    let _words = words_of(&mask.mask);
     let wanted = masked(key, &mask.mask);
     let (found, later) = search(
         reader,

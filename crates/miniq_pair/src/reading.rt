@@ -1,7 +1,8 @@
 //! A reader's visit of a head.
-ghost use Rattle.std.specs.Prelude.{◌≡◌, ◌++◌, ◌∷◌, [], ◌+◌, ◌<◌, ◌≤◌, length, option_map, Some};
+ghost use Rattle.std.specs.Prelude.{◌≡◌, ◌++◌, ◌∷◌, [], ◌+◌, ◌*◌, ◌<◌, ◌≤◌, length, option_map, Some};
 ghost use mathlib.Core.List.{IsPrefix};
-ghost use Rattle.pin_store.specs.Calls.{seen_by, IsInside, IsSeatOf, IsSameReader};
+ghost use Rattle.pin_store.specs.Calls.{seen_by, floor_start, loads_of, IsInside, IsSeatOf, IsSameReader};
+ghost use Rattle.store_history.specs.History.{root_of};
 ghost use Rattle.visit_room.specs.Heads.{last_masks};
 ghost use Rattle.block_chain.specs.Ways.{block_words};
 ghost use Rattle.miniq_pair.specs.Heads.{told_of, hook_number, head_root, HeadTold};
@@ -39,7 +40,8 @@ fn push_table(into: &mut HeadRoom, table: &StoredTable)
 
 /// Puts the tables of a hook into the room, in their order, with the slots of their masks, and answers the point from which on they are the hook's.
 ///
-/// They are the tables that the hook's root names at the end of what the reader has then seen, which is every commit so far.
+/// They are the tables that the hook's root names at the end of what the reader has then seen, which is every commit so far, and the point is
+/// that root's stamp. Each table costs the loads of a block, and the root one; the reader's seat counts them, and `steps` counts the same.
 pub fn head<L: HeadLaw, M: Ledger>(
     reader: &mut Reader<L>,
     store: &Store<L>,
@@ -53,6 +55,10 @@ pub fn head<L: HeadLaw, M: Ledger>(
     ensures store { IsSeatOf store.now reader.new.place }
     ensures same { IsSameReader reader.old.place reader.new.place }
     ensures longer { IsPrefix (seen_by reader.old.place) (seen_by reader.new.place) }
+    ensures lawful { L.keeps (seen_by reader.new.place) (floor_start reader.new.place) }
+    ensures stamp { result ≡ (root_of (seen_by reader.new.place) (head_root hook)).stamp }
+    ensures loads { loads_of reader.new.place ≡ loads_of reader.old.place + 1 + block_words * length into.new }
+    ensures steps { steps.new + loads_of reader.old.place ≡ steps.old + loads_of reader.new.place }
     ensures told { HeadTold (λ k. L.heads (seen_by reader.new.place) k hook) (seen_by reader.new.place) hook into.new result }
 {
     into.clear();

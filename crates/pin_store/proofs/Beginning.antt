@@ -19,6 +19,7 @@ module _ {E : Type 0} (shape : Shape) (made : ℕ) where
     pin = ap (λ m. m.0.pin) is;
     floor = ap (λ m. m.0.floor) is;
     seen = ap (λ m. m.0.seen) is ∙ ap (λ m. m.0.seen) view;
+    loads = ap (λ m. m.0.loads) is;
   }
 
   pub number_made : (old : Me (Unit {0}) (View E)) (p : Seat (Unit {0}) (View E)) → old ≡ (made_view shape made, []) → p.me ≡ (reader_view old.0, []) → number_of p ≡ made + 1

@@ -295,13 +295,19 @@ module _ {E : Type 0} (lawful : List (Commit E) → ℕ → Type 0) (shape : Sha
       let a = r.laid.sound.rising r.sheet.quiet f.epoch o.late o.begun in let b = r.laid.sound.rising f.epoch r.sheet.epoch o.begun (le_refl r.sheet.epoch) in let e = o.start_is in let d = r.laid.sound.recent in
       (omega arith, omega arith)
 
+  -- a seat that has loaded one word more knows what it knew
+  loaded : (h : List (Commit E)) (writer : ℕ) (d : Sheet) (pin : ℕ → ℕ) (floor : ℕ → Option Floor) (owner : ℕ → ℕ) (n id : ℕ) (v : View E) → Knows h writer d pin floor owner n id v
+      → Knows h writer d pin floor owner n id record v { loads = v.loads + 1 }
+  loaded h writer d pin floor owner n id v k = record { sees = k.sees; keeps = k.keeps; writes = k.writes; outside = k.outside; reads = k.reads }
+
   pub loads_root : ((h : List (Commit E)) (b c : ℕ) → b ≤ c → lawful h b → lawful h c) → (slots id : ℕ) (me : Sat) (i q : ℕ) → me.0.shape ≡ shape → me.0.number ≡ i + 1 → me.0.writes ≡ false → q < shape.roots
       → KeepsAtLoad lawful shape (LoadsRoot lawful) slots id me (cell_count shape + q)
   loads_root rises slots id me i q shaped number plain low s r _ at _ =
       let k = r.each_seat id me.0 at in
       let t = k.reads i number in
-      let w : View E = record me.0 { seen = r.history } in
-      let is : record me.0 { seen = r.history; pin = r.pin i; floor = r.floor i } ≡ w = λ z. record me.0 { seen = r.history; pin = sym t.3 z; floor = sym t.4 z } in
+      let v : View E = record me.0 { loads = me.0.loads + 1 } in
+      let w : View E = record me.0 { seen = r.history; loads = me.0.loads + 1 } in
+      let is : record v { seen = r.history; pin = r.pin i; floor = r.floor i } ≡ w = λ z. record v { seen = r.history; pin = sym t.3 z; floor = sym t.4 z } in
       let value = root_word lawful shape s.words r.history r.sheet q low r.laid in
       let here : (p : ℕ) → cell_count shape + q ≡ cell_count me.0.shape + p → q ≡ p = λ p e. let f : cell_count me.0.shape ≡ cell_count shape = ap cell_count shaped in omega arith in (
         w,
@@ -309,7 +315,8 @@ module _ {E : Type 0} (lawful : List (Commit E) → ℕ → Type 0) (shape : Sha
         tt,
         reader_still s r i (cell_count shape + q) id me.1 (r.floor i) w t.1 t.2 (r.each_reader i t.1)
             (subst (Knows r.history r.writer r.sheet (put r.pin i (r.pin i)) (put r.floor i (r.floor i)) r.owner shape.readers id) is
-            (reader_knows r.history r.history r.writer r.sheet r.pin r.floor r.owner shape.readers i (r.pin i) id (r.floor i) me.0 number plain (prefix_self r.history) k)),
+            (reader_knows r.history r.history r.writer r.sheet r.pin r.floor r.owner shape.readers i (r.pin i) id (r.floor i) v number plain (prefix_self r.history)
+            (loaded r.history r.writer r.sheet r.pin r.floor r.owner shape.readers id me.0 k))),
         record {
           longer = k.sees;
           rest = refl;
@@ -323,9 +330,9 @@ module _ {E : Type 0} (lawful : List (Commit E) → ℕ → Type 0) (shape : Sha
         },
       )
 
-  -- a seat that learns nothing
-  same_view : (s : St) (r : Rule s) (id : ℕ) (v : View E) → get_elem? s.views id ≡ some v → Rule record { words = s.words; homes = s.homes; views = set s.views id v }
-  same_view s r id v at = record {
+  -- a seat with a new view that tells what is so
+  new_view : (s : St) (r : Rule s) (id : ℕ) (w : View E) → Knows r.history r.writer r.sheet r.pin r.floor r.owner shape.readers id w → Rule record { words = s.words; homes = s.homes; views = set s.views id w }
+  new_view s r id w k = record {
     history = r.history;
     writer = r.writer;
     sheet = r.sheet;
@@ -334,18 +341,19 @@ module _ {E : Type 0} (lawful : List (Commit E) → ℕ → Type 0) (shape : Sha
     owner = r.owner;
     laid = r.laid;
     each_reader = r.each_reader;
-    each_seat = seats_stay (Knows r.history r.writer r.sheet r.pin r.floor r.owner shape.readers) (Knows r.history r.writer r.sheet r.pin r.floor r.owner shape.readers) s.views id v (r.each_seat id v at) (λ j u _ k. k) r.each_seat;
+    each_seat = seats_stay (Knows r.history r.writer r.sheet r.pin r.floor r.owner shape.readers) (Knows r.history r.writer r.sheet r.pin r.floor r.owner shape.readers) s.views id w k (λ j u _ q. q) r.each_seat;
   }
 
   pub loads_word : (slots id : ℕ) (me : Sat) (c i : ℕ) → me.0.shape ≡ shape → me.0.number ≡ i + 1 → KeepsAtLoad lawful shape LoadsWord slots id me c
   loads_word slots id me c i shaped number s r _ at _ =
-      let k = r.each_seat id me.0 at in (
-        me.0,
+      let k = r.each_seat id me.0 at in
+      let w : View E = record me.0 { loads = me.0.loads + 1 } in (
+        w,
         keeps,
         tt,
-        unmoved s c id me.1 me.0 (same_view s r id me.0 at),
+        unmoved s c id me.1 w (new_view s r id w (loaded r.history r.writer r.sheet r.pin r.floor r.owner shape.readers id me.0 k)),
         record {
-          still = refl;
+          rest = refl;
           told = λ f l j e named low here.
               let stands = r.laid.chains l (named_later (base_of r.sheet) f.start r.history l (floor_late s r id i me.0 f at number e).0 (named_longer f.start me.0.seen r.history l k.sees named)) in
               let low' : j < shape.words = subst (λ (z : Shape). j < z.words) shaped low in
@@ -355,7 +363,7 @@ module _ {E : Type 0} (lawful : List (Commit E) → ℕ → Type 0) (shape : Sha
 
   -- a view that has seen what v has comes in
   pub splits_receipt : (id : ℕ) (v : View E) → Splits Rule id v v (receipt_view v)
-  splits_receipt id v s r at = let k = r.each_seat id v at in let K = Knows r.history r.writer r.sheet r.pin r.floor r.owner shape.readers in let same = same_view s r id v at in record {
+  splits_receipt id v s r at = let k = r.each_seat id v at in let K = Knows r.history r.writer r.sheet r.pin r.floor r.owner shape.readers in record {
     history = r.history;
     writer = r.writer;
     sheet = r.sheet;
@@ -410,22 +418,12 @@ module _ {E : Type 0} (lawful : List (Commit E) → ℕ → Type 0) (shape : Sha
   pub meets : (slots id : ℕ) (me : Sat) (i : ℕ) → KeepsAtLoad lawful shape Meets slots id me i
   meets slots id me i s r _ at _ =
       let k = r.each_seat id me.0 at in
-      let K = Knows r.history r.writer r.sheet r.pin r.floor r.owner shape.readers in
       let w : View E = record me.0 { seen = r.history; kept = [] } in (
         w,
         keeps,
         tt,
-        unmoved s i id me.1 w record {
-          history = r.history;
-          writer = r.writer;
-          sheet = r.sheet;
-          pin = r.pin;
-          floor = r.floor;
-          owner = r.owner;
-          laid = r.laid;
-          each_reader = r.each_reader;
-          each_seat = seats_stay K K s.views id w record { sees = prefix_self r.history; keeps = λ q d l. absurd (omega arith); writes = λ is. ((k.writes is).0, refl, (k.writes is).2); outside = k.outside; reads = k.reads } (λ j u _ q. q) r.each_seat;
-        },
+        unmoved s i id me.1 w (new_view s r id w
+            record { sees = prefix_self r.history; keeps = λ q d l. absurd (omega arith); writes = λ is. ((k.writes is).0, refl, (k.writes is).2); outside = k.outside; reads = k.reads }),
         record { longer = k.sees; rest = refl; begins = k.keeps; writers = λ is. sym (k.writes is).1 },
       )
 

@@ -37,6 +37,10 @@ module _ {E : Type 0} where
   abbrev pub floor_start : Seat (Unit {0}) (View E) → ℕ
   floor_start p = start_in p.me.0.floor
 
+  -- how many words of roots and of blocks a reader has loaded so far
+  abbrev pub loads_of : Seat (Unit {0}) (View E) → ℕ
+  loads_of p = p.me.0.loads
+
   abbrev pub IsOutside : Seat (Unit {0}) (View E) → Type 0
   IsOutside p = p.me.0.pin % 2 ≡ 0
 
@@ -45,6 +49,13 @@ module _ {E : Type 0} where
 
   -- a reader but for what it has seen
   pub record IsSameReader (old new : Seat (Unit {0}) (View E)) : Type 0 where
+    pub number : number_of new ≡ number_of old
+    pub pin : pin_of new ≡ pin_of old
+    pub floor : floor_of new ≡ floor_of old
+
+  -- a reader but for the number of its loads
+  pub record IsSameButLoads (old new : Seat (Unit {0}) (View E)) : Type 0 where
+    pub seen : seen_by new ≡ seen_by old
     pub number : number_of new ≡ number_of old
     pub pin : pin_of new ≡ pin_of old
     pub floor : floor_of new ≡ floor_of old
@@ -59,12 +70,13 @@ module _ {E : Type 0} where
     pub shaped : p.me.0.shape ≡ shape
     pub free : p.me.1 ≡ []
 
-  -- it is that of a reader that was never inside, and has seen no commit
+  -- it is that of a reader that was never inside, has seen no commit, and has loaded nothing
   pub record IsNewAt (id : TableId) (shape : Shape) (p : Seat (Unit {0}) (View E)) : Type 0 where
     pub seat : IsSeatAt id shape p
     pub pin : pin_of p ≡ 0
     pub floor : floor_of p ≡ None
     pub seen : seen_by p ≡ []
+    pub loads : loads_of p ≡ 0
 
 -- the seat is one of this store
 abbrev pub IsSeatOf : {L E : Type 0} → Store L E → Seat (Unit {0}) (View E) → Type 0

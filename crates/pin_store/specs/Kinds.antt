@@ -30,10 +30,10 @@ module _ {E : Type 0} where
   abbrev pub Commits : Commit E → At → Sat E → ℕ → Sat E → Type 0
   Commits c st before found after = after ≡ (record before.0 { seen = before.0.seen ++ c ∷ [] }, before.1)
 
-  -- a reader loads the word of a root: it has then seen all commits, and is told what the root names after them
+  -- a reader loads the word of a root: it has then seen all commits, is told what the root names after them, and counts one load
   pub record LoadsRoot (keeps : List (Commit E) → ℕ → Type 0) (st : At) (before : Sat E) (found : ℕ) (after : Sat E) : Type 0 where
     pub longer : IsPrefix before.0.seen after.0.seen
-    pub rest : after ≡ (record before.0 { seen = after.0.seen }, before.1)
+    pub rest : after ≡ (record before.0 { seen = after.0.seen; loads = before.0.loads + 1 }, before.1)
     pub lawful : (f : Floor) → before.0.floor ≡ Some f → keeps after.0.seen f.start
     pub since : (f : Floor) → before.0.floor ≡ Some f → f.start ≤ length after.0.seen
     pub first : (r : ℕ) → st.word ≡ cell_count before.0.shape + r → found % 2 ^ 32 ≡ first_number (root_of after.0.seen r).chain
@@ -41,9 +41,10 @@ module _ {E : Type 0} where
     pub linked : (r : ℕ) → IsLinked before.0.shape.words (root_of after.0.seen r).chain
     pub sized : (f : Floor) (l : Link) → before.0.floor ≡ Some f → IsNamed f.start after.0.seen l → IsInShape before.0.shape l
 
-  -- a reader loads a word of a block: it is the word of each block of that number that was named since the reader's floor
+  -- a reader loads a word of a block: it is the word of each block of that number that was named since the reader's floor, and it
+  -- counts one load
   pub record LoadsWord (st : At) (before : Sat E) (found : ℕ) (after : Sat E) : Type 0 where
-    pub still : after ≡ before
+    pub rest : after ≡ (record before.0 { loads = before.0.loads + 1 }, before.1)
     pub told : (f : Floor) (l : Link) (i : ℕ) → before.0.floor ≡ Some f → IsNamed f.start before.0.seen l
         → i < before.0.shape.words → st.word ≡ l.block * before.0.shape.words + i → found ≡ slice_index l.words i
 
@@ -77,11 +78,11 @@ module _ {E : Type 0} where
 
   -- the view of a receipt that is cut from a seat: it has seen as much, and is neither the writer's nor a reader's
   abbrev pub receipt_view : View E → View E
-  receipt_view v = record v { kept = []; number = 0; pin = 0; floor = None; writes = false }
+  receipt_view v = record v { kept = []; number = 0; pin = 0; floor = None; loads = 0; writes = false }
 
   -- the view of the next reader, cut from the writer's
   abbrev pub reader_view : View E → View E
-  reader_view v = record v { kept = []; number = v.sheet.made + 1; pin = 0; floor = None; writes = false }
+  reader_view v = record v { kept = []; number = v.sheet.made + 1; pin = 0; floor = None; loads = 0; writes = false }
 
   -- the writer's view, which counts one more reader
   abbrev pub counted_view : View E → View E
@@ -94,7 +95,7 @@ module _ {E : Type 0} where
   -- the view of a seat that another took in
   abbrev pub spent_view : View E
   spent_view = let none : Shape = record { blocks = 0; words = 0; roots = 0; readers = 0 } in
-      record { shape = none; seen = []; kept = []; number = 0; pin = 0; floor = None; writes = false; sheet = opening_sheet none }
+      record { shape = none; seen = []; kept = []; number = 0; pin = 0; floor = None; loads = 0; writes = false; sheet = opening_sheet none }
 
   -- whatever the store is as the seat stores x in the word, the rule holds afterwards, and the step is of this kind
   abbrev pub KeepsAtStore : (List (Commit E) → ℕ → Type 0) → Shape → (At → Sat E → ℕ → Sat E → Type 0) → ℕ → ℕ → Sat E → ℕ → ℕ → Type 0

@@ -81,6 +81,7 @@ module _ {E : Type 0} where
     number = 0;
     pin = 0;
     floor = None;
+    loads = 0;
     writes = true;
     sheet = record (opening_sheet shape) { made = made };
   }

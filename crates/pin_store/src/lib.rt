@@ -29,8 +29,8 @@
 //! # Who calls what
 //!
 //! `make_store` makes the store, its one writer and its readers. The `Store` is shared by `&` between all threads. The `Writer` and each
-//! `Reader` may be sent to any thread, and are used by one at a time, by `&mut`. A reader loads between `enter` and `leave` alone; how many
-//! loads it makes is counted by a `Steps`, which takes no bytes. What one thread has seen reaches another by a `Receipt` (`receipt`, then
+//! `Reader` may be sent to any thread, and are used by one at a time, by `&mut`. A reader loads between `enter` and `leave` alone. Its
+//! seat counts the loads, where they happen, so no body above can hide one; a `Steps`, which takes no bytes, counts them for the caller. What one thread has seen reaches another by a `Receipt` (`receipt`, then
 //! `learn`), and the writer learns that a reader has seen nothing but its commits by `meet`.
 //!
 //! Only `make_store` takes memory. No call waits, and each returns.

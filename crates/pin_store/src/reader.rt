@@ -12,7 +12,8 @@ use store_history::Law;
 
 /// One of a store's readers. It may be sent to any thread, and is used by one at a time.
 ///
-/// Contracts see its seat: what it has seen, its number, its pin, and its floor, which it has exactly while it is inside.
+/// Contracts see its seat: what it has seen, its number, its pin, how many words of roots and of blocks it has loaded, and its floor,
+/// which it has exactly while it is inside.
 #[derive(Drop)]
 pub struct Reader<L: Law> {
     pub place: Place<L>,
@@ -30,7 +31,7 @@ impl<L: Law> Reader<L> {
     ghost use Rattle.store_history.specs.declared.history.Link.{Link};
     ghost use Rattle.store_history.specs.History.{root_of, first_block, IsNamed, IsLinked};
     ghost use Rattle.pin_store.specs.Layout.{IsInShape};
-    ghost use Rattle.pin_store.specs.Calls.{seen_by, number_of, pin_of, floor_of, floor_start, IsOutside, IsInside, IsSeatOf, IsSameReader};
+    ghost use Rattle.pin_store.specs.Calls.{seen_by, number_of, pin_of, floor_of, floor_start, loads_of, IsOutside, IsInside, IsSeatOf, IsSameReader, IsSameButLoads};
 
     // A reader that was never inside.
     pub(crate) fn new(place: Place<L>, number: u32) -> Reader<L>
@@ -66,6 +67,7 @@ impl<L: Law> Reader<L> {
         ensures pin { (number_of self.new.place ≡ number_of self.old.place) × (pin_of self.new.place ≡ pin_of self.old.place + 1) }
         ensures longer { IsPrefix (seen_by self.old.place) (seen_by self.new.place) }
         ensures recent { floor_start self.new.place ≤ length (seen_by self.new.place) }
+        ensures loads { loads_of self.new.place ≡ loads_of self.old.place }
     {
         let pin_at = store.shape.pin_at(self.number as usize - 1);
         let epoch_at = store.shape.epoch_at();
@@ -85,6 +87,7 @@ impl<L: Law> Reader<L> {
         ensures pin { (number_of self.new.place ≡ number_of self.old.place) × (pin_of self.new.place ≡ pin_of self.old.place + 1) }
         ensures seen { seen_by self.new.place ≡ seen_by self.old.place }
         ensures floor { floor_of self.new.place ≡ None }
+        ensures loads { loads_of self.new.place ≡ loads_of self.old.place }
     {
         let pin_at = store.shape.pin_at(self.number as usize - 1);
         let Reader { place, pin, .. } = self;
@@ -94,7 +97,7 @@ impl<L: Law> Reader<L> {
     }
 
     /// What the root names at the end of what the reader has then seen, which is every commit so far. The law holds of these, with the
-    /// start of the reader's floor as its base. Counts one step.
+    /// start of the reader's floor as its base. Counts one load.
     pub fn load_root<M: Ledger>(
         &mut self,
         store: &Store<L>,
@@ -113,6 +116,7 @@ impl<L: Law> Reader<L> {
         ensures stamp { result.stamp ≡ (root_of (seen_by self.new.place) root).stamp }
         ensures linked { IsLinked store.now.shape.words (root_of (seen_by self.new.place) root).chain }
         ensures sized { (l : Link) → IsNamed (floor_start self.new.place) (seen_by self.new.place) l → IsInShape store.now.shape l }
+        ensures loads { loads_of self.new.place ≡ loads_of self.old.place + 1 }
         ensures steps { steps.new ≡ steps.old + 1 }
     {
         steps.tick();
@@ -122,7 +126,7 @@ impl<L: Law> Reader<L> {
     }
 
     /// A word of a block that is in some chain which was named since the reader's floor, as far as the reader has seen. It is the word
-    /// of that chain, and of every such chain that has the block. Counts one step.
+    /// of that chain, and of every such chain that has the block. Counts one load.
     pub fn load_word<M: Ledger>(
         &mut self,
         store: &Store<L>,
@@ -135,9 +139,10 @@ impl<L: Law> Reader<L> {
         requires inside { IsInside self.old.place }
         requires told { (l : Link) × IsNamed (floor_start self.old.place) (seen_by self.old.place) l × (l.block ≡ block) }
         ensures store { IsSeatOf store.now self.new.place }
-        ensures same { self.new.place.me ≡ self.old.place.me }
+        ensures same { IsSameButLoads self.old.place self.new.place }
         ensures word { (l : Link) → IsNamed (floor_start self.old.place) (seen_by self.old.place) l → l.block ≡ block
             → result ≡ slice_index l.words word }
+        ensures loads { loads_of self.new.place ≡ loads_of self.old.place + 1 }
         ensures steps { steps.new ≡ steps.old + 1 }
     {
         steps.tick();
@@ -153,6 +158,7 @@ impl<L: Law> Reader<L> {
         ensures same { IsSameReader self.old.place self.new.place }
         ensures longer { IsPrefix (seen_by self.old.place) (seen_by self.new.place) }
         ensures learnt { IsPrefix (seen_by receipt.place) (seen_by self.new.place) }
+        ensures loads { loads_of self.new.place ≡ loads_of self.old.place }
     {
         let Receipt { place } = receipt;
         let shared = &store.words.shared;

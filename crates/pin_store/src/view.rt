@@ -38,6 +38,8 @@ pub struct View<E> {
     pub number: u64,
     pub pin: u64,
     pub floor: Option<Floor>,
+    /// How many words of roots and of blocks it has loaded as a reader.
+    pub loads: u64,
     /// Whether it is the writer's.
     pub writes: bool,
     pub sheet: Sheet,

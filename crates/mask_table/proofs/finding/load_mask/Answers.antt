@@ -10,7 +10,7 @@ use Rattle.mask_table.proofs.finding.load_mask.Goals as goal
 pub returns-then-not-next_block-clause-mask : goal.returns-then-not-next_block-clause-mask
 returns-then-not-next_block-clause-mask g c = let n = c.next_block.ensures in
     let over = n.over c.if-not-next_block.true c.args.root 0 c.along-stamp.ensures.before in
-    sym (ap (λ (h : List (Commit g.row.L-Entry.Denot)). read_first mask_of_words (root_of h c.args.root).chain) (ap (λ m. m.0.seen) n.same)
+    sym (ap (λ (h : List (Commit g.row.L-Entry.Denot)). read_first mask_of_words (root_of h c.args.root).chain) n.same.seen
     ∙ none_read mask_of_words (root_of (seen_by c.along-stamp.new.reader.place) c.args.root).chain over)
 
 pub returns-clause-mask : goal.returns-clause-mask
@@ -18,4 +18,4 @@ returns-clause-mask g c = let n = c.next_block.ensures in
     let there = n.block c.if-not-next_block.false c.args.root 0 c.along-stamp.ensures.before in
     c.mask_in.ensures ∙ (ap mask_of_words there.2
     ∙ (sym (first_read mask_of_words (root_of (seen_by c.along-stamp.new.reader.place) c.args.root).chain there.0 there.1)
-    ∙ ap (λ (h : List (Commit g.row.L-Entry.Denot)). read_first mask_of_words (root_of h c.args.root).chain) (sym (ap (λ m. m.0.seen) n.same))))
+    ∙ ap (λ (h : List (Commit g.row.L-Entry.Denot)). read_first mask_of_words (root_of h c.args.root).chain) (sym n.same.seen)))

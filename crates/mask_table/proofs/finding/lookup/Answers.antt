@@ -4,13 +4,14 @@ use Rattle.store_history.specs.declared.history.Named.{Named}
 use Rattle.store_history.specs.History.{root_of}
 use Rattle.store_history.specs.Reads.{read_all, read_first}
 use Rattle.store_history.proofs.Histories.{prefix_length, prefix_take}
-use Rattle.pin_store.specs.Calls.{seen_by, floor_start, start_in}
+use Rattle.pin_store.specs.Calls.{seen_by, floor_start, start_in, loads_of}
 use Rattle.flow_mask.specs.Masks.{each_and}
 use Rattle.block_codec.specs.declared.filter.StoredFilter.{StoredFilter}
 use Rattle.block_reading.specs.Read.{filter_in, mask_of_words}
-use Rattle.mask_table.specs.Buckets.{mask_root, bucket_root, bucket_for, IsAnswer}
+use Rattle.mask_table.specs.Buckets.{mask_root, bucket_root, bucket_for, key_root, IsAnswer}
 use Rattle.mask_table.proofs.Limits.{within, root_low}
 use Rattle.mask_table.proofs.Looking.{looked_up, one_of}
+use Rattle.mask_table.proofs.Stamps.{no_record, with_record}
 use Rattle.mask_table.proofs.finding.lookup.Goals as goal
 
 pub returns-in_default-clause-found : goal.returns-in_default-clause-found
@@ -65,8 +66,21 @@ returns-clause-found g c = λ n serial low high stands.
     let root : c.root_for.result ≡ bucket_root mask i = c.root_for.ensures in
     let found = subst (λ (z : ℕ). (xs : List StoredFilter) → read_all filter_in (root_of h2 z).chain ≡ Some xs → IsAnswer xs (each_and c.args.key.now.words mask.mask.words) c.search-found.result.0 c.search-found.new.into) root
     (subst (λ (z : List ℕ). (xs : List StoredFilter) → read_all filter_in (root_of h2 c.root_for.result).chain ≡ Some xs → IsAnswer xs z c.search-found.result.0 c.search-found.new.into) key e.found) in
-    let cost = subst (λ (z : ℕ). c.search-found.new.steps ≤ c.load_mask-mask.new.steps + 1 + 40 * length (root_of h2 z).chain) root e.few in let spent = r.few in
+    let cost = subst (λ (z : ℕ). loads_of c.search-found.new.reader.place ≤ loads_of c.load_mask-mask.new.reader.place + 1 + 40 * length (root_of h2 z).chain) root e.few in let spent = r.few in
     let top = c.max.ensures in
     looked_up g.L.MaskLaw.stands (λ (k : ℕ). g.L.MaskLaw.words h2 k serial) (λ (k : ℕ). g.L.MaskLaw.filters h2 k serial) h2 n s.at slot serial c.args.key.now.words mask c.search-found.result.0 c.search-found.new.into
-    c.load_mask-mask.result.1 c.search-found.result.1 c.max.result (c.search-found.new.steps - c.args.steps.now) i
+    c.load_mask-mask.result.1 c.search-found.result.1 c.max.result (loads_of c.search-found.new.reader.place - loads_of c.args.reader.now.place) i
     late (ap (bucket_for mask.size) key) read (ap (λ (z : Named). z.stamp) named ∙ sym r.stamp) o (ap (λ (z : ℕ). (root_of h2 z).stamp) (sym root) ∙ sym e.stamp) a d found (omega arith) (omega arith) (one_of c.load_mask-mask.result.1 c.search-found.result.1 c.max.result top) (omega (arith, cost, spent))
+    (ap length (sym c.words_of-words.ensures.words) ∙ c.words_of-words.ensures.count)
+
+pub returns-in_default-clause-stamps : goal.returns-in_default-clause-stamps
+returns-in_default-clause-stamps g c =
+    let r = c.load_mask-mask.ensures in let h0 = seen_by c.args.reader.now.place in let h1 = seen_by c.load_mask-mask.new.reader.place in
+    no_record h0 h1 c.args.slot c.args.key.now.words c.load_mask-mask.result.1 r.longer (sym r.mask ∙ c.in_default.is) r.stamp
+
+pub returns-clause-stamps : goal.returns-clause-stamps
+returns-clause-stamps g c =
+    let r = c.load_mask-mask.ensures in let e = c.search-found.ensures in let h1 = seen_by c.load_mask-mask.new.reader.place in let h2 = seen_by c.search-found.new.reader.place in
+    let root : c.root_for.result ≡ key_root c.in-Some.mask c.args.key.now.words = c.root_for.ensures ∙ ap (λ (z : List ℕ). bucket_root c.in-Some.mask (bucket_for c.in-Some.mask.size z)) c.masked-wanted.ensures.words in
+    with_record (seen_by c.args.reader.now.place) h1 h2 c.args.slot c.args.key.now.words c.in-Some.mask c.search-found.result.0 c.load_mask-mask.result.1 c.search-found.result.1 c.max.result
+    r.longer e.longer (sym r.mask ∙ c.in-Some.is) r.stamp (e.stamp ∙ ap (λ (z : ℕ). (root_of h2 z).stamp) root) c.max.ensures

@@ -9,13 +9,14 @@ use Rattle.pin_store.specs.Calls.{seen_by}
 use Rattle.block_codec.specs.declared.filter.StoredFilter.{StoredFilter}
 use Rattle.block_reading.specs.Read.{filter_in}
 use Rattle.block_chain.proofs.Chains.{read_at, read_length}
+use Rattle.block_chain.proofs.Still.{still}
 use Rattle.mask_table.proofs.finding.search.Goals as goal
 
 pub returns-in_default-clause-found : goal.returns-in_default-clause-found
 returns-in_default-clause-found g c = λ there all f inf e.
     let h = seen_by c.along-stamp.new.reader.place in let v = c.loop-walk.invariant in let n = c.next_block.ensures in
-    let first : seen_by c.loop-walk.reader.place ≡ h = ap (λ m. m.0.seen) v.same in
-    let last : seen_by c.next_block.new.reader.place ≡ h = ap (λ m. m.0.seen) (n.same ∙ v.same) in
+    let first : seen_by c.loop-walk.reader.place ≡ h = v.same.seen in
+    let last : seen_by c.next_block.new.reader.place ≡ h = n.same.seen ∙ v.same.seen in
     let here = n.block c.loop-walk-test.true c.args.root v.place v.before in
     let chain_at = subst (λ (s : List (Commit g.row.L-Entry.Denot)). slice_get (root_of s c.args.root).chain v.place ≡ Some here.0) first here.1 in
     let reads = read_at filter_in (root_of h c.args.root).chain there v.place here.0 (subst (λ (s : List (Commit g.row.L-Entry.Denot)). read_all filter_in (root_of s c.args.root).chain ≡ Some there) last all) chain_at in
@@ -25,8 +26,8 @@ returns-in_default-clause-found g c = λ there all f inf e.
 pub returns-then-eq-clause-found : goal.returns-then-eq-clause-found
 returns-then-eq-clause-found g c = λ there all.
     let h = seen_by c.along-stamp.new.reader.place in let v = c.loop-walk.invariant in let n = c.next_block.ensures in
-    let first : seen_by c.loop-walk.reader.place ≡ h = ap (λ m. m.0.seen) v.same in
-    let last : seen_by c.next_block.new.reader.place ≡ h = ap (λ m. m.0.seen) (n.same ∙ v.same) in
+    let first : seen_by c.loop-walk.reader.place ≡ h = v.same.seen in
+    let last : seen_by c.next_block.new.reader.place ≡ h = n.same.seen ∙ v.same.seen in
     let here = n.block c.loop-walk-test.true c.args.root v.place v.before in
     let chain_at = subst (λ (s : List (Commit g.row.L-Entry.Denot)). slice_get (root_of s c.args.root).chain v.place ≡ Some here.0) first here.1 in
     let reads = read_at filter_in (root_of h c.args.root).chain there v.place here.0 (subst (λ (s : List (Commit g.row.L-Entry.Denot)). read_all filter_in (root_of s c.args.root).chain ≡ Some there) last all) chain_at in
@@ -36,13 +37,14 @@ returns-then-eq-clause-found g c = λ there all.
 pub loop-walk-preserved : goal.loop-walk-preserved
 loop-walk-preserved g c =
     let h = seen_by c.along-stamp.new.reader.place in let v = c.loop-walk.invariant in let n = c.next_block.ensures in
-    let first : seen_by c.loop-walk.reader.place ≡ h = ap (λ m. m.0.seen) v.same in
+    let first : seen_by c.loop-walk.reader.place ≡ h = v.same.seen in
     let here = n.block c.loop-walk-test.true c.args.root v.place v.before in
     let chain_at = subst (λ (s : List (Commit g.row.L-Entry.Denot)). slice_get (root_of s c.args.root).chain v.place ≡ Some here.0) first here.1 in record {
       store = n.store;
-      same = n.same ∙ v.same;
+      same = still v.same n.same;
       place = v.place + 1;
       before = here.3;
+      loads = omega (arith, n.loads c.loop-walk-test.true, v.loads);
       steps = omega (arith, n.steps c.loop-walk-test.true, v.steps);
       absent = λ there j f all low at. below_more (λ (k : ℕ). (f : StoredFilter) → slice_get there k ≡ Some f → f.key.words ≢ c.args.key.now.words) v.place (λ k low f at. v.absent there k f all low at)
           (λ f at e.
@@ -57,8 +59,8 @@ loop-walk-preserved g c =
 pub returns-clause-found : goal.returns-clause-found
 returns-clause-found g c = λ there all f inf e.
     let h = seen_by c.along-stamp.new.reader.place in let v = c.loop-walk.invariant in let n = c.next_block.ensures in
-    let first : seen_by c.loop-walk.reader.place ≡ h = ap (λ m. m.0.seen) v.same in
-    let last : seen_by c.next_block.new.reader.place ≡ h = ap (λ m. m.0.seen) (n.same ∙ v.same) in
+    let first : seen_by c.loop-walk.reader.place ≡ h = v.same.seen in
+    let last : seen_by c.next_block.new.reader.place ≡ h = n.same.seen ∙ v.same.seen in
     let whole = subst (λ (s : List (Commit g.row.L-Entry.Denot)). read_all filter_in (root_of s c.args.root).chain ≡ Some there) last all in
     let over : v.place ≡ length (root_of h c.args.root).chain = n.over c.loop-walk-test.false c.args.root v.place v.before ∙ ap (λ (s : List (Commit g.row.L-Entry.Denot)). length (root_of s c.args.root).chain) first in
     let long = read_length filter_in (root_of h c.args.root).chain there whole in let less = slice_get_within there inf.0 f inf.1 in

@@ -1,7 +1,7 @@
 use Rattle.std.proofs.Common.{◌≡◌, ◌≢◌, ℕ, ◌<◌, ◌+◌, ◌-◌, ◌*◌, ◌/◌, List, length, slice_get, Some}
 use Rattle.store_history.specs.History.{root_of}
 use Rattle.store_history.specs.Reads.{read_all}
-use Rattle.pin_store.specs.Calls.{seen_by, IsSeatAt}
+use Rattle.pin_store.specs.Calls.{seen_by, loads_of, IsSeatAt, IsSameButLoads}
 use Rattle.block_codec.specs.declared.filter.StoredFilter.{StoredFilter}
 use Rattle.block_reading.specs.Read.{filter_in}
 use Rattle.block_chain.specs.Ways.{IsBefore}
@@ -10,9 +10,10 @@ use Rattle.mask_table.proofs.finding.search.Given as goal
 abbrev pub invariant-loop-walk : goal.invariant-loop-walk
 invariant-loop-walk g l = record {
   store : IsSeatAt l.store.words.shared.table_id l.store.shape l.reader.place;
-  same : l.reader.place.me ≡ l.initial.reader.place.me;
+  same : IsSameButLoads l.initial.reader.place l.reader.place;
   place : ℕ;
   before : IsBefore l.store.shape l.reader.place l.root place l.walk.next;
+  loads : loads_of l.reader.place ≡ loads_of l.initial.reader.place + 40 * place;
   steps : l.steps ≡ l.initial.steps + 40 * place;
   absent : (there : List StoredFilter) (j : ℕ) (f : StoredFilter) → read_all filter_in (root_of (seen_by l.initial.reader.place) l.root).chain ≡ Some there → j < place → slice_get there j ≡ Some f → f.key.words ≢ l.key.words;
 }
