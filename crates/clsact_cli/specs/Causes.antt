@@ -4,7 +4,7 @@ use Rattle.tc_base.specs.Outside.{Held, Rose}
 use Rattle.clsact_cli.specs.declared.status.Status.{Status}
 use Rattle.clsact_cli.specs.declared.status.Status.TheVariants as statuses
 use Rattle.clsact_cli.specs.Command.{Request, request_of}
-use Rattle.clsact_cli.specs.Work.{Ends, Breaks, IsRead, Stops}
+use Rattle.clsact_cli.specs.Work.{Ends, Breaks, IsRead, Stops, IsUnlawful}
 
 -- a file was not read: the shelf tells that nothing stands under its name, or reads failed in this call, the last of them at this name
 abbrev pub ReadFails : {S : Type 0} → (S → Option Held) → (S → ℕ) → (S → Option (List ℕ)) → S → S → List ℕ → Type 0
@@ -20,6 +20,7 @@ abbrev pub DueTo : Option Held → Request → Status → Type 0
 DueTo told request statuses.Done = Ends told request statuses.Done
 DueTo told request (statuses.LinesRefused count) = Ends told request (statuses.LinesRefused count)
 DueTo told request (statuses.BadInput name place kind) = Breaks told request name place kind
+DueTo told request (statuses.NotLawful line) = IsUnlawful told request line
 DueTo told request (statuses.NotBuilt name place) = Stops told request name place
 DueTo told request status = ⊥
 

@@ -54,9 +54,11 @@ DeliveredIn held_old held_new written_old written_new (Some request) status = De
 abbrev pub LeavesAll : Option Held → Option Held → Option (List ℕ) → Option (List ℕ) → Type 0
 LeavesAll held_old held_new written_old written_new = (held_new ≡ held_old) × (written_new ≡ written_old)
 
+-- the other answers come once something was put or written: that a report isn't lawful is itself written
 abbrev pub LeavesAllUnlessRun : Option Held → Option Held → Option (List ℕ) → Option (List ℕ) → Status → Type 0
 LeavesAllUnlessRun held_old held_new written_old written_new statuses.Done = Unit {0}
 LeavesAllUnlessRun held_old held_new written_old written_new (statuses.LinesRefused count) = Unit {0}
+LeavesAllUnlessRun held_old held_new written_old written_new (statuses.NotLawful line) = Unit {0}
 LeavesAllUnlessRun held_old held_new written_old written_new statuses.WriteFault = Unit {0}
 LeavesAllUnlessRun held_old held_new written_old written_new statuses.NoMemory = Unit {0}
 LeavesAllUnlessRun held_old held_new written_old written_new status = LeavesAll held_old held_new written_old written_new

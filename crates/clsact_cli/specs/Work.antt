@@ -45,3 +45,7 @@ Stops told (Show b) name place = ⊥
 Stops told (Walk hook b c o) name place = ⊥
 Stops told (Gen count front) name place = ⊥
 Stops told request name place = (name ≡ verb_of request) × (place ≡ 0)
+
+-- the report that a request names is none of a lawful run of the job, first at this line; no command that judges a report is built yet
+abbrev pub IsUnlawful : Option Held → Request → ℕ → Type 0
+IsUnlawful told request line = ⊥

@@ -4,7 +4,7 @@
 //! its cause, nothing is written where the input is at fault, and the bytes put and written are those that the definitions
 //! in `specs/` give. `plain` is the part that runs no job, and always returns.
 //!
-//! From the words to the lines: `command` reads the words; `input` fetches and reads the files in their order, where the
+//! From the words to the lines: `words` takes the words from the process and `command` reads them; `input` fetches and reads the files in their order, where the
 //! first fault ends the run; `run_show`, `run_walk` and `run_gen` do what one command asks for, `text` writes, and `tool`
 //! picks the one. A batch is applied and shown by the crate `batch_show`, and applied and walked by `batch_walk`; what `gen`
 //! makes comes of `gen_run`. `main` adds the process around it: files, standard output, the text of a status, the exit
@@ -27,25 +27,23 @@ mod status;
 mod tests;
 mod text;
 mod tool;
+mod words;
 
 use status::Status;
-use std::env;
 use std::process::ExitCode;
 use std::rt::{Env, Files};
 use std::sync::Wait;
 use std::thread::Threads;
 use tc_base::{FileShelf, OpenGate, StdSink};
 use tool::tool;
+use words::words;
 
 // The run, and the buffered lines flushed: that they were not taken is the write fault.
 fn run<R: Files + Env + Print + AllocGlobal + Threads + Wait + Sync>(rt: &R) -> Status {
-    let Ok(args) = env::args(rt) else {
-        return Status::Usage;
+    let words = match words(rt) {
+        Ok(words) => words,
+        Err(status) => return status,
     };
-    let Ok(words) = args.skip(1).collect(rt.alloc()) else {
-        return Status::NoMemory;
-    };
-    let words: Vec<String> = words;
     let Ok(mut out) = StdSink::new(rt, rt.alloc()) else {
         return Status::NoMemory;
     };

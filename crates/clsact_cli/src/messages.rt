@@ -6,7 +6,8 @@ use tc_base::Bytes;
 const USAGE: &str =
     "usage: walk HOOK BATCH CAPTURE OUT | show BATCH | run JOB | recheck JOB REPORT | gen N PREFIX";
 
-// A file's name as it was given. Words of the command line are text, so other bytes do not come.
+// A file's name as it was given; one with control characters, which would reach the terminal, is quoted and they are escaped. Words of the
+// command line are text, so other bytes do not come.
 #[derive(Clone, Copy)]
 struct Name<'a>(&'a Bytes);
 
@@ -14,7 +15,8 @@ impl fmt::Display for Name<'_> {
     fn fmt<W: fmt::Write>(&self, f: &mut Formatter<W>) -> fmt::Result {
         let bytes = self.0.as_slice();
         match str::from_utf8(bytes) {
-            Ok(name) => write!(f, "{name}"),
+            Ok(name) if !bytes.iter().any(|b| b.is_ascii_control()) => write!(f, "{name}"),
+            Ok(name) => write!(f, "{name:?}"),
             Err(_) => write!(f, "{bytes:?}"),
         }
     }

@@ -1,0 +1,50 @@
+//! The words of the command line.
+
+use crate::status::Status;
+use std::env::FillError;
+use std::rt::Env;
+
+// How long a word may be at first; the room is doubled for one that is longer.
+const WORD_ROOM: usize = 4096;
+
+// How often: Linux gives no word of more than 131,072 bytes (execve(2)).
+const DOUBLINGS: u32 = 32;
+
+// The word at a place behind the program's own name, or none where the words have ended.
+fn word_at<R: Env + AllocGlobal>(rt: &R, place: usize) -> Result<Option<String>, Status> {
+    let mut room = WORD_ROOM;
+    for _ in 0..DOUBLINGS {
+        let mut bytes = vec![in rt.alloc(); 0u8; room]?;
+        match rt.arg(place, &mut bytes) {
+            Ok(length) => {
+                bytes.truncate(length);
+                return text(bytes);
+            }
+            Err(FillError::NotPresent) => return Ok(None),
+            Err(FillError::TooLong) => room = room.saturating_mul(2),
+        }
+    }
+    Err(Status::NoMemory)
+}
+
+// Bytes that are no text make the words no command.
+fn text(bytes: Vec<u8>) -> Result<Option<String>, Status> {
+    match String::from_utf8(bytes) {
+        Ok(word) => Ok(Some(word)),
+        Err(_) => Err(Status::Usage),
+    }
+}
+
+/// The words behind the program's own name. That name is never read: where the program lies is no matter of what it is asked for.
+///
+/// `Usage`: a word isn't text. `NoMemory`: memory was refused.
+pub fn words<R: Env + AllocGlobal>(rt: &R) -> Result<Vec<String>, Status> {
+    let mut words = Vec::new(rt.alloc());
+    for place in 1..usize::MAX {
+        match word_at(rt, place)? {
+            Some(word) => words.push(word)?,
+            None => break,
+        }
+    }
+    Ok(words)
+}
