@@ -76,9 +76,12 @@ are_tidy kept serial m is =
     let stands = is.stands in
     let within = stands.within in
     let kept_is = is.kept in
+    let some : HasSome m.filters =
+    filters_stand (both_of kept) is.hook stands.place within.place stands.table m kept_is.whole stands.there within.there in
     let rows = filters_are kept serial m is in record {
-      mask_tidy = first_holds (IsRowOf kept serial m is) (IsTidy m.mask) m.filters
-          (filters_stand (both_of kept) is.hook stands.place within.place stands.table m kept_is.whole stands.there within.there) rows (λ f row. let keys = row.keys in keys.mask_tidy);
+      mask_count = first_holds (IsRowOf kept serial m is) (length m.mask ≡ 14) m.filters some rows (λ f row. let keys = row.keys in keys.mask_count);
+      keys_count = each_weaker (IsRowOf kept serial m is) (λ (f : Filter). length f.key.words ≡ 14) (λ f row. let keys = row.keys in keys.key_count) m.filters rows;
+      mask_tidy = first_holds (IsRowOf kept serial m is) (IsTidy m.mask) m.filters some rows (λ f row. let keys = row.keys in keys.mask_tidy);
       keys_tidy = each_weaker (IsRowOf kept serial m is) (λ (f : Filter). IsTidy f.key.words) (λ f row. let keys = row.keys in keys.key_tidy) m.filters rows;
     }
 

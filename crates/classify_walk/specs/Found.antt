@@ -58,8 +58,10 @@ actions_told None = told_no_filter
 abbrev pub FewActions : PlainMask → Type 0
 FewActions mask = Each (λ (filter : Filter). length filter.actions ≤ 16) mask.filters
 
--- no stray bit in the mask, nor in a key
+-- fourteen words in the mask and in each key, and no stray bit
 pub record AreTidy (mask : PlainMask) : Type 0 where
+  pub mask_count : length mask.mask ≡ 14
+  pub keys_count : Each (λ (filter : Filter). length filter.key.words ≡ 14) mask.filters
   pub mask_tidy : IsTidy mask.mask
   pub keys_tidy : Each (λ (filter : Filter). IsTidy filter.key.words) mask.filters
 

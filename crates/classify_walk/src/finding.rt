@@ -2,8 +2,6 @@
 ghost use Rattle.std.specs.Prelude.{◌≡◌, ◌≤◌, ℕ, [], false, length, map, find, is_some, Some, None, IsSomeAnd, IfSome, IfNone};
 ghost use Rattle.std.specs.List.{list_any};
 ghost use Rattle.flow_fields.specs.Values.{values_of};
-ghost use Rattle.filter_index.specs.declared.filter.Filter.{Filter as FilterValue};
-ghost use Rattle.filter_index.specs.Listed.{those_there};
 ghost use Rattle.filter_state.specs.States.{State};
 ghost use Rattle.filter_state.specs.Sound.{Each};
 ghost use Rattle.filter_tables.specs.Seen.{plain_table};
@@ -15,9 +13,8 @@ ghost use Rattle.walk_rules.specs.Answers.{answer_of};
 ghost use Rattle.visit_room.specs.declared.names.ActionName.{ActionName as ActionValue};
 ghost use Rattle.walk_steps.specs.Told.{filter_told, action_serials};
 ghost use Rattle.classify_walk.specs.Answered.{StandsMask, StandsAction};
-ghost use Rattle.classify_walk.specs.Found.{is_mask, has_mask, IsOneOf, IsIn, IsMaskOf, is_met, actions_in, FewActions, AreTidy, AreEven};
+ghost use Rattle.classify_walk.specs.Found.{is_mask, has_mask, IsOneOf, IsIn, IsMaskOf, is_met, actions_in, FewActions, AreTidy};
 
-use filter_index::Filter;
 use filter_lists::{FilterTable, Lists, MaskList};
 use flow_fields::Key;
 use flow_mask::masked;
@@ -104,7 +101,7 @@ fn find_actions(list: &MaskList, key: &Key<14>, into: &mut Hit) -> bool
     ensures found { result ≡ is_some (find (is_met (values_of key.now.words) (plain_mask list.now)) list.now.filters.filters) }
     ensures actions { action_serials into.new ≡ actions_in (find (is_met (values_of key.now.words) (plain_mask list.now)) list.now.filters.filters) }
 {
-    words_are_even(list, key);
+    let _words = words_of(key);
     match list.filters.with_key(&masked(key, &list.mask)) {
         None => false,
         Some(filter) => {
@@ -114,28 +111,7 @@ fn find_actions(list: &MaskList, key: &Key<14>, into: &mut Hit) -> bool
     }
 }
 
-// A frame's key, a mask and the keys of its filters have as many words, by their types. It only reads: a compiler that drops loops
-// without effect leaves nothing of it.
-fn words_are_even(list: &MaskList, key: &Key<14>)
-    ensures { AreEven key.now.words (plain_mask list.now) }
-{
-    let _key_words = words_of(key);
-    let _mask_words = words_of(&list.mask);
-    keys_are_whole(list.filters.slots());
-}
-
-// The keys of filters have 14 words each.
-fn keys_are_whole(slots: &[Option<Filter>])
-    ensures { Each (λ (filter : FilterValue). length filter.key.words ≡ 14) (those_there slots.now) }
-{
-    for slot in slots {
-        if let Some(filter) = slot {
-            let _words = words_of(&filter.key);
-        }
-    }
-}
-
-// The words of a key.
+// The words of a key: fourteen, by its type.
 fn words_of(key: &Key<14>) -> &[u64]
     ensures same { result.now ≡ key.now.words }
     ensures count { length key.now.words ≡ 14 }

@@ -24,7 +24,7 @@ use Rattle.filter_state.specs.Lines.{IsPref, IsIndex, IsProtocol, IsFilter, IsLi
 use Rattle.tc_batch.specs.Grammar.{Gives}
 use Rattle.tc_print.specs.ActionWords.{kind_text, number_words, index_words, list_words}
 use Rattle.tc_print.specs.FieldWords.{fields_words}
-use Rattle.tc_print.specs.EditWords.{hook_text, protocol_words, handle_words, option_words, hook_words, body_words, filter_words, flower_words, edit_words, printed, HasWholeKeys}
+use Rattle.tc_print.specs.EditWords.{hook_text, protocol_words, handle_words, option_words, hook_words, body_words, filter_words, flower_words, edit_words, printed}
 use Rattle.tc_print.specs.Texts.{onto}
 use Rattle.tc_print.proofs.ReadsLines.{words_give}
 use Rattle.tc_print.proofs.CleanActions.{clean_joined, clean_more, clean_number, wider, kind_clean, index_clean, action_clean, shared_action, list_clean}
@@ -83,9 +83,9 @@ edit_clean (edits.ActionChange action) (is, _) = action_clean action (shared_act
 edit_clean (edits.ActionDel kind index) is = clean_more (kind_text kind) (index_words (Some index)) (kind_clean kind) (index_clean (Some index) is)
 
 -- what is printed is read back
-pub printed_gives : (edit : Edit) → IsLine edit → HasWholeKeys edit → Gives (words_of (printed edit)) edit
-printed_gives edit is whole =
-    subst (λ (ws : List (List ℕ)). Gives ws edit) (sym (words-joined (edit_words edit) (edit_clean edit is))) (words_give edit is whole)
+pub printed_gives : (edit : Edit) → IsLine edit → Gives (words_of (printed edit)) edit
+printed_gives edit is =
+    subst (λ (ws : List (List ℕ)). Gives ws edit) (sym (words-joined (edit_words edit) (edit_clean edit is))) (words_give edit is)
 
 -- a text that grows word by word is the words joined
 onto_some : (text : List ℕ) (words : List (List ℕ)) → 0 < length text → list_all is_clean words ≡ true → fold onto text words ≡ join_with_byte 32 (text ∷ words)

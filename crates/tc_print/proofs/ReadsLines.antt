@@ -22,7 +22,7 @@ use Rattle.tc_batch.specs.Fields.{field_setting, filter_head}
 use Rattle.tc_batch.specs.Grammar.{Pairs, Ends, AfterFields, AfterFlower, AfterSettings, FilterRest, Gives}
 use Rattle.tc_print.specs.ActionWords.{list_words}
 use Rattle.tc_print.specs.FieldWords.{fields_words}
-use Rattle.tc_print.specs.EditWords.{hook_text, option_words, flower_words, body_words, edit_words, HasWholeKeys}
+use Rattle.tc_print.specs.EditWords.{hook_text, option_words, flower_words, body_words, edit_words}
 use Rattle.tc_print.proofs.Pairs.{reads_is}
 use Rattle.tc_print.proofs.ReadsControls.{index_read}
 use Rattle.tc_print.proofs.ReadsLists.{list_is, added_is, changed_is}
@@ -53,19 +53,21 @@ made : (make : FilterLine → Edit) (line : FilterLine) (key mask : Key 14) → 
 made make line key mask key_words mask_words =
     sym (ap₂ (λ (k m : Key 14). make (record line { key = k; mask = m })) (key_is key line.key key_words) (key_is mask line.mask mask_words))
 
-add_is : (line : FilterLine) → IsFilter line → HasWholeKeys (edits.FilterAdd line)
+add_is : (line : FilterLine) → IsFilter line
     → Pairs field_setting (AfterFields (edits.FilterAdd line)) (filter_head false line.hook (given_options line)) (fields_words line.key.words line.mask.words ++ list_words line.actions)
-add_is line is (key_count, mask_count) =
+add_is line is =
+    let keys = is.keys in
     let head : Head = filter_head false line.hook (given_options line) in
-    all_fields_are line.key.words line.mask.words key_count mask_count is.keys (AfterFields (edits.FilterAdd line)) head (list_words line.actions)
+    all_fields_are line.key.words line.mask.words keys.key_count keys.mask_count keys (AfterFields (edits.FilterAdd line)) head (list_words line.actions)
     (λ next key_words mask_words.
     list_is (head_with head next) (edits.FilterAdd line) [] line.actions 16 is.actions is.most (made edits.FilterAdd line next.key next.mask key_words mask_words))
 
-replace_is : (line : FilterLine) → IsFilter line → HasWholeKeys (edits.FilterReplace line)
+replace_is : (line : FilterLine) → IsFilter line
     → Pairs field_setting (AfterFields (edits.FilterReplace line)) (filter_head true line.hook (given_options line)) (fields_words line.key.words line.mask.words ++ list_words line.actions)
-replace_is line is (key_count, mask_count) =
+replace_is line is =
+    let keys = is.keys in
     let head : Head = filter_head true line.hook (given_options line) in
-    all_fields_are line.key.words line.mask.words key_count mask_count is.keys (AfterFields (edits.FilterReplace line)) head (list_words line.actions)
+    all_fields_are line.key.words line.mask.words keys.key_count keys.mask_count keys (AfterFields (edits.FilterReplace line)) head (list_words line.actions)
     (λ next key_words mask_words.
     list_is (head_with head next) (edits.FilterReplace line) [] line.actions 16 is.actions is.most (made edits.FilterReplace line next.key next.mask key_words mask_words))
 
@@ -95,19 +97,19 @@ gone_is kinds.Vlan index h = (refl, (refl, reads_is index_number (λ n. Ends (ed
 gone_is kinds.Skbedit index h = (refl, (refl, reads_is index_number (λ n. Ends (edits.ActionDel kinds.Skbedit index) (edits.ActionDel kinds.Skbedit n)) (decimal index) [] index (index_read index h) (refl, refl)))
 
 -- each edit that a line can say is said by its printed words
-pub words_give : (edit : Edit) → IsLine edit → HasWholeKeys edit → Gives (edit_words edit) edit
-words_give edits.HookAdd is whole = (refl, (refl, (refl, (refl, refl))))
-words_give edits.HookDel is whole = (refl, (refl, (refl, (refl, refl))))
-words_give (edits.FilterAdd line) is whole =
+pub words_give : (edit : Edit) → IsLine edit → Gives (edit_words edit) edit
+words_give edits.HookAdd is = (refl, (refl, (refl, (refl, refl))))
+words_give edits.HookDel is = (refl, (refl, (refl, (refl, refl))))
+words_give (edits.FilterAdd line) is =
     device_is (edits.FilterAdd line) filter_verbs.Add line.hook (option_words (Some line.protocol) line.pref line.chain line.handle ++ body_words line)
-    (settings_are filter_verbs.Add (edits.FilterAdd line) line is refl (add_is line is whole))
-words_give (edits.FilterReplace line) (is, some_pref, some_handle) whole =
+    (settings_are filter_verbs.Add (edits.FilterAdd line) line is refl (add_is line is))
+words_give (edits.FilterReplace line) (is, some_pref, some_handle) =
     device_is (edits.FilterReplace line) filter_verbs.Replace line.hook (option_words (Some line.protocol) line.pref line.chain line.handle ++ body_words line)
-    (settings_are filter_verbs.Replace (edits.FilterReplace line) line is (both_given line.pref line.handle some_pref some_handle) (replace_is line is whole))
-words_give (edits.FilterDel hook protocol chain pref handle) (p, c, f, h) whole =
+    (settings_are filter_verbs.Replace (edits.FilterReplace line) line is (both_given line.pref line.handle some_pref some_handle) (replace_is line is))
+words_give (edits.FilterDel hook protocol chain pref handle) (p, c, f, h) =
     let edit : Edit = edits.FilterDel hook protocol chain pref handle in
     device_is edit filter_verbs.Del hook _
     (options_are (AfterSettings filter_verbs.Del hook edit) protocol (Some pref) chain handle (flower_words handle) p f c h (removal_is hook protocol chain pref handle))
-words_give (edits.ActionAdd action) is whole = (refl, added_is (λ it. Ends (edits.ActionAdd action) (edits.ActionAdd it)) action is (refl, refl))
-words_give (edits.ActionChange action) (is, some) whole = (refl, changed_is (λ it. Ends (edits.ActionChange action) (edits.ActionChange it)) action is some (refl, refl))
-words_give (edits.ActionDel kind index) is whole = gone_is kind index is
+words_give (edits.ActionAdd action) is = (refl, added_is (λ it. Ends (edits.ActionAdd action) (edits.ActionAdd it)) action is (refl, refl))
+words_give (edits.ActionChange action) (is, some) = (refl, changed_is (λ it. Ends (edits.ActionChange action) (edits.ActionChange it)) action is some (refl, refl))
+words_give (edits.ActionDel kind index) is = gone_is kind index is

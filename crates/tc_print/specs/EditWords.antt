@@ -1,6 +1,6 @@
 -- The line that an edit is printed as (tc(8), tc-flower(8), tc-actions(8)). Which of the forms that a line can take is printed is
 -- this project's own.
-use Rattle.std.specs.Prelude.{◌≡◌, ℕ, List, [], ◌∷◌, ◌++◌, length, Option, Some, None, codes}
+use Rattle.std.specs.Prelude.{ℕ, List, [], ◌∷◌, ◌++◌, Option, Some, None, codes}
 use Rattle.std.specs.List.{join_with_byte}
 use Rattle.std.specs.Fmt.{decimal}
 use Rattle.line_texts.specs.Texts.{handle_text, protocol_text}
@@ -69,12 +69,6 @@ edit_words (edits.FilterDel hook protocol chain pref handle) = removal_words hoo
 edit_words (edits.ActionAdd action) = codes "actions" ∷ codes "add" ∷ action_words action
 edit_words (edits.ActionChange action) = codes "actions" ∷ codes "change" ∷ action_words action
 edit_words (edits.ActionDel kind index) = codes "actions" ∷ codes "del" ∷ codes "action" ∷ kind_text kind ∷ number_words (codes "index") (Some index)
-
--- the key and the mask of a filter have fourteen words, as each `Key<14>` has
-abbrev pub HasWholeKeys : Edit → Type 0
-HasWholeKeys (edits.FilterAdd line) = (length line.key.words ≡ 14) × (length line.mask.words ≡ 14)
-HasWholeKeys (edits.FilterReplace line) = (length line.key.words ≡ 14) × (length line.mask.words ≡ 14)
-HasWholeKeys edit = Unit {0}
 
 -- the text of an edit: its words, with one space between
 abbrev pub printed : Edit → List ℕ

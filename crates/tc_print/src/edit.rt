@@ -1,12 +1,12 @@
 //! Whole edits.
-ghost use Rattle.std.specs.Prelude.{◌≡◌, [], ◌∷◌, ◌++◌, Some, length, fold, codes, OnOk, IfOk};
+ghost use Rattle.std.specs.Prelude.{◌≡◌, [], ◌∷◌, ◌++◌, Some, fold, codes, OnOk, IfOk};
 ghost use Rattle.tc_words.specs.Lines.{words_of};
 ghost use Rattle.filter_state.specs.declared.edit.Edit.{Edit};
 ghost use Rattle.filter_state.specs.Lines.{IsLine};
 ghost use Rattle.tc_batch.specs.Grammar.{Gives};
 ghost use Rattle.tc_print.specs.ActionWords.{kind_text, index_words, action_words, list_words};
 ghost use Rattle.tc_print.specs.FieldWords.{fields_words};
-ghost use Rattle.tc_print.specs.EditWords.{hook_words, option_words, body_words, filter_words, flower_words, removal_words, qdisc_words, edit_words, HasWholeKeys, printed};
+ghost use Rattle.tc_print.specs.EditWords.{hook_words, option_words, body_words, filter_words, flower_words, removal_words, qdisc_words, edit_words, printed};
 ghost use Rattle.tc_print.specs.Texts.{onto};
 
 use crate::actions::{push_action, push_actions};
@@ -16,7 +16,6 @@ use crate::options::{push_hook, push_options};
 use crate::texts::push_word;
 use act_kinds::Kind;
 use filter_state::{ActionLine, Edit, FilterLine};
-use flow_fields::Key;
 use std::alloc::{AllocError, Global};
 use tc_base::{Hook, NoMemory, Proto};
 
@@ -118,26 +117,6 @@ fn push_edit(out: &mut Vec<u8>, edit: &Edit) -> Result<(), AllocError>
     }
 }
 
-// Does nothing. That a key has fourteen words is known where they are taken as a slice.
-fn has_fourteen_words(key: &Key<14>)
-    ensures { length key.now.words ≡ 14 }
-{
-    let _words: &[u64] = &key.words;
-}
-
-// Does nothing. The line of a filter gives it again since its keys have fourteen words.
-fn has_whole_keys(edit: &Edit)
-    ensures { HasWholeKeys edit.now }
-{
-    match edit {
-        Edit::FilterAdd(line) | Edit::FilterReplace(line) => {
-            has_fourteen_words(&line.key);
-            has_fourteen_words(&line.mask);
-        }
-        _ => {}
-    }
-}
-
 /// The batch line that an edit is printed as, without a line feed (tc(8), tc-flower(8), tc-actions(8)). It gives this edit and
 /// no other.
 ///
@@ -154,7 +133,6 @@ pub fn print_edit(alloc: Global, edit: &Edit) -> Result<Vec<u8>, NoMemory>
     ensures line { IfOk result (λ text. Gives (words_of text.items) edit.now) }
     ensures only { IfOk result (λ text. (other : Edit) → Gives (words_of text.items) other → other ≡ edit.now) }
 {
-    has_whole_keys(edit);
     let mut out = Vec::new(alloc);
     push_edit(&mut out, edit)?;
     Ok(out)

@@ -53,8 +53,12 @@ impl HeadRoom {
         self.is_clear = true;
     }
 
-    /// Brings back the tables that were let go last, if no other was put since. Which tables these are is for the caller to see.
-    pub fn recall(&mut self) {
+    /// Brings back the tables that were let go last, if no other was put since. Which tables these are is for the caller to see. A
+    /// room that has tables keeps them.
+    pub fn recall(&mut self)
+        ensures { 0 < length self.old → self.new ≡ self.old }
+    {
+        // What was let go is still there.
         self.is_clear = false;
     }
 

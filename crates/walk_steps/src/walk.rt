@@ -48,13 +48,20 @@ impl Model for Walk {
 }
 
 impl Walk {
-    ghost use Rattle.std.specs.Prelude.{◌≡◌, ◌≤◌, length, map, IfSome};
-    ghost use Rattle.walk_rules.specs.Walks.{outcome_of};
+    ghost use Rattle.std.specs.Prelude.{◌≡◌, ◌≤◌, [], length, map, Some, IfOk, IfSome};
+    ghost use Rattle.walk_rules.specs.Walks.{outcome_of, outcome_with};
     ghost use Rattle.walk_steps.specs.Told.{execution, IsShortRun};
     ghost use Rattle.walk_steps.specs.Walking.{IsOnWay, KnowsTold, IsBegun, WasVisited, progress_of};
 
     /// Takes the room for walks: a frame, the tables of a hook, and what 65,536 visits leave. No other call takes memory.
-    pub fn with_room(alloc: Global) -> Result<Walk, NoMemory> {
+    ///
+    /// The walk has ended, with pass and without a visit: it takes no step until `begin`.
+    pub fn with_room(alloc: Global) -> Result<Walk, NoMemory>
+        ensures ended { IfOk result (λ walk. progress_of walk.standing ≡ Progress.Ended) }
+        ensures passes { IfOk result (λ walk. outcome_of walk.standing ≡ Some (outcome_with Verdict.Pass walk.standing)) }
+        ensures points { IfOk result (λ walk. walk.points ≡ []) }
+        ensures executed { IfOk result (λ walk. walk.standing.executed ≡ []) }
+    {
         let frame = Frame::with_room(alloc)?;
         let key = dissect(&frame);
         Ok(Walk {

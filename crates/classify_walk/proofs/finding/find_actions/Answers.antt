@@ -7,6 +7,7 @@ use Rattle.filter_index.specs.Listed.{has_key}
 use Rattle.filter_tables.specs.SeenMask.{plain_mask}
 use Rattle.walk_steps.specs.Told.{action_serials}
 use Rattle.classify_walk.specs.Found.{is_met, actions_in}
+use Rattle.classify_walk.proofs.EvenKeys.{all_even}
 use Rattle.classify_walk.proofs.MetFilters.{met_is}
 use Rattle.classify_walk.proofs.StandingFilters.{found_holds}
 use Rattle.classify_walk.proofs.finding.find_actions.Goals as goal
@@ -17,11 +18,11 @@ found_some c = sym c.with_key.ensures ∙ ap option_copied c.in-Some.is
 
 met_some : (c : In-Some) → find (is_met (values_of c.args.key.now.words) (plain_mask c.args.list.now)) c.args.list.now.filters.filters ≡ Some c.in-Some.filter.now
 met_some c =
-    met_is c.args.key.now.words c.masked.result.words (plain_mask c.args.list.now) (Some c.in-Some.filter.now) c.words_are_even.ensures c.requires.tidy c.masked.ensures.words (found_some c)
+    met_is c.args.key.now.words c.masked.result.words (plain_mask c.args.list.now) (Some c.in-Some.filter.now) (all_even c.args.key.now.words (plain_mask c.args.list.now) c.words_of-words.ensures.count c.requires.tidy) c.requires.tidy c.masked.ensures.words (found_some c)
 
 met_none : (c : In-None) → find (is_met (values_of c.args.key.now.words) (plain_mask c.args.list.now)) c.args.list.now.filters.filters ≡ None
 met_none c =
-    met_is c.args.key.now.words c.masked.result.words (plain_mask c.args.list.now) None c.words_are_even.ensures c.requires.tidy c.masked.ensures.words
+    met_is c.args.key.now.words c.masked.result.words (plain_mask c.args.list.now) None (all_even c.args.key.now.words (plain_mask c.args.list.now) c.words_of-words.ensures.count c.requires.tidy) c.requires.tidy c.masked.ensures.words
     (sym c.with_key.ensures ∙ ap option_copied c.in-None.is)
 
 pub tell_actions-requires-clause-few : goal.tell_actions-requires-clause-few

@@ -18,7 +18,7 @@ returns-clause-line c =
     let text : c.push_edit.new.out.items ≡ printed c.args.edit.now =
     c.in_ok-push_edit.ensures ∙ ap (λ (t : List ℕ). fold onto t (edit_words c.args.edit.now)) c.new-out.ensures.items
     ∙ grown_join (edit_words c.args.edit.now) (edit_clean c.args.edit.now c.requires) in
-    subst (λ (t : List ℕ). Gives (words_of t) c.args.edit.now) (sym text) (printed_gives c.args.edit.now c.requires c.has_whole_keys.ensures)
+    subst (λ (t : List ℕ). Gives (words_of t) c.args.edit.now) (sym text) (printed_gives c.args.edit.now c.requires)
 
 pub returns-clause-only : goal.returns-clause-only
 returns-clause-only c = λ other gives. one_edit (words_of c.push_edit.new.out.items) other c.args.edit.now gives (returns-clause-line c)
