@@ -21,3 +21,4 @@ pub mod Slots
 pub mod Resting
 pub mod Preparing
 pub mod Case
+pub mod Rising

@@ -30,7 +30,7 @@
 //! `emptied_roots`, `resize` for those without a number, `marker_commit`, `bucket_commit`, `filter_added`, `filter_replaced`,
 //! `filter_removed`, `action_made`, `action_changed`, `head_changed` for those with one. Each says too which things come to
 //! stand, so that whoever keeps unused roots in pools knows that the others stay unused, and which masks are at rest afterwards.
-//! `roots_tell`, `heads_tell`, `masks_tell` and `slots_tell` are what a reader has of it. `small_hook` is one history worked out.
+//! `roots_tell`, `heads_tell`, `masks_tell`, `slots_tell` and `stamps_rise` are what a reader has of it. `small_hook` is one history worked out.
 //!
 //! The functions have no code. A proof that calls one has its clauses, or it cites the lemma behind it. At run time nothing is
 //! called and nothing is shared, so any thread may do so. Not promised: that an edit meets the premises of its kind, which is to
@@ -52,5 +52,5 @@ pub use law::{base_rises, law_opens, small_hook, unused_roots, what_left};
 pub use plain_laws::{
     emptied_roots, own_roots, prepared_roots, resize, resize_end, spare_commit, spare_commits,
 };
-pub use reader_laws::{heads_tell, masks_tell, roots_tell, slots_tell};
+pub use reader_laws::{heads_tell, masks_tell, roots_tell, slots_tell, stamps_rise};
 pub use terms::Terms;

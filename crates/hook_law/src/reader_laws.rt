@@ -1,5 +1,5 @@
 //! What the law tells a reader, in the states of the whole history that it has seen.
-ghost use Rattle.std.specs.Prelude.{◌≡◌, ◌-◌, ◌<◌, ◌≤◌, ℕ, List, length, map, take, slice_get, Some};
+ghost use Rattle.std.specs.Prelude.{◌≡◌, ◌-◌, ◌<◌, ◌≤◌, ◌++◌, ℕ, List, length, map, take, slice_get, Some};
 ghost use Rattle.store_history.specs.declared.history.Commit.{Commit};
 ghost use Rattle.store_history.specs.History.{root_of, edits_of};
 ghost use Rattle.hook_law.specs.Places.{hooks, rows, head_root, mask_root, row_of};
@@ -19,6 +19,13 @@ use crate::terms::Terms;
 pub fn roots_tell<T: Terms>()
     ensures { (h : List (Commit T.Edit)) (b n r : ℕ) (role : Role) → Keeps T.meaning T.codec h b → b ≤ n → n ≤ length h
         → Stands T.meaning T.codec (take n h) r role → Told T.meaning T.codec h n r role }
+{}
+
+/// The stamp of a root at which something stood since the base never falls, whatever commits come. So of two visits of one thing the later
+/// one has no lower stamp.
+pub fn stamps_rise<T: Terms>()
+    ensures { (h more : List (Commit T.Edit)) (b n r : ℕ) (role : Role) → Keeps T.meaning T.codec (h ++ more) b → b ≤ n → n ≤ length h
+        → Stands T.meaning T.codec (take n h) r role → (root_of h r).stamp ≤ (root_of (h ++ more) r).stamp }
 {}
 
 /// A head stands always, so its root tells it up to the last point.
