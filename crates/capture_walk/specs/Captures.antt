@@ -1,4 +1,5 @@
 -- What the walks of a capture leave: each packet by the plain walk of one state (this project's own).
+use Rattle.walk_rules.specs.declared.limits.TheConstants.{VISITS_MAX}
 use Rattle.std.specs.Prelude.{ℕ, zero, suc, ◌+◌, ◌-◌, ◌*◌, ◌≤◌, ◌==◌, min, List, [], ◌∷◌, length, map, sum_by, count_by, if◌then◌else◌}
 use Rattle.std.specs.List.{flat_map}
 use Rattle.tc_base.specs.declared.hook.Hook.{Hook}
@@ -79,4 +80,4 @@ each_added serial (count ∷ counts) executed = together count (count_at execute
 
 -- what so many walks can count
 abbrev pub AreFew : ℕ → List Count → Type 0
-AreFew walks counts = Each (λ (count : Count). (count.packets ≤ walks * 65536) × (count.bytes ≤ walks * 17179869184)) counts
+AreFew walks counts = Each (λ (count : Count). (count.packets ≤ walks * VISITS_MAX) × (count.bytes ≤ walks * 17179869184)) counts

@@ -3,6 +3,7 @@ ghost use Rattle.std.specs.Prelude.{◌≡◌, ◌≤◌, length, Some};
 ghost use Rattle.filter_state.specs.States.{State};
 ghost use Rattle.filter_state.specs.Sound.{Each};
 ghost use Rattle.filter_lists.specs.Spells.{Spells};
+ghost use Rattle.walk_rules.specs.declared.limits.TheConstants.{VISITS_MAX};
 ghost use Rattle.walk_rules.specs.Walks.{outcome_of};
 ghost use Rattle.walk_rules.specs.Plain.{plain_walk};
 
@@ -17,7 +18,7 @@ pub fn walk_still(walk: &mut Walk, lists: &Lists, point: Point, hook: Hook, byte
     requires { length bytes.now ≤ 262144 }
     ensures plain { (s : State) → Spells lists.now s → outcome_of walk.new.standing ≡ Some (plain_walk s hook bytes.now) }
     ensures points { Each (λ visited. visited ≡ point) walk.new.points }
-    ensures few { length walk.new.points ≤ 65536 }
+    ensures few { length walk.new.points ≤ VISITS_MAX }
 {
     walk.begin(hook, bytes);
     let mut still = Still { lists, point };

@@ -10,7 +10,8 @@ use Rattle.filter_state.specs.States.{State}
 use Rattle.walk_rules.specs.declared.verdict.Verdict.TheVariants as verdicts
 use Rattle.walk_rules.specs.Questions.{Head, Question, Answer, told_heads, told_no_filter, told_actions, told_params}
 use Rattle.walk_rules.specs.Answers.{answer_of}
-use Rattle.walk_rules.specs.Steps.{Place, at_head, at_mask, at_action, ended, Standing, begun, most_visits, question_at, question_of, after_list, after_action, after_found, after_at, after, ran, action_at}
+use Rattle.walk_rules.specs.declared.limits.TheConstants.{VISITS_MAX}
+use Rattle.walk_rules.specs.Steps.{Place, at_head, at_mask, at_action, ended, Standing, begun, question_at, question_of, after_list, after_action, after_found, after_at, after, ran, action_at}
 use Rattle.walk_rules.specs.Walks.{Outcome, outcome_with, outcome_at, outcome_of, IsWalk, AnsweredBy}
 
 -- ---- a walk that has ended asks nothing
@@ -21,18 +22,18 @@ asked : (b : Bool) (o : Option Question) (question : Question) → cond b o None
 asked true o question e = (refl, e)
 asked false o question e = absurd (cc e)
 
-pub asked_at : (st : Standing) (question : Question) → question_of st ≡ Some question → (nat_lt st.visits most_visits ≡ true) × (question_at st st.place ≡ Some question)
-asked_at st question e = asked (nat_lt st.visits most_visits) (question_at st st.place) question e
+pub asked_at : (st : Standing) (question : Question) → question_of st ≡ Some question → (nat_lt st.visits VISITS_MAX ≡ true) × (question_at st st.place ≡ Some question)
+asked_at st question e = asked (nat_lt st.visits VISITS_MAX) (question_at st st.place) question e
 
-never_both : {X : Type 0} (n : ℕ) (b : Bool) (o : X) (outcome : X) → nat_lt n most_visits ≡ true → (n == most_visits) ≡ b → cond b (Some o) None ≡ Some outcome → ⊥
+never_both : {X : Type 0} (n : ℕ) (b : Bool) (o : X) (outcome : X) → nat_lt n VISITS_MAX ≡ true → (n == VISITS_MAX) ≡ b → cond b (Some o) None ≡ Some outcome → ⊥
 never_both n true o outcome less is e = grind (arith, nat_tests, less, is)
 never_both n false o outcome less is e = cc e
 
-ended_at : (st : Standing) (place : Place) (question : Question) (outcome : Outcome) → nat_lt st.visits most_visits ≡ true → question_at st place ≡ Some question → outcome_at place st ≡ Some outcome → ⊥
-ended_at st at_head question outcome less asks ends = never_both st.visits (st.visits == most_visits) (outcome_with verdicts.Drop st) outcome less refl ends
-ended_at st (at_mask head masks tables) question outcome less asks ends = never_both st.visits (st.visits == most_visits) (outcome_with verdicts.Drop st) outcome less refl ends
+ended_at : (st : Standing) (place : Place) (question : Question) (outcome : Outcome) → nat_lt st.visits VISITS_MAX ≡ true → question_at st place ≡ Some question → outcome_at place st ≡ Some outcome → ⊥
+ended_at st at_head question outcome less asks ends = never_both st.visits (st.visits == VISITS_MAX) (outcome_with verdicts.Drop st) outcome less refl ends
+ended_at st (at_mask head masks tables) question outcome less asks ends = never_both st.visits (st.visits == VISITS_MAX) (outcome_with verdicts.Drop st) outcome less refl ends
 ended_at st (at_action head actions position jumps tables) question outcome less asks ends =
-    never_both st.visits (st.visits == most_visits) (outcome_with verdicts.Drop st) outcome less refl ends
+    never_both st.visits (st.visits == VISITS_MAX) (outcome_with verdicts.Drop st) outcome less refl ends
 ended_at st (ended verdict) question outcome less asks ends = cc asks
 
 pub asks_or_ended : (st : Standing) (question : Question) (outcome : Outcome) → question_of st ≡ Some question → outcome_of st ≡ Some outcome → ⊥
@@ -112,12 +113,12 @@ counted st place answer = refl
 pub one_more : (st : Standing) (answer : Answer) → (after st answer).visits ≡ st.visits + 1
 one_more st answer = counted st st.place answer
 
-less_than_most : (n : ℕ) → nat_lt n most_visits ≡ true → suc n ≤ most_visits
+less_than_most : (n : ℕ) → nat_lt n VISITS_MAX ≡ true → suc n ≤ VISITS_MAX
 less_than_most n less = grind (arith, nat_tests, less)
 
 -- from a standing on, no more visits are made than are left there, whatever is answered
-pub few_more : {V : Type 0} (told : V → Question → Answer → ℕ → V → Type 0) (points : List ℕ) (before now : V) (st : Standing) (outcome : Outcome) → st.visits ≤ most_visits →
-    IsWalk told before st points now outcome → length points + st.visits ≤ most_visits
+pub few_more : {V : Type 0} (told : V → Question → Answer → ℕ → V → Type 0) (points : List ℕ) (before now : V) (st : Standing) (outcome : Outcome) → st.visits ≤ VISITS_MAX →
+    IsWalk told before st points now outcome → length points + st.visits ≤ VISITS_MAX
 few_more told [] before now st outcome most walk = omega (arith, most)
 few_more told (p ∷ ps) before now st outcome most walk =
     let less = less_than_most st.visits (asked_at st walk.0 walk.3).0 in

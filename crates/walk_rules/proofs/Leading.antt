@@ -18,19 +18,20 @@ use Rattle.walk_rules.specs.declared.verdict.Verdict.{Verdict}
 use Rattle.walk_rules.specs.declared.verdict.Verdict.TheVariants as verdicts
 use Rattle.walk_rules.specs.Questions.{Head, Question, params_of, Answer, told_params}
 use Rattle.walk_rules.specs.Answers.{answer_of, params_answer}
-use Rattle.walk_rules.specs.Steps.{Place, at_mask, at_action, ended, Standing, most_visits, question_at, question_of, restarted, after_list, after_action, after, first_stop}
+use Rattle.walk_rules.specs.declared.limits.TheConstants.{VISITS_MAX}
+use Rattle.walk_rules.specs.Steps.{Place, at_mask, at_action, ended, Standing, question_at, question_of, restarted, after_list, after_action, after, first_stop}
 use Rattle.walk_rules.specs.Walks.{Outcome, IsWalk, AnsweredBy}
 use Rattle.walk_rules.proofs.Listed.{found}
 use Rattle.walk_rules.specs.Plain.{Carried, ends_with, carried_on, ListEnd, list_over, list_on, run_action, run_list, after_end}
 
 -- ---- visits that are left
 abbrev pub AreLeft : ℕ → ℕ → Type 0
-AreLeft left visits = left + visits ≡ most_visits
+AreLeft left visits = left + visits ≡ VISITS_MAX
 
-some_left : (n v : ℕ) → AreLeft (suc n) v → nat_lt v most_visits ≡ true
+some_left : (n v : ℕ) → AreLeft (suc n) v → nat_lt v VISITS_MAX ≡ true
 some_left n v left = grind (arith, nat_tests, left)
 
-none_left : (v : ℕ) → AreLeft 0 v → (v == most_visits) ≡ true
+none_left : (v : ℕ) → AreLeft 0 v → (v == VISITS_MAX) ≡ true
 none_left v left = grind (arith, nat_tests, left)
 
 pub one_fewer : (n v : ℕ) → AreLeft (suc n) v → AreLeft n (v + 1)

@@ -13,6 +13,7 @@ use Rattle.act_list.specs.Run.{Stand, on, over, stand_after}
 use Rattle.filter_state.specs.States.{Row, Action, State}
 use Rattle.filter_state.specs.Actions.{has_serial}
 use Rattle.filter_state.specs.Tables.{first_where}
+use Rattle.walk_rules.specs.declared.limits.TheConstants.{VISITS_MAX, RESTARTS_MAX}
 use Rattle.walk_rules.specs.declared.verdict.Verdict.{Verdict}
 use Rattle.walk_rules.specs.declared.verdict.Verdict.TheVariants as verdicts
 use Rattle.walk_rules.specs.Questions.{Head}
@@ -117,4 +118,4 @@ chain_outcome s heads (suc restarts) chain left carried = tables_outcome s (chai
 
 -- THE PLAIN WALK of these bytes at a hook: the head takes the first of 65,536 visits
 unfoldable pub plain_walk : State → Hook → List ℕ → Outcome
-plain_walk s hook bytes = chain_outcome s (heads_on hook s) 16 0 65535 (record { frame = loaded_frame bytes; executed = [] })
+plain_walk s hook bytes = chain_outcome s (heads_on hook s) RESTARTS_MAX 0 (VISITS_MAX - 1) (record { frame = loaded_frame bytes; executed = [] })

@@ -12,6 +12,7 @@ use Rattle.act_kinds.specs.Acts.{acted_on, control_given}
 use Rattle.act_list.specs.declared.run.Ending.{Ending}
 use Rattle.act_list.specs.declared.run.Ending.TheVariants as endings
 use Rattle.act_list.specs.Run.{Stand, on, over, stand_after}
+use Rattle.walk_rules.specs.declared.limits.TheConstants.{VISITS_MAX, RESTARTS_MAX}
 use Rattle.walk_rules.specs.declared.verdict.Verdict.{Verdict}
 use Rattle.walk_rules.specs.declared.verdict.Verdict.TheVariants as verdicts
 use Rattle.walk_rules.specs.Questions.{Head, Question, heads_of, filter_of, params_of, Answer, told_heads, told_no_filter, told_actions, told_params}
@@ -41,11 +42,7 @@ pub record Standing : Type 0 where
 
 -- a walk of these bytes that has not begun
 abbrev pub begun : Hook → List ℕ → Standing
-begun hook bytes = record { hook = hook; frame = loaded_frame bytes; heads = []; restarts = 16; visits = 0; executed = []; place = at_head }
-
--- the visits of a walk at most
-abbrev pub most_visits : ℕ
-most_visits = 65536
+begun hook bytes = record { hook = hook; frame = loaded_frame bytes; heads = []; restarts = RESTARTS_MAX; visits = 0; executed = []; place = at_head }
 
 -- ---- tables
 abbrev pub admits : Proto → ℕ → Bool
@@ -79,7 +76,7 @@ question_at st (ended verdict) = None
 
 -- the next question of a walk; none at its end, nor once all visits were made
 abbrev pub question_of : Standing → Option Question
-question_of st = if nat_lt st.visits most_visits then question_at st st.place else None
+question_of st = if nat_lt st.visits VISITS_MAX then question_at st st.place else None
 
 -- ---- what follows an answer
 -- one visit more, and then at that place

@@ -7,7 +7,8 @@ use Rattle.walk_rules.specs.declared.verdict.Verdict.{Verdict}
 use Rattle.walk_rules.specs.declared.verdict.Verdict.TheVariants as verdicts
 use Rattle.walk_rules.specs.Questions.{Question, Answer}
 use Rattle.walk_rules.specs.Answers.{answer_of}
-use Rattle.walk_rules.specs.Steps.{Execution, Place, ended, Standing, begun, most_visits, question_of, after}
+use Rattle.walk_rules.specs.declared.limits.TheConstants.{VISITS_MAX}
+use Rattle.walk_rules.specs.Steps.{Execution, Place, ended, Standing, begun, question_of, after}
 
 -- how a walk ended: the frame with its metadata, and what ran on it, in order
 pub record Outcome : Type 0 where
@@ -21,7 +22,7 @@ outcome_with verdict st = record { verdict = verdict; frame = st.frame; executed
 -- a walk that needs a further visit after the last that it may make ends with drop
 abbrev pub outcome_at : Place → Standing → Option Outcome
 outcome_at (ended verdict) st = Some (outcome_with verdict st)
-outcome_at place st = if st.visits == most_visits then Some (outcome_with verdicts.Drop st) else None
+outcome_at place st = if st.visits == VISITS_MAX then Some (outcome_with verdicts.Drop st) else None
 
 -- the outcome of a walk that has ended
 abbrev pub outcome_of : Standing → Option Outcome

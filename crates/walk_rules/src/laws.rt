@@ -4,6 +4,7 @@ ghost use Rattle.tc_base.specs.declared.hook.Hook.{Hook};
 ghost use Rattle.filter_state.specs.States.{State};
 ghost use Rattle.filter_state.specs.Order.{SameState};
 ghost use Rattle.filter_state.specs.Sound.{Sound};
+ghost use Rattle.walk_rules.specs.declared.limits.TheConstants.{VISITS_MAX};
 ghost use Rattle.walk_rules.specs.Questions.{Question};
 ghost use Rattle.walk_rules.specs.Answers.{answer_of};
 ghost use Rattle.walk_rules.specs.Walks.{Outcome, IsWalkOver};
@@ -14,7 +15,7 @@ pub fn one_walk()
     ensures outcome { (states : ℕ → State) (hook : Hook) (bytes points : List ℕ) (one other : Outcome) →
         IsWalkOver states hook bytes points one → IsWalkOver states hook bytes points other → one ≡ other }
     ensures few { (states : ℕ → State) (hook : Hook) (bytes points : List ℕ) (outcome : Outcome) →
-        IsWalkOver states hook bytes points outcome → length points ≤ 65536 }
+        IsWalkOver states hook bytes points outcome → length points ≤ VISITS_MAX }
 {}
 
 /// Over one sound state there is a walk, and each walk is the plain one.

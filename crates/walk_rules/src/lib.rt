@@ -18,7 +18,9 @@
 #![tactic(auto)]
 
 mod laws;
+mod limits;
 mod verdict;
 
 pub use laws::{one_state, one_walk, order_is_free};
+pub use limits::{RESTARTS_MAX, VISITS_MAX};
 pub use verdict::Verdict;

@@ -1,4 +1,5 @@
 -- Where the program's places say that a walk stands.
+use Rattle.walk_rules.specs.declared.limits.TheConstants.{VISITS_MAX}
 use Rattle.std.specs.Prelude.{◌≡◌, ℕ, false, ◌-◌, ◌<◌, ◌≤◌, ◌==◌, List, [], ◌∷◌, ◌++◌, length, map, drop, Some, if◌then◌else◌, slice_index_or}
 use Rattle.frame_edit.specs.Tags.{ether_type_of}
 use Rattle.flow_fields.specs.Values.{values_of}
@@ -60,7 +61,7 @@ pub record IsCourse (c : Course) : Type 0 where
   pub stop : IsStop c.heads c.hit c.stage
   pub fields : values_of c.key.words ≡ frame_values c.frame.bytes
   pub executed : length c.executed ≤ length c.points
-  pub visits : length c.points ≤ 65536
+  pub visits : length c.points ≤ VISITS_MAX
 
 abbrev pub IsGoing : Course → Type 0
 IsGoing c = (question : Question) × (question_of (standing_of c) ≡ Some question)

@@ -4,9 +4,7 @@ ghost use Rattle.walk_steps.specs.Told.{execution};
 use std::alloc::Global;
 use std::marker::Model;
 use tc_base::{NoMemory, Point};
-
-// The visits of a walk at most (this project's own).
-const VISITS_MAX: usize = 65_536;
+use walk_rules::VISITS_MAX;
 
 /// The points of the visits that a walk has made, in order.
 #[derive(Drop)]
@@ -15,16 +13,18 @@ pub(crate) struct PointRoom {
 }
 
 impl Model for PointRoom {
+    ghost use Rattle.walk_rules.specs.declared.limits.TheConstants.{VISITS_MAX};
     ghost use Rattle.std.specs.Prelude.{◌≤◌, ℕ, List, length, vec_capacity};
 
     ghost Value = { List ℕ };
 
     ghost view = { λ r. r.points.items };
 
-    ghost invariant = { λ r. (65536 ≤ vec_capacity r.points) × (length r.points.items ≤ 65536) };
+    ghost invariant = { λ r. (VISITS_MAX ≤ vec_capacity r.points) × (length r.points.items ≤ VISITS_MAX) };
 }
 
 impl PointRoom {
+    ghost use Rattle.walk_rules.specs.declared.limits.TheConstants.{VISITS_MAX};
     ghost use Rattle.std.specs.Prelude.{◌≡◌, ◌<◌, ◌≤◌, ◌++◌, ◌∷◌, [], length, IfOk};
 
     pub(crate) fn with_room(alloc: Global) -> Result<PointRoom, NoMemory>
@@ -42,7 +42,7 @@ impl PointRoom {
     }
 
     pub(crate) fn push(&mut self, point: Point)
-        requires { length self.old < 65536 }
+        requires { length self.old < VISITS_MAX }
         ensures { self.new ≡ self.old ++ (point ∷ []) }
     {
         match self.points.push(point) {
@@ -53,7 +53,7 @@ impl PointRoom {
 
     pub(crate) fn points(&self) -> &[Point]
         ensures same { result.now ≡ self.now }
-        ensures few { length self.now ≤ 65536 }
+        ensures few { length self.now ≤ VISITS_MAX }
     {
         &self.points
     }
@@ -66,6 +66,7 @@ pub(crate) struct ExecutionRoom {
 }
 
 impl Model for ExecutionRoom {
+    ghost use Rattle.walk_rules.specs.declared.limits.TheConstants.{VISITS_MAX};
     ghost use Rattle.std.specs.Prelude.{◌≤◌, ℕ, List, length, vec_capacity};
     ghost use Rattle.walk_steps.specs.Told.{IsShortRun};
 
@@ -73,10 +74,11 @@ impl Model for ExecutionRoom {
 
     ghost view = { λ r. r.executed.items };
 
-    ghost invariant = { λ r. (65536 ≤ vec_capacity r.executed) × IsShortRun r.executed.items };
+    ghost invariant = { λ r. (VISITS_MAX ≤ vec_capacity r.executed) × IsShortRun r.executed.items };
 }
 
 impl ExecutionRoom {
+    ghost use Rattle.walk_rules.specs.declared.limits.TheConstants.{VISITS_MAX};
     ghost use Rattle.std.specs.Prelude.{◌≡◌, ◌<◌, ◌≤◌, ◌++◌, ◌∷◌, [], length, IfOk};
     ghost use Rattle.walk_steps.specs.Told.{IsShortRun};
 
@@ -95,7 +97,7 @@ impl ExecutionRoom {
     }
 
     pub(crate) fn push(&mut self, serial: u32, frame_length: u32)
-        requires room { length self.old < 65536 }
+        requires room { length self.old < VISITS_MAX }
         requires short { frame_length ≤ 262144 }
         ensures { self.new ≡ self.old ++ ((serial, frame_length) ∷ []) }
     {

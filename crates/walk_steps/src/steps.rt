@@ -1,5 +1,6 @@
 //! One visit of a walk, and what follows its answer.
 ghost use Rattle.std.specs.Prelude.{◌≡◌, ◌<◌, length};
+ghost use Rattle.walk_rules.specs.declared.limits.TheConstants.{VISITS_MAX};
 ghost use Rattle.walk_steps.specs.Standings.{IsCourse, IsGoing, IsKnown, Stepped};
 
 use crate::course::{Course, Stage};
@@ -12,7 +13,7 @@ use act_list::{ListRun, Next};
 fn head_step<V: Visits>(course: &mut Course, visits: &mut V)
     requires stage { course.old.stage ≡ Stage.AtHead }
     requires course { IsCourse course.old }
-    requires left { length course.old.points < 65536 }
+    requires left { length course.old.points < VISITS_MAX }
     ensures step { Stepped V.told visits.old visits.new course.old course.new }
     ensures course { IsCourse course.new }
     ensures known { IsKnown V.knows_mask V.knows_action visits.new course.new }
@@ -26,7 +27,7 @@ fn head_step<V: Visits>(course: &mut Course, visits: &mut V)
 fn mask_step<V: Visits>(course: &mut Course, visits: &mut V, table: usize, mask: usize)
     requires stage { course.old.stage ≡ Stage.AtMask table mask }
     requires course { IsCourse course.old }
-    requires left { length course.old.points < 65536 }
+    requires left { length course.old.points < VISITS_MAX }
     requires known { IsKnown V.knows_mask V.knows_action visits.old course.old }
     ensures step { Stepped V.told visits.old visits.new course.old course.new }
     ensures course { IsCourse course.new }
@@ -47,7 +48,7 @@ fn mask_step<V: Visits>(course: &mut Course, visits: &mut V, table: usize, mask:
 fn action_step<V: Visits>(course: &mut Course, visits: &mut V, table: usize, mut run: ListRun)
     requires stage { course.old.stage ≡ Stage.AtAction table run }
     requires course { IsCourse course.old }
-    requires left { length course.old.points < 65536 }
+    requires left { length course.old.points < VISITS_MAX }
     requires known { IsKnown V.knows_mask V.knows_action visits.old course.old }
     ensures step { Stepped V.told visits.old visits.new course.old course.new }
     ensures course { IsCourse course.new }

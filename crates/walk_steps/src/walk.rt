@@ -15,12 +15,7 @@ use std::alloc::Global;
 use std::marker::Model;
 use tc_base::{Hook, NoMemory, Point};
 use visit_room::{HeadRoom, Hit};
-use walk_rules::Verdict;
-
-// The visits of a walk at most, and its restarts (this project's own).
-const VISITS_MAX: usize = 65_536;
-
-const RESTARTS_MAX: u32 = 16;
+use walk_rules::{RESTARTS_MAX, VISITS_MAX, Verdict};
 
 /// Whether a walk needs a further visit.
 #[derive(Clone, Copy, Debug, PartialEq, Eq)]
