@@ -25,7 +25,7 @@ mod run;
 mod stop;
 
 pub use laws::{made_in_order, made_in_range, one_outcome};
-pub use limit::line_past_limit;
+pub use limit::{COMMANDS_MAX, line_past_limit};
 pub use made_action::{MadeAction, log_made};
 pub use run::{BatchRun, run_batch};
 pub use stop::Stop;

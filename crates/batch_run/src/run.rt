@@ -4,6 +4,7 @@ ghost use Rattle.tc_words.specs.Lines.{words_of};
 ghost use Rattle.filter_state.specs.States.{State, no_state};
 ghost use Rattle.filter_lists.specs.Spells.{Spells};
 ghost use Rattle.filter_lists.specs.Edits.{MayStep};
+ghost use Rattle.batch_run.specs.declared.limit.TheConstants.{COMMANDS_MAX};
 ghost use Rattle.batch_run.specs.Commands.{commands_in};
 ghost use Rattle.batch_run.specs.Runs.{Ran, IsRun};
 ghost use Rattle.batch_run.specs.Applied.{IsApplied};
@@ -33,7 +34,7 @@ pub struct BatchRun {
 ///
 /// `NoMemory`: memory was refused. Nothing is told of the lists then.
 pub fn run_batch(alloc: Global, texts: &[&[u8]]) -> Result<BatchRun, NoMemory>
-    requires { length (commands_in texts.now) ≤ 262144 }
+    requires { length (commands_in texts.now) ≤ COMMANDS_MAX }
     ensures { IfOk result (λ run. (ran : Ran) × Spells run.lists ran.state × (run.accepted ≡ ran.accepted) × (run.made.items ≡ ran.made) × (run.stop ≡ ran.stop)
         × IsRun no_state 0 (commands_in texts.now) ran) }
 {

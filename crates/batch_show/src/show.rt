@@ -1,6 +1,7 @@
 //! The text of a batch.
 ghost use Rattle.std.specs.Prelude.{◌≡◌, ◌≤◌, ◌++◌, length, is_some, IfOk, OnOk};
 ghost use Rattle.filter_state.specs.States.{no_state};
+ghost use Rattle.batch_run.specs.declared.limit.TheConstants.{COMMANDS_MAX};
 ghost use Rattle.batch_run.specs.Commands.{commands_in};
 ghost use Rattle.batch_run.specs.Runs.{Ran, IsRun};
 ghost use Rattle.batch_show.specs.Shown.{stop_shown, shown};
@@ -25,7 +26,7 @@ pub struct Shown {
 ///
 /// `NoMemory`: memory was refused.
 pub fn show_batch(alloc: Global, texts: &[&[u8]]) -> Result<Shown, NoMemory>
-    requires { length (commands_in texts.now) ≤ 262144 }
+    requires { length (commands_in texts.now) ≤ COMMANDS_MAX }
     ensures { IfOk result (λ s. (ran : Ran) × IsRun no_state 0 (commands_in texts.now) ran × (s.text.items ≡ shown ran) × (s.refused ≡ is_some ran.stop)) }
 {
     let run = run_batch(alloc, texts)?;

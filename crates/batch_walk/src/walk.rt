@@ -3,8 +3,10 @@ ghost use Rattle.std.specs.Prelude.{◌≡◌, ◌<◌, ◌≤◌, ◌+◌, ◌^
 ghost use Rattle.pcap_io.specs.Captures.{AreShort};
 ghost use Rattle.filter_state.specs.States.{no_state};
 ghost use Rattle.std.specs.List.{All};
+ghost use Rattle.batch_run.specs.declared.limit.TheConstants.{COMMANDS_MAX};
 ghost use Rattle.batch_run.specs.Commands.{commands_in};
 ghost use Rattle.batch_run.specs.Runs.{Ran, IsRun};
+ghost use Rattle.capture_walk.specs.declared.limits.TheConstants.{PACKETS_MAX};
 ghost use Rattle.batch_show.specs.Shown.{stop_shown};
 ghost use Rattle.batch_walk.specs.Texts.{joined, closing_lines, HasCount};
 ghost use Rattle.batch_walk.specs.Walked.{passed_count, summary_of, IsWalked};
@@ -94,8 +96,8 @@ pub fn walk_batch(
     hook: Hook,
     packets: &Packets,
 ) -> Result<BatchWalk, NoMemory>
-    requires commands { length (commands_in texts.now) ≤ 262144 }
-    requires few { length packets.now ≤ 1048576 }
+    requires commands { length (commands_in texts.now) ≤ COMMANDS_MAX }
+    requires few { length packets.now ≤ PACKETS_MAX }
     requires short { AreShort packets.now }
     ensures walked { IfOk result (λ w. (ran : Ran) × IsRun no_state 0 (commands_in texts.now) ran × IsWalked ran hook packets.now w) }
     ensures short { IfOk result (λ w. AreShort w.passed) }

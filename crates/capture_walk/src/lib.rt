@@ -15,8 +15,10 @@
 
 mod counts;
 mod ends;
+mod limits;
 mod walking;
 
 pub use counts::Count;
 pub use ends::PacketEnd;
+pub use limits::PACKETS_MAX;
 pub use walking::{WalkedCapture, walk_capture};

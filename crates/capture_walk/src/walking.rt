@@ -5,6 +5,7 @@ ghost use Rattle.pcap_io.specs.Places.{packet_of};
 ghost use Rattle.filter_state.specs.States.{State};
 ghost use Rattle.filter_lists.specs.Spells.{Spells};
 ghost use Rattle.walk_rules.specs.Walks.{outcome_of};
+ghost use Rattle.capture_walk.specs.declared.limits.TheConstants.{PACKETS_MAX};
 ghost use Rattle.capture_walk.specs.Captures.{outcomes_of, end_of, passed, counts_of, executed_in, passed_one, regrown};
 
 use crate::counts::{Count, add_executed, no_counts};
@@ -74,7 +75,7 @@ pub fn walk_capture(
     hook: Hook,
     packets: &Packets,
 ) -> Result<WalkedCapture, NoMemory>
-    requires few { length packets.now ≤ 1048576 }
+    requires few { length packets.now ≤ PACKETS_MAX }
     requires short { AreShort packets.now }
     ensures ends { IfOk result (λ w. (s : State) → Spells lists.now s → w.ends.items ≡ map end_of (outcomes_of s hook packets.now)) }
     ensures passed { IfOk result (λ w. (s : State) → Spells lists.now s → w.passed ≡ passed s hook packets.now) }

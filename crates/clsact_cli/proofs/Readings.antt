@@ -11,8 +11,10 @@ use Rattle.batch_run.specs.Runs.{Ran, IsRun}
 use Rattle.batch_run.proofs.Outcomes.{one_ran}
 use Rattle.clsact_cli.specs.declared.status.Break.{Break}
 use Rattle.clsact_cli.specs.declared.status.InputKind.{InputKind}
-use Rattle.clsact_cli.specs.Broken.{break_of, IsBroken, most_packets}
-use Rattle.clsact_cli.specs.Holdings.{Holds, HasBatch, HasRun, HasTooManyLines, HasCapture, HasBreak, most_commands}
+use Rattle.capture_walk.specs.declared.limits.TheConstants.{PACKETS_MAX}
+use Rattle.clsact_cli.specs.Broken.{break_of, IsBroken}
+use Rattle.batch_run.specs.declared.limit.TheConstants.{COMMANDS_MAX}
+use Rattle.clsact_cli.specs.Holdings.{Holds, HasBatch, HasRun, HasTooManyLines, HasCapture, HasBreak}
 
 some_is : {A : Type 0} (x y : A) → Some x ≡ Some y → x ≡ y
 some_is x y e = cc
@@ -29,7 +31,7 @@ same_run held name a b h k =
 pub same_past : (held : Held) (name : List ℕ) (p q : ℕ) → HasTooManyLines (Some held) name p → HasTooManyLines (Some held) name q → p ≡ q
 same_past held name p q h k =
     let e = same_bytes held name h.bytes k.bytes h.held k.held in
-    some_is p q (sym h.past ∙ ap (λ (x : List ℕ). line_past most_commands (commands_of x)) e ∙ k.past)
+    some_is p q (sym h.past ∙ ap (λ (x : List ℕ). line_past COMMANDS_MAX (commands_of x)) e ∙ k.past)
 
 else_is : {A : Type 0} (b : Bool) (x y : A) → (b ≡ true → ⊥) → (if b then x else y) ≡ y
 else_is true x y not = absurd (not refl)
@@ -46,10 +48,10 @@ few_not_past many (command ∷ commands) line few past =
 pub not_past : (held : Held) (name bytes : List ℕ) (line : ℕ) → HasBatch (Some held) name bytes → HasTooManyLines (Some held) name line → ⊥
 not_past held name bytes line h k =
     let e = same_bytes held name k.bytes bytes k.held h.held in
-    few_not_past most_commands (commands_of bytes) line h.few (subst (λ (x : List ℕ). line_past most_commands (commands_of x) ≡ Some line) e k.past)
+    few_not_past COMMANDS_MAX (commands_of bytes) line h.few (subst (λ (x : List ℕ). line_past COMMANDS_MAX (commands_of x) ≡ Some line) e k.past)
 
 -- ---- a capture: one within the limit has no break
-whole_not_broken : (bytes : List ℕ) (c : Capture) (at : ℕ) (what : InputKind) → IsCapture bytes c → length c.packets ≤ most_packets → IsBroken bytes at what → ⊥
+whole_not_broken : (bytes : List ℕ) (c : Capture) (at : ℕ) (what : InputKind) → IsCapture bytes c → length c.packets ≤ PACKETS_MAX → IsBroken bytes at what → ⊥
 whole_not_broken bytes c at what is few (inl fault) = no_fault bytes c fault.0 is fault.1
 whole_not_broken bytes c at what is few (inr many) =
     let e = one_capture bytes many.2.0 c many.2.1 is in

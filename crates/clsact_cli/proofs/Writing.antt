@@ -12,7 +12,8 @@ use Rattle.clsact_cli.specs.declared.status.Status.{Status}
 use Rattle.clsact_cli.specs.declared.status.Status.TheVariants as statuses
 use Rattle.clsact_cli.specs.Command.{Request, Show}
 use Rattle.clsact_cli.specs.Ends.{status_of, status_after}
-use Rattle.clsact_cli.specs.Holdings.{Holds, Gives, most_commands}
+use Rattle.batch_run.specs.declared.limit.TheConstants.{COMMANDS_MAX}
+use Rattle.clsact_cli.specs.Holdings.{Holds, Gives}
 use Rattle.clsact_cli.specs.Parts.{DeliveryFails}
 use Rattle.clsact_cli.specs.Requests.{Names, walk_of}
 use Rattle.clsact_cli.specs.Work.{Ends}
@@ -25,7 +26,7 @@ put_caused held read_faults failed_name write_faults faults old new a b r puts.F
 put_caused held read_faults failed_name write_faults faults old new a b r puts.NoMemory ends fails = tt
 
 -- a batch that stands and has a run lets a `show` end
-pub show_ends : (told : Option Held) (name bytes : List ℕ) (ran : Ran) → Holds told name bytes → length (commands_of bytes) ≤ most_commands → IsRun no_state 0 (commands_of bytes) ran
+pub show_ends : (told : Option Held) (name bytes : List ℕ) (ran : Ran) → Holds told name bytes → length (commands_of bytes) ≤ COMMANDS_MAX → IsRun no_state 0 (commands_of bytes) ran
     → (status : Status) × Ends told (Show name) status
 show_ends told name bytes ran held few runs =
     (status_after (is_some ran.stop), (ran, record { bytes = bytes; batch = record { held = held; few = few }; runs = runs }, refl))

@@ -1,4 +1,5 @@
 -- Where and how a capture breaks its form.
+use Rattle.capture_walk.specs.declared.limits.TheConstants.{PACKETS_MAX}
 use Rattle.std.specs.Prelude.{◌≡◌, ◌⊎◌, ℕ, ◌<◌, List, length, Option, Some, None}
 use Rattle.pcap_io.specs.declared.capture.Capture.{Capture}
 use Rattle.pcap_io.specs.declared.fault.CaptureFault.{CaptureFault}
@@ -20,15 +21,11 @@ break_of (faults.CutRecord offset) = Some (record { place = offset; kind = kinds
 break_of (faults.TooLong offset len) = Some (record { place = offset; kind = kinds.TooLong len })
 break_of faults.NoMemory = None
 
--- the packets of one run at most
-abbrev pub most_packets : ℕ
-most_packets = 1048576
-
 -- the bytes have this fault, or are a capture of too many packets
 abbrev pub IsBroken : List ℕ → ℕ → InputKind → Type 0
 IsBroken bytes at what =
     ((fault : CaptureFault) × IsFault bytes fault × (break_of fault ≡ Some (record { place = at; kind = what })))
-    ⊎ ((at ≡ 0) × (what ≡ kinds.TooManyPackets) × ((capture : Capture) × IsCapture bytes capture × (most_packets < length capture.packets)))
+    ⊎ ((at ≡ 0) × (what ≡ kinds.TooManyPackets) × ((capture : Capture) × IsCapture bytes capture × (PACKETS_MAX < length capture.packets)))
 
 -- a break of the file under the name is told, unless memory ran out
 abbrev pub IsTold : List ℕ → Option Break → Status → Type 0
@@ -37,4 +34,4 @@ IsTold name (Some found) status = (status ≡ statuses.NoMemory) ⊎ (status ≡
 
 -- too many packets are told, unless memory ran out
 abbrev pub IsTooMany : List ℕ → ℕ → Status → Type 0
-IsTooMany name count status = (most_packets < count) × ((status ≡ statuses.NoMemory) ⊎ (status ≡ statuses.BadInput name 0 kinds.TooManyPackets))
+IsTooMany name count status = (PACKETS_MAX < count) × ((status ≡ statuses.NoMemory) ⊎ (status ≡ statuses.BadInput name 0 kinds.TooManyPackets))

@@ -1,4 +1,5 @@
 -- What the shelf holds under the names of a request, and what follows from it.
+use Rattle.batch_run.specs.declared.limit.TheConstants.{COMMANDS_MAX}
 use Rattle.std.specs.Prelude.{◌≡◌, ℕ, ◌≤◌, List, length, Option, IfSome, Some, is_some}
 use Rattle.tc_base.specs.Outside.{Held}
 use Rattle.tc_base.specs.declared.hook.Hook.{Hook}
@@ -12,7 +13,8 @@ use Rattle.batch_walk.specs.Walked.{walk_text}
 use Rattle.clsact_cli.specs.declared.status.InputKind.{InputKind}
 use Rattle.clsact_cli.specs.declared.status.Status.{Status}
 use Rattle.clsact_cli.specs.Requests.{Names}
-use Rattle.clsact_cli.specs.Broken.{IsBroken, most_packets}
+use Rattle.capture_walk.specs.declared.limits.TheConstants.{PACKETS_MAX}
+use Rattle.clsact_cli.specs.Broken.{IsBroken}
 use Rattle.clsact_cli.specs.Ends.{status_after}
 use Rattle.batch_walk.specs.Output.{output_of}
 
@@ -20,14 +22,10 @@ use Rattle.batch_walk.specs.Output.{output_of}
 abbrev pub Holds : Option Held → List ℕ → List ℕ → Type 0
 Holds told name bytes = IfSome told (λ held. held name ≡ Some bytes)
 
--- the commands of one run at most
-abbrev pub most_commands : ℕ
-most_commands = 262144
-
 -- the batch under the name, within the limit of commands
 pub record HasBatch (told : Option Held) (name bytes : List ℕ) : Type 0 where
   pub held : Holds told name bytes
-  pub few : length (commands_of bytes) ≤ most_commands
+  pub few : length (commands_of bytes) ≤ COMMANDS_MAX
 
 -- what comes of the batch under the name, applied where nothing stands
 pub record HasRun (told : Option Held) (name : List ℕ) (ran : Ran) : Type 0 where
@@ -43,14 +41,14 @@ HasCommands told name = (bytes : List ℕ) × HasBatch told name bytes
 pub record HasTooManyLines (told : Option Held) (name : List ℕ) (line : ℕ) : Type 0 where
   pub bytes : List ℕ
   pub held : Holds told name bytes
-  pub past : line_past most_commands (commands_of bytes) ≡ Some line
+  pub past : line_past COMMANDS_MAX (commands_of bytes) ≡ Some line
 
 -- the capture under the name is this one, within the limit of packets
 pub record HasCapture (told : Option Held) (name : List ℕ) (capture : Capture) : Type 0 where
   pub bytes : List ℕ
   pub held : Holds told name bytes
   pub is : IsCapture bytes capture
-  pub few : length capture.packets ≤ most_packets
+  pub few : length capture.packets ≤ PACKETS_MAX
 
 -- the capture under the name breaks its form, first at this place
 pub record HasBreak (told : Option Held) (name : List ℕ) (at : ℕ) (what : InputKind) : Type 0 where

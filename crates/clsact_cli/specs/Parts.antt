@@ -6,7 +6,8 @@ use Rattle.clsact_cli.specs.declared.status.InputKind.TheVariants as kinds
 use Rattle.clsact_cli.specs.declared.status.Status.{Status}
 use Rattle.clsact_cli.specs.declared.status.Status.TheVariants as statuses
 use Rattle.clsact_cli.specs.Requests.{Names}
-use Rattle.clsact_cli.specs.Holdings.{HasCommands, HasBreak, most_commands}
+use Rattle.batch_run.specs.declared.limit.TheConstants.{COMMANDS_MAX}
+use Rattle.clsact_cli.specs.Holdings.{HasCommands, HasBreak}
 use Rattle.clsact_cli.specs.Work.{BatchBreaks}
 use Rattle.clsact_cli.specs.Causes.{ReadFails, WriteFails}
 
@@ -19,7 +20,7 @@ LoadFails held read_faults failed_name old new name status = ⊥
 -- why a batch of these commands wasn't applied: they pass the limit at a line
 abbrev pub ApplyingFails : List ℕ → List Command → Status → Type 0
 ApplyingFails name commands (statuses.BadInput file place kind) =
-    (file ≡ name) × (line_past most_commands commands ≡ Some place) × (kind ≡ kinds.TooManyLines)
+    (file ≡ name) × (line_past COMMANDS_MAX commands ≡ Some place) × (kind ≡ kinds.TooManyLines)
 ApplyingFails name commands statuses.NoMemory = Unit {0}
 ApplyingFails name commands status = ⊥
 

@@ -1,18 +1,17 @@
 ghost use Rattle.std.specs.Prelude.{◌≡◌, ◌⊎◌, ◌≤◌, length, IfOk, IfErr, OnOk};
 ghost use Rattle.batch_run.specs.Commands.{commands_in};
 ghost use Rattle.pcap_io.specs.Captures.{AreShort};
-ghost use Rattle.clsact_cli.specs.Broken.{break_of, IsTold, IsTooMany, most_packets};
-ghost use Rattle.clsact_cli.specs.Holdings.{Holds, HasCapture, most_commands};
+ghost use Rattle.clsact_cli.specs.Broken.{break_of, IsTold, IsTooMany};
+ghost use Rattle.batch_run.specs.declared.limit.TheConstants.{COMMANDS_MAX};
+ghost use Rattle.clsact_cli.specs.Holdings.{Holds, HasCapture};
 ghost use Rattle.clsact_cli.specs.Parts.{LoadFails, ApplyingFails, CaptureFails};
 
 use crate::status::{Break, InputKind, Status};
 use batch_run::line_past_limit;
+use capture_walk::PACKETS_MAX;
 use pcap_io::{Capture, CaptureFault, read};
 use std::alloc::{AllocError, Global};
 use tc_base::{Bytes, Fetch, Shelf};
-
-/// The packets of one run at most.
-const MOST_PACKETS: usize = 1_048_576;
 
 fn named(alloc: Global, name: &str) -> Result<Bytes, AllocError>
     ensures { IfOk result (λ b. b ≡ name.now) }
@@ -65,7 +64,7 @@ pub fn load<S: Shelf>(alloc: Global, shelf: &mut S, name: &str) -> Result<Vec<u8
 
 /// Refuses the lines of the batch that the name stands for where they have more than 262,144 commands.
 pub fn check_command_count(alloc: Global, name: &str, texts: &[&[u8]]) -> Result<(), Status>
-    ensures few { OnOk result (length (commands_in texts.now) ≤ most_commands) }
+    ensures few { OnOk result (length (commands_in texts.now) ≤ COMMANDS_MAX) }
     ensures many { IfErr result (ApplyingFails name.now (commands_in texts.now)) }
 {
     match line_past_limit(texts) {
@@ -102,10 +101,10 @@ fn told(alloc: Global, name: &str, fault: CaptureFault) -> Status
 // Refuses a capture of too many packets.
 fn within_limit(alloc: Global, name: &str, capture: Capture) -> Result<Capture, Status>
     ensures same { IfOk result (λ c. c ≡ capture) }
-    ensures few { IfOk result (λ c. length c.packets ≤ most_packets) }
+    ensures few { IfOk result (λ c. length c.packets ≤ PACKETS_MAX) }
     ensures many { IfErr result (IsTooMany name.now (length capture.packets)) }
 {
-    if capture.packets.len() > MOST_PACKETS {
+    if capture.packets.len() > PACKETS_MAX {
         return Err(bad_input(alloc, name, 0, InputKind::TooManyPackets));
     }
     Ok(capture)

@@ -7,7 +7,7 @@ ghost use Rattle.batch_show.specs.Shown.{shown};
 ghost use Rattle.clsact_cli.specs.Command.{Show};
 ghost use Rattle.clsact_cli.specs.Ends.{status_after, IsAllDone};
 ghost use Rattle.clsact_cli.specs.Causes.{CausedTo};
-ghost use Rattle.clsact_cli.specs.Holdings.{most_commands};
+ghost use Rattle.batch_run.specs.declared.limit.TheConstants.{COMMANDS_MAX};
 ghost use Rattle.clsact_cli.specs.Parts.{ApplyingFails};
 ghost use Rattle.clsact_cli.specs.Delivered.{Showed, LeavesAllUnlessRun, CameSoFar};
 
@@ -21,7 +21,7 @@ use tc_words::lines;
 
 // Applies the bytes of the batch that the name stands for, unless they have too many commands.
 fn show_bytes(alloc: Global, name: &str, bytes: &[u8]) -> Result<Shown, Status>
-    ensures few { IfOk result (λ _. length (commands_of bytes.now) ≤ most_commands) }
+    ensures few { IfOk result (λ _. length (commands_of bytes.now) ≤ COMMANDS_MAX) }
     ensures shown { IfOk result (λ s. (ran : Ran) × IsRun no_state 0 (commands_of bytes.now) ran × (s.text.items ≡ shown ran) × (s.refused ≡ is_some ran.stop)) }
     ensures cause { IfErr result (ApplyingFails name.now (commands_of bytes.now)) }
 {

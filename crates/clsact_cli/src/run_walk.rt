@@ -9,9 +9,10 @@ ghost use Rattle.batch_run.specs.Runs.{Ran, IsRun};
 ghost use Rattle.batch_walk.specs.Walked.{walk_text, told_text};
 ghost use Rattle.clsact_cli.specs.Requests.{names_seen, walk_of};
 ghost use Rattle.clsact_cli.specs.Ends.{status_after, IsAllDone};
-ghost use Rattle.clsact_cli.specs.Broken.{most_packets};
+ghost use Rattle.capture_walk.specs.declared.limits.TheConstants.{PACKETS_MAX};
 ghost use Rattle.batch_walk.specs.Output.{output_of};
-ghost use Rattle.clsact_cli.specs.Holdings.{Gives, most_commands};
+ghost use Rattle.batch_run.specs.declared.limit.TheConstants.{COMMANDS_MAX};
+ghost use Rattle.clsact_cli.specs.Holdings.{Gives};
 ghost use Rattle.clsact_cli.specs.Causes.{CausedTo};
 ghost use Rattle.clsact_cli.specs.Parts.{InputFails, DeliveryFails};
 ghost use Rattle.clsact_cli.specs.Delivered.{Walked, LeavesAllUnlessRun, WalkedSoFar};
@@ -43,8 +44,8 @@ fn answer_to(
     hook: Hook,
     capture: Capture,
 ) -> Result<Answer, NoMemory>
-    requires commands { length (commands_in texts.now) ≤ most_commands }
-    requires few { length capture.packets ≤ most_packets }
+    requires commands { length (commands_in texts.now) ≤ COMMANDS_MAX }
+    requires few { length capture.packets ≤ PACKETS_MAX }
     requires short { AreShort capture.packets }
     ensures { IfOk result (λ a. (ran : Ran) × IsRun no_state 0 (commands_in texts.now) ran × (a.output.items ≡ capture_bytes (output_of ran.state hook capture))
         × (told_text a.text ≡ walk_text ran hook capture.packets) × (a.refused ≡ is_some ran.stop)) }

@@ -3,6 +3,7 @@ ghost use Rattle.std.specs.Prelude.{◌≡◌, ◌≤◌, ℕ, length, false, If
 ghost use Rattle.tc_base.specs.declared.hook.Hook.TheVariants.{Ingress};
 ghost use Rattle.pcap_io.specs.Captures.{AreShort};
 ghost use Rattle.pcap_io.specs.Written.{capture_bytes};
+ghost use Rattle.batch_run.specs.declared.limit.TheConstants.{COMMANDS_MAX};
 ghost use Rattle.batch_run.specs.Commands.{commands_of};
 ghost use Rattle.batch_run.specs.Runs.{Ran};
 ghost use Rattle.batch_walk.specs.Walked.{IsWalked};
@@ -35,7 +36,7 @@ pub struct Generated {
 
 /// A batch for at most 4,096 filters has far fewer commands than a run may have. An empty function that carries this law.
 pub fn few_commands()
-    ensures { (filters : ℕ) → filters ≤ 4096 → length (commands_of (batch_text filters)) ≤ 262144 }
+    ensures { (filters : ℕ) → filters ≤ 4096 → length (commands_of (batch_text filters)) ≤ COMMANDS_MAX }
 {}
 
 /// The packets of the capture, and what comes of their walks.

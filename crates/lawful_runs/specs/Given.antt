@@ -1,4 +1,6 @@
 -- What a job gives to run: its rounds, each with the commands of its batches and the packets of its capture (this project's own).
+use Rattle.capture_walk.specs.declared.limits.TheConstants.{PACKETS_MAX}
+use Rattle.batch_run.specs.declared.limit.TheConstants.{COMMANDS_MAX}
 use Rattle.std.specs.Prelude.{◌≡◌, ℕ, ◌≤◌, Bool, List, [], ◌∷◌, length, map, drop, sum_by, Option, Some, None}
 use Rattle.std.specs.List.{All}
 use Rattle.tc_base.specs.declared.hook.Hook.{Hook}
@@ -64,13 +66,6 @@ batches_named rounds = sum_by (λ (round : Round). length round.batches) rounds
 abbrev pub captures_named : List Round → ℕ
 captures_named rounds = sum_by (λ (round : Round). capture_count round.capture) rounds
 
--- a job's command lines and packets at most, those of all its files together
-abbrev pub most_commands : ℕ
-most_commands = 262144
-
-abbrev pub most_packets : ℕ
-most_packets = 1048576
-
 abbrev pub command_count : List (List ℕ) → ℕ
 command_count files = sum_by (λ (bytes : List ℕ). length (commands_of bytes)) files
 
@@ -83,6 +78,6 @@ pub record IsLoaded (loaded : LoadedJob) : Type 0 where
   pub rounds : length loaded.job.rounds ≤ most_rounds
   pub batches : length loaded.batches ≡ batches_named loaded.job.rounds
   pub captures : length loaded.captures ≡ captures_named loaded.job.rounds
-  pub commands : command_count loaded.batches ≤ most_commands
-  pub packets : packet_count loaded.captures ≤ most_packets
+  pub commands : command_count loaded.batches ≤ COMMANDS_MAX
+  pub packets : packet_count loaded.captures ≤ PACKETS_MAX
   pub frames : All (λ (capture : Capture). AreShort capture.packets) loaded.captures

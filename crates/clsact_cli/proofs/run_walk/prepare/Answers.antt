@@ -5,7 +5,8 @@ use Rattle.filter_state.specs.States.{no_state}
 use Rattle.batch_run.specs.Commands.{Command, commands_from, commands_in, commands_of}
 use Rattle.batch_run.specs.Runs.{IsRun}
 use Rattle.clsact_cli.specs.Ends.{status_after}
-use Rattle.clsact_cli.specs.Holdings.{Holds, HasCapture, most_commands}
+use Rattle.batch_run.specs.declared.limit.TheConstants.{COMMANDS_MAX}
+use Rattle.clsact_cli.specs.Holdings.{Holds, HasCapture}
 use Rattle.clsact_cli.proofs.run_walk.prepare.Goals as goal
 
 pub returns-clause-gives : goal.returns-clause-gives
@@ -25,7 +26,7 @@ returns-clause-gives g c =
         bytes = bytes;
         batch = record {
           held = subst (λ (b : List ℕ). Holds told names.batch.now b) (sym c.deref.ensures.value) c.in_ok-bytes.ensures.bytes;
-          few = subst (λ (commands : List Command). length commands ≤ most_commands) counted c.in_ok-check_command_count.ensures.few;
+          few = subst (λ (commands : List Command). length commands ≤ COMMANDS_MAX) counted c.in_ok-check_command_count.ensures.few;
         };
         runs = subst (λ (commands : List Command). IsRun no_state 0 commands answer.0) walked answer.1;
       };
