@@ -9,8 +9,8 @@ use Rattle.flow_mask.specs.Masks.{each_and}
 use Rattle.flow_mask.proofs.FieldsAndWords.{words_are_fields}
 use Rattle.filter_index.specs.declared.filter.Filter.{Filter}
 use Rattle.filter_index.specs.Listed.{has_key}
-use Rattle.filter_state.specs.States.{Row}
-use Rattle.filter_state.specs.Sound.{Each}
+use Rattle.filter_state.specs.States.{Row, State}
+use Rattle.filter_state.specs.Sound.{Each, IsRow}
 use Rattle.filter_state.specs.Tables.{first_where}
 use Rattle.filter_tables.specs.Plain.{PlainMask, PlainTable}
 use Rattle.filter_tables.specs.Rows.{row_of, rows_of_mask}
@@ -53,6 +53,16 @@ pub found_is_met : (words : List ℕ) (m : PlainMask) → AreEven words m → Ar
 found_is_met words m even tidy =
     found_alike (has_key (each_and words m.mask)) (is_met (values_of words) m) m.filters
     (same_tests words m m.filters even.mask_even tidy.mask_tidy even.keys_even tidy.keys_tidy)
+
+-- ---- a frame and a row
+-- in a sound state a frame meets a row of a mask exactly where the row's key is the frame's under the mask
+pub row_met : (s : State) (row : Row) (words : List ℕ) → IsRow s row → length words ≡ 14 →
+    (meets (values_of words) row ≡ true → row.key ≡ each_and words row.mask) × (row.key ≡ each_and words row.mask → meets (values_of words) row ≡ true)
+row_met s row words is count =
+    let keys = is.keys in
+    let law = words_are_fields words row.mask row.key (count ∙ sym keys.key_count) (keys.mask_count ∙ sym keys.key_count) keys.mask_tidy keys.key_tidy in
+    let by_fields = bytes_eq-Decides (each_and (values_of words) (values_of row.mask)) (values_of row.key) in
+    (λ met. sym (law.1 (by_fields.0 met)), λ same. by_fields.1 (law.0 (sym same)))
 
 -- ---- the first row of the mask that is met
 first_step : (hook : Hook) (t : PlainTable) (m : PlainMask) (b : Bool) (f : Filter) (o : Option Row) (p : Option Filter) → o ≡ option_map (row_of hook t m) p →
