@@ -26,7 +26,7 @@ use Rattle.lone_mask.specs.declared.change.Change.{Change}
 use Rattle.lone_mask.specs.Lone.{start, run, lone_words, point_of, now, IsRecord, WasUsed, Follows, Keeps}
 use Rattle.lone_mask.proofs.Growing.{keeps_take, keeps_more}
 use Rattle.lone_mask.proofs.Right.{not_the_slot}
-use Rattle.lone_commits.proofs.MaskReads.{mask_block_reads}
+use Rattle.block_reading.proofs.MaskReads.{mask_block_reads}
 use Rattle.lone_commits.proofs.Spending.{along_all, each_commit, used_before}
 
 -- ---- the edits

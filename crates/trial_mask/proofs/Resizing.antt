@@ -30,7 +30,7 @@ use Rattle.mask_order.specs.Fitting.{FitsBlock, FitInto}
 use Rattle.lone_mask.specs.declared.change.Change.{Change}
 use Rattle.hook_law.proofs.Growing.{some_is}
 use Rattle.lone_mask.specs.Lone.{lone_words, point_of, now, IsRecord, Keeps}
-use Rattle.lone_commits.proofs.MaskReads.{kept_record}
+use Rattle.mask_order.proofs.Records.{stored_record}
 use Rattle.lone_commits.proofs.Spending.{mask_fresh}
 use Rattle.lone_commits.proofs.WholeMask.{mask_follows, buckets_apart}
 use Rattle.trial_mask.specs.Trial.{TriedWith}
@@ -87,7 +87,7 @@ module _ (mirror : Mirror) (fs : List StoredFilter) (blocks rows size point : �
           let mask = resized kept.mask size2 rows2 in let same = same_kept mirror 0 0 kept tried.mask refl stands tried.stands in
           let is = storable kept.mask in let serial = (tried.kept.masks 0 kept stands).there.serial in
           let same_serial : (old : StoredMask) → IsRecord h old → mask.serial ≡ old.serial = λ old was.
-          ap (λ (m : StoredMask). m.serial) (some_is kept.mask old (sym (kept_record h mirror shape (sheet_of p).cells kept tried.kept stands) ∙ was)) in
+          ap (λ (m : StoredMask). m.serial) (some_is kept.mask old (sym (stored_record mirror shape (sheet_of p).cells (root_of h) 0 kept tried.kept stands) ∙ was)) in
           let above = subst (All (λ (row : ℕ). rows ≤ row)) (sym fresh_rows) (range_all (λ (row : ℕ). rows ≤ row) rows (size2 / 16) (λ b up down. up)) in
           let distinct = subst (λ (l : List ℕ). IsDistinct eqb l) (sym fresh_rows) (range_distinct rows (size2 / 16)) in
           let long = many_given point fs tried.has in
