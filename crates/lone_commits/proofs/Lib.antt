@@ -1,4 +1,3 @@
-pub mod MaskReads
 pub mod Tested
 pub mod InBuckets
 pub mod Rewriting

@@ -32,7 +32,7 @@ use Rattle.lone_mask.specs.declared.change.Change.{Change}
 use Rattle.lone_mask.specs.declared.change.Change.TheVariants as changes
 use Rattle.lone_mask.specs.Lone.{changed, point_of, now, HaveOwnKeys, Follows}
 use Rattle.lone_commits.specs.Handles.{HaveOwnHandles}
-use Rattle.lone_commits.proofs.MaskReads.{kept_record}
+use Rattle.mask_order.proofs.Records.{stored_record}
 use Rattle.lone_commits.proofs.Tested.{has_handle, few_have, own_left, split_count, none_out, one_out, one_place}
 use Rattle.lone_commits.proofs.InBuckets.{bucket_more, bucket_still, bucket_around, bucket_filter, two_buckets, in_bucket}
 
@@ -82,7 +82,7 @@ module _ (h : List (Commit Change)) (mirror : Mirror) (shape : Shape) (cells : L
       carries = refl;
       stamp = refl;
       mask = kept.mask;
-      record_now = kept_record h mirror shape cells kept keeps stands;
+      record_now = stored_record mirror shape cells (root_of h) 0 kept keeps stands;
       bucket = home;
       within = at_home;
       root = refl;
@@ -149,7 +149,7 @@ module _ (h : List (Commit Change)) (mirror : Mirror) (shape : Shape) (cells : L
       carries = refl;
       stamp = refl;
       mask = kept.mask;
-      record_now = kept_record h mirror shape cells kept keeps stands;
+      record_now = stored_record mirror shape cells (root_of h) 0 kept keeps stands;
       bucket = at.bucket;
       within = at.within;
       root = at.is_root;

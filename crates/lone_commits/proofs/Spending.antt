@@ -25,7 +25,7 @@ use Rattle.lone_mask.specs.declared.change.Change.{Change}
 use Rattle.lone_mask.specs.Lone.{IsRecord, WasUsed}
 use Rattle.lone_mask.proofs.Right.{not_the_slot, used_now, record_before}
 use Rattle.lone_commits.specs.Ledger.{AreBelow, RowsBelow}
-use Rattle.lone_commits.proofs.MaskReads.{mask_block_reads}
+use Rattle.block_reading.proofs.MaskReads.{mask_block_reads}
 
 -- ---- commits one after the other
 -- what each commit of a kind leaves so, all of them do

@@ -18,7 +18,7 @@ use Rattle.block_codec.specs.declared.filter.StoredFilter.{StoredFilter}
 use Rattle.block_codec.specs.declared.mask.StoredMask.{StoredMask}
 use Rattle.block_codec.specs.Masks.{IsStorableMask}
 use Rattle.block_reading.specs.Read.{filter_in, mask_of_words}
-use Rattle.mask_table.specs.Buckets.{bucket_root, bucket_of}
+use Rattle.mask_table.specs.Buckets.{mask_root, bucket_root, bucket_of}
 use Rattle.mask_mirror.specs.Linked.{Placed, placed, bucket_commit, mask_commit, bucket_commits, raise_commits}
 use Rattle.mask_order.specs.Fitting.{FitInto}
 use Rattle.mask_order.proofs.Placing.{placed_chain_reads}
@@ -26,7 +26,7 @@ use Rattle.lone_mask.specs.declared.change.Change.{Change}
 use Rattle.lone_mask.specs.Lone.{start, run, lone_words, point_of, now, IsRecord, WasUsed, Follows, Keeps}
 use Rattle.lone_mask.proofs.Growing.{keeps_take, keeps_more}
 use Rattle.lone_mask.proofs.Right.{not_the_slot}
-use Rattle.lone_commits.proofs.MaskReads.{mask_block_reads}
+use Rattle.block_reading.proofs.MaskReads.{mask_block_reads}
 use Rattle.lone_commits.proofs.Spending.{along_all, each_commit, used_before}
 
 -- ---- the edits
@@ -71,6 +71,7 @@ module _ (h : List (Commit Change)) (mask : StoredMask) (given : List ℕ) (keep
   record IsBuilt (n : ℕ) (x : List (Commit Change)) : Type 0 where
     lawful : Keeps x 0
     edits : edits_of x ≡ edits_of h
+    slot : root_of x (mask_root 0) ≡ root_of h (mask_root 0)
     used : (root : ℕ) → WasUsed x root → WasUsed h root
     named : (bucket : ℕ) → bucket < n → root_of x (bucket_root mask bucket) ≡ (commit bucket).named
 
@@ -78,6 +79,7 @@ module _ (h : List (Commit Change)) (mask : StoredMask) (given : List ℕ) (keep
   build_more n x less was = record {
     lawful = keeps_more x 0 (commit n) was.lawful (inl record { plain = refl; other = not_the_slot mask n; fresh = λ used. fresh n less (was.used (bucket_root mask n) used) });
     edits = edits_still x (commit n) refl ∙ was.edits;
+    slot = root_other x (commit n) (mask_root 0) (not_the_slot mask n) ∙ was.slot;
     used = λ root used. was.used root (used_before x (commit n) root (not_the_slot mask n) used);
     named = λ bucket low. pick bucket low (eqb bucket n) refl;
   }
@@ -88,7 +90,7 @@ module _ (h : List (Commit Change)) (mask : StoredMask) (given : List ℕ) (keep
           root_other x (commit n) (bucket_root mask bucket) (λ same. away (sym (apart n bucket less (omega arith) same))) ∙ was.named bucket before
 
   all_built : (n : ℕ) → n ≤ mask.size → IsBuilt n (built n)
-  all_built zero low = subst (IsBuilt 0) (sym (append-nil h)) (record { lawful = keeps; edits = refl; used = λ root used. used; named = λ bucket less. absurd (omega arith) })
+  all_built zero low = subst (IsBuilt 0) (sym (append-nil h)) (record { lawful = keeps; edits = refl; slot = refl; used = λ root used. used; named = λ bucket less. absurd (omega arith) })
   all_built (suc n) low = let more : n + 1 ≡ suc n = omega arith in
       subst (λ (k : ℕ). IsBuilt k (built k)) more (subst (IsBuilt (n + 1)) (sym (one_more n)) (build_more n (built n) (omega arith) (all_built n (omega arith))))
     where
@@ -96,7 +98,8 @@ module _ (h : List (Commit Change)) (mask : StoredMask) (given : List ℕ) (keep
       one_more n = let none : 0 + n ≡ n = omega arith in ap (λ (cs : List (Commit Change)). h ++ cs) (map-range_with_len_more commit 0 n n none)
           ∙ sym (append_assoc h (bucket_commits mask (placed given (now h)) (point_of h) n) (commit n ∷ []))
 
-  module _ (b : ℕ) (fits : mask.size ≡ size_of (length (now h))) (words : mask.mask.words ≡ lone_words) (is : IsStorableMask mask) (serial : mask.serial < 4294967296) (into : FitInto given (now h)) where
+  module _ (b : ℕ) (fits : mask.size ≡ size_of (length (now h))) (words : mask.mask.words ≡ lone_words) (is : IsStorableMask mask) (serial : mask.serial < 4294967296)
+      (same_serial : (old : StoredMask) → IsRecord h old → mask.serial ≡ old.serial) (into : FitInto given (now h)) where
     abbrev last : Commit Change
     last = mask_commit 0 mask b (point_of h)
 
@@ -116,6 +119,7 @@ module _ (h : List (Commit Change)) (mask : StoredMask) (given : List ℕ) (keep
       root = refl;
       mask = mask;
       read = mask_block_reads mask is serial (ap length words);
+      serial = λ old was. same_serial old (ap (λ (n : Named). read_first mask_of_words n.chain) (sym whole_built.slot) ∙ was);
       words = words;
       fits = fits ∙ ap (λ (fs : List StoredFilter). size_of (length fs)) (sym filters_same);
       stamps = λ bucket less. ap (λ (n : Named). n.stamp) (whole_built.named bucket less) ∙ sym point_same;

@@ -13,10 +13,12 @@ ghost use Rattle.lone_mask.specs.declared.change.Change.{Change};
 ghost use Rattle.lone_mask.specs.Lone.{lone_words, point_of, now, IsRecord, WasUsed, Keeps};
 
 /// The commits of a whole mask at slot 0 keep the law, and so does each first part of them: where the mask has the size for the filters of all
-/// changes so far, these fit into the given blocks, and no two of its buckets share a root or have one that a record had before.
+/// changes so far and the serial of the record before it, if there is one, the filters fit into the given blocks, and no two of its buckets
+/// share a root or have one that a record had before.
 pub fn a_mask_follows()
     ensures follows { (h : List (Commit Change)) (mask : StoredMask) (b : ℕ) (given : List ℕ) (n : ℕ)
-        → Keeps h 0 → mask.size ≡ size_of (length (now h)) → mask.mask.words ≡ lone_words → IsStorableMask mask → mask.serial < 2 ^ 32 → FitInto given (now h)
+        → Keeps h 0 → mask.size ≡ size_of (length (now h)) → mask.mask.words ≡ lone_words → IsStorableMask mask → mask.serial < 2 ^ 32
+        → ((old : StoredMask) → IsRecord h old → mask.serial ≡ old.serial) → FitInto given (now h)
         → ((bucket : ℕ) → bucket < mask.size → WasUsed h (bucket_root mask bucket) → ⊥)
         → ((i j : ℕ) → i < mask.size → j < mask.size → bucket_root mask i ≡ bucket_root mask j → i ≡ j)
         → Keeps (h ++ take n (raise_commits 0 mask b (placed given (now h)) (point_of h))) 0 }

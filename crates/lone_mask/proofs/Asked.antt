@@ -14,6 +14,7 @@ use Rattle.mask_table.specs.Buckets.{mask_root, bucket_root}
 use Rattle.mask_table.specs.Told.{edits_by, FitsSize, TellsMask, Stood, BucketTold}
 use Rattle.lone_mask.specs.declared.change.Change.{Change}
 use Rattle.lone_mask.specs.Lone.{start, lone_words, point_of, filters_after, IsRecord, HaveOwnKeys, Follows, Keeps, stands}
+use Rattle.hook_law.proofs.Growing.{some_is}
 use Rattle.lone_mask.proofs.Growing.{keeps_take, by_last, now_more, point_more, filters_still, filters_before, filters_last, filters_early}
 use Rattle.lone_mask.proofs.Right.{right, tells_same}
 use Rattle.lone_mask.proofs.Past.{StoodUntil, stood_until, stands_on}
@@ -23,17 +24,17 @@ fits_early h n size k low (inl e) = inl (e ∙ ap (λ (fs : List StoredFilter). 
 fits_early h n size k low (inr e) = inr (e ∙ ap (λ (fs : List StoredFilter). size_of (length fs)) (filters_early h n (k - 1) (omega arith)))
 
 pub slot_stood : (h : List (Commit Change)) (b n slot serial : ℕ) → Keeps h b → b ≤ n → n ≤ length h → stands (take n h) slot serial → Stood stands h n slot serial
-slot_stood h b n slot serial keeps low high (at, m, is) = let whole = take_all (length h) h (le_refl (length h)) in let still = stands_on h b keeps n m high is in record {
+slot_stood h b n slot serial keeps low high (at, m, is, same) = let whole = take_all (length h) h (le_refl (length h)) in let still = stands_on h b keeps n m high is in record {
   at = length h;
   late = high;
   made = le_refl (length h);
-  there = (at, still.0, subst (λ (x : List (Commit Change)). IsRecord x still.0) (sym whole) still.1);
+  there = (at, still.0, subst (λ (x : List (Commit Change)). IsRecord x still.0) (sym whole) still.1, still.2 ∙ same);
   same = ap (λ (x : List (Commit Change)). root_of x (mask_root slot)) (sym whole);
 }
 
 pub mask_told : (h : List (Commit Change)) (b n slot serial : ℕ) → Keeps h b → b ≤ n → n ≤ length h → stands (take n h) slot serial
     → TellsMask (λ k. lone_words) (λ k. filters_after h k) (root_of (take n h) (mask_root slot)) (edits_by h n)
-mask_told h b n slot serial keeps low high (at, m, is) = let r = right (take n h) b (keeps_take h b n keeps) m is in
+mask_told h b n slot serial keeps low high (at, m, is, same) = let r = right (take n h) b (keeps_take h b n keeps) m is in
     subst (λ (s : ℕ). TellsMask (λ k. lone_words) (λ k. filters_after h k) (root_of (take n h) (mask_root s)) (edits_by h n)) (sym at) record {
       mask = m;
       read = is;
@@ -44,12 +45,12 @@ mask_told h b n slot serial keeps low high (at, m, is) = let r = right (take n h
 
 pub bucket_told : (h : List (Commit Change)) (b n slot serial bucket : ℕ) (mask : StoredMask) → Keeps h b → b ≤ n → n ≤ length h → stands (take n h) slot serial
     → read_first mask_of_words (root_of (take n h) (mask_root slot)).chain ≡ Some mask → bucket < mask.size → BucketTold stands (λ k. filters_after h k) h n slot serial bucket mask
-bucket_told h b n slot serial bucket mask keeps low high (at, m, is) read less =
+bucket_told h b n slot serial bucket mask keeps low high (at, m, is, same) read less =
     subst (λ (s : ℕ). BucketTold stands (λ k. filters_after h k) h n s serial bucket mask) (sym at) record {
       at = t.at;
       late = t.late;
       made = t.made;
-      there = (refl, mask, t.record_then);
+      there = (refl, mask, t.record_then, ap (λ (x : StoredMask). x.serial) (some_is mask m (sym own ∙ is)) ∙ same);
       stamp = t.stamp;
       mask_there = mask;
       read = t.record_then;

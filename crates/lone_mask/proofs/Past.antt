@@ -114,22 +114,22 @@ stood_until h b keeps = by_last (λ (x : List (Commit Change)). (n : ℕ) (m : S
         (λ (end : n ≤ length h → ⊥). let all = length-append h (c ∷ []) in let whole : take n (h ++ c ∷ []) ≡ h ++ c ∷ [] = take_all n (h ++ c ∷ []) (omega arith) in
         until_now (h ++ c ∷ []) n m bucket low (subst (λ (x : List (Commit Change)). IsRecord x m) whole is) (ap (λ (x : List (Commit Change)). (root_of x (mask_root 0)).stamp) (sym whole)))
 
--- ---- the mask stands for good
-pub stands_on : (h : List (Commit Change)) (b : ℕ) → Keeps h b → (n : ℕ) (m : StoredMask) → n ≤ length h → IsRecord (take n h) m → (present : StoredMask) × IsRecord h present
-stands_on h b keeps = by_last (λ (x : List (Commit Change)). (n : ℕ) (m : StoredMask) → n ≤ length x → IsRecord (take n x) m → (present : StoredMask) × IsRecord x present)
+-- ---- the mask stands for good, with its serial
+pub stands_on : (h : List (Commit Change)) (b : ℕ) → Keeps h b → (n : ℕ) (m : StoredMask) → n ≤ length h → IsRecord (take n h) m → (present : StoredMask) × IsRecord h present × (present.serial ≡ m.serial)
+stands_on h b keeps = by_last (λ (x : List (Commit Change)). (n : ℕ) (m : StoredMask) → n ≤ length x → IsRecord (take n x) m → (present : StoredMask) × IsRecord x present × (present.serial ≡ m.serial))
     (λ n m low is. absurd (nothing n m is)) more h b keeps
   where
     nothing : (n : ℕ) (m : StoredMask) → IsRecord (take n []) m → ⊥
     nothing zero m is = cc is
     nothing (suc n) m is = cc is
 
-    on : (h : List (Commit Change)) (c : Commit Change) → Follows h c → (present : StoredMask) × IsRecord h present → (present : StoredMask) × IsRecord (h ++ c ∷ []) present
-    on h c (inl s) (m, is) = (m, ap (λ (e : Named). read_first mask_of_words e.chain) (root_other h c (mask_root 0) s.other) ∙ is)
-    on h c (inr (inl w)) (m, is) = (m, ap (λ (e : Named). read_first mask_of_words e.chain) (root_other h c (mask_root 0) (λ e. not_the_slot w.mask w.bucket (sym w.root ∙ e))) ∙ is)
-    on h c (inr (inr w)) (m, is) = (w.mask, ap (λ (e : Named). read_first mask_of_words e.chain) (raised h c w) ∙ w.read)
+    on : (serial : ℕ) (h : List (Commit Change)) (c : Commit Change) → Follows h c → (present : StoredMask) × IsRecord h present × (present.serial ≡ serial) → (present : StoredMask) × IsRecord (h ++ c ∷ []) present × (present.serial ≡ serial)
+    on serial h c (inl s) (m, is, same) = (m, ap (λ (e : Named). read_first mask_of_words e.chain) (root_other h c (mask_root 0) s.other) ∙ is, same)
+    on serial h c (inr (inl w)) (m, is, same) = (m, ap (λ (e : Named). read_first mask_of_words e.chain) (root_other h c (mask_root 0) (λ e. not_the_slot w.mask w.bucket (sym w.root ∙ e))) ∙ is, same)
+    on serial h c (inr (inr w)) (m, is, same) = (w.mask, ap (λ (e : Named). read_first mask_of_words e.chain) (raised h c w) ∙ w.read, w.serial m is ∙ same)
 
-    more : (h : List (Commit Change)) (c : Commit Change) → Follows h c → ((n : ℕ) (m : StoredMask) → n ≤ length h → IsRecord (take n h) m → (present : StoredMask) × IsRecord h present)
-        → (n : ℕ) (m : StoredMask) → n ≤ length (h ++ c ∷ []) → IsRecord (take n (h ++ c ∷ [])) m → (present : StoredMask) × IsRecord (h ++ c ∷ []) present
+    more : (h : List (Commit Change)) (c : Commit Change) → Follows h c → ((n : ℕ) (m : StoredMask) → n ≤ length h → IsRecord (take n h) m → (present : StoredMask) × IsRecord h present × (present.serial ≡ m.serial))
+        → (n : ℕ) (m : StoredMask) → n ≤ length (h ++ c ∷ []) → IsRecord (take n (h ++ c ∷ [])) m → (present : StoredMask) × IsRecord (h ++ c ∷ []) present × (present.serial ≡ m.serial)
     more h c follows before n m low is = dite (dec_le n (length h))
-        (λ (within : n ≤ length h). on h c follows (before n m within (subst (λ (x : List (Commit Change)). IsRecord x m) (take-append-le n h (c ∷ []) within) is)))
-        (λ (end : n ≤ length h → ⊥). let all = length-append h (c ∷ []) in (m, subst (λ (x : List (Commit Change)). IsRecord x m) (take_all n (h ++ c ∷ []) (omega arith)) is))
+        (λ (within : n ≤ length h). on m.serial h c follows (before n m within (subst (λ (x : List (Commit Change)). IsRecord x m) (take-append-le n h (c ∷ []) within) is)))
+        (λ (end : n ≤ length h → ⊥). let all = length-append h (c ∷ []) in (m, subst (λ (x : List (Commit Change)). IsRecord x m) (take_all n (h ++ c ∷ []) (omega arith)) is, refl))

@@ -88,13 +88,14 @@ pub record IsRewrite (h : List (Commit Change)) (c : Commit Change) : Type 0 whe
   pub fits : mask.size ≡ size_of (length (now h))
   pub own_keys : HaveOwnKeys (changed (now h) change)
 
--- a record for the filters now, in rows that no record had, whose buckets are filled
+-- a record for the filters now, in rows that no record had, whose buckets are filled; it has the serial of the record before it, if there is one
 pub record IsRaise (h : List (Commit Change)) (c : Commit Change) : Type 0 where
   pub plain : c.edit ≡ None
   pub stamp : c.named.stamp ≡ point_of h
   pub root : c.root ≡ mask_root 0
   pub mask : StoredMask
   pub read : read_first mask_of_words c.named.chain ≡ Some mask
+  pub serial : (old : StoredMask) → IsRecord h old → mask.serial ≡ old.serial
   pub words : mask.mask.words ≡ lone_words
   pub fits : mask.size ≡ size_of (length (now h))
   pub stamps : (bucket : ℕ) → bucket < mask.size → (root_of h (bucket_root mask bucket)).stamp ≡ point_of h
@@ -109,6 +110,6 @@ Follows h c = IsSpare h c ⊎ IsRewrite h c ⊎ IsRaise h c
 abbrev pub Keeps : List (Commit Change) → ℕ → Type 0
 Keeps h b = (n : ℕ) (c : Commit Change) → slice_get h n ≡ Some c → Follows (take n h) c
 
--- the mask stands once its root names a record
+-- the mask with a serial stands once its root names a record with that serial
 abbrev pub stands : List (Commit Change) → ℕ → ℕ → Type 0
-stands h slot serial = (slot ≡ 0) × (m : StoredMask) × IsRecord h m
+stands h slot serial = (slot ≡ 0) × (m : StoredMask) × IsRecord h m × (m.serial ≡ serial)

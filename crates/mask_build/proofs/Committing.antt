@@ -13,6 +13,7 @@ use Rattle.pin_store.specs.Layout.{block_words, links_of, commit_of}
 use Rattle.block_codec.specs.declared.mask.StoredMask.{StoredMask}
 use Rattle.block_codec.specs.Masks.{mask_words, rows_word, IsMaskBlock}
 use Rattle.block_codec.proofs.Standing.{block_link}
+use Rattle.block_reading.proofs.MaskReads.{length_mask_words}
 use Rattle.mask_table.specs.Buckets.{bucket_root}
 use Rattle.mask_mirror.specs.declared.mirror.Mirror.{Mirror}
 use Rattle.mask_mirror.specs.Kept.{bucket_at, Spells}
@@ -39,7 +40,7 @@ bucket_commit_is {E} mirror shape cells mask xs laid bucket place number less at
     λ t. record { root = root t; named = record { chain = links t; stamp = stamp }; edit = None }
 
 few_words : (mask : StoredMask) → length mask.mask.words ≡ 14 → length (mask_words mask) ≤ 39
-few_words mask long = let all = length-append mask.mask.words (map (rows_word mask.rows) (range_with_len 0 16)) in let rows = length-map-range_with_len (rows_word mask.rows) 0 16 in omega arith
+few_words mask long = let all = length_mask_words mask long in omega arith
 
 -- the record's block makes a chain of its own
 pub record_linked : (shape : Shape) (cells : List ℕ) (b : ℕ) (mask : StoredMask) → shape.words ≡ 40 → IsMaskBlock (block_words shape cells b) (mask, None) → IsLinked shape.words (links_of shape cells (b ∷ []))

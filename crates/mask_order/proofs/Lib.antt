@@ -3,3 +3,4 @@ pub mod Buckets
 pub mod ChainsRead
 pub mod Placing
 pub mod KeptChains
+pub mod Records

@@ -3,7 +3,7 @@
 use crate::blocks::Blocks;
 use crate::mask_writer::MaskWriter;
 use block_codec::StoredFilter;
-use mask_bucket_edits::{exchange, take_out};
+use mask_bucket_edits::{exchange, find, take_out};
 use pin_store::{Store, Writer};
 use store_history::{EditName, Law};
 use tc_base::Point;
@@ -11,7 +11,9 @@ use tc_base::Point;
 impl MaskWriter {
     ghost use Rattle.std.specs.Prelude.{◌≡◌, ◌≢◌, ℕ, ◌+◌, ◌<◌, ◌≤◌, ◌++◌, ◌∷◌, [], List, length, map, take};
     ghost use Rattle.store_history.specs.declared.history.Link.{Link};
+    ghost use Rattle.store_history.specs.declared.history.Named.{Named};
     ghost use Rattle.store_history.specs.History.{root_of};
+    ghost use Rattle.pin_store.specs.declared.shape.Shape.{Shape};
     ghost use Rattle.pin_store.specs.Layout.{block_words};
     ghost use Rattle.pin_store.specs.Sheets.{base_of, IsSameButCells};
     ghost use Rattle.pin_store.specs.Calls.{seen_by, sheet_of, IsSeatOf};
@@ -23,6 +25,20 @@ impl MaskWriter {
     ghost use Rattle.mask_mirror.specs.Lists.{HasFilters};
     ghost use Rattle.mask_mirror.specs.Given.{AreGiven};
     ghost use Rattle.mask_mirror.specs.Changing.{FilterAt, root_for, remove_at, replace_at, HasNone};
+
+    /// How many filters stand in front of the one with a handle in its bucket of the mask at a slot, which has such a filter: so many blocks are
+    /// to be given to the removal of that filter. Nothing else is changed, and no commit is made.
+    pub fn later_than(&mut self, slot: u32, handle: u32) -> u32
+        requires slot { slot < 8192 }
+        requires there { (kept : KeptMask) × (shape : Shape) × (cells : List ℕ) × (roots : ℕ → Named) × (root : ℕ) × (front : List StoredFilter) × (filter : StoredFilter)
+            × Stands self.old.mirror slot kept × IsKept self.old.mirror shape cells roots × FilterAt roots kept.mask handle root front filter }
+        ensures count { (kept : KeptMask) (shape : Shape) (cells : List ℕ) (roots : ℕ → Named) → Stands self.old.mirror slot kept → IsKept self.old.mirror shape cells roots
+            → (root : ℕ) × (front : List StoredFilter) × (filter : StoredFilter) × FilterAt roots kept.mask handle root front filter × (result ≡ length front) }
+        ensures same { (self.new.mirror ≡ self.old.mirror) × (self.new.left_blocks ≡ self.old.left_blocks) × (self.new.left_rows ≡ self.old.left_rows) }
+    {
+        let found = find(&mut self.chain, &self.mirror, slot, handle);
+        found.front as u32
+    }
 
     /// Takes the filter with a handle out of the mask at a slot: fills the given blocks with the later filters of its bucket, which stand in
     /// front of it, and makes the one commit that names these in front of what was behind it. The commit carries the edit that `E`

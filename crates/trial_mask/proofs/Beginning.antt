@@ -55,7 +55,7 @@ first_rows mirror empty = record {
 
 pub first_lawful : (b : ℕ) (n : ℕ) → Keeps (take n (raise_commits 0 first_mask b (placed (0 ∷ 1 ∷ []) start) 0)) 0
 first_lawful b n = mask_follows [] first_mask (0 ∷ 1 ∷ []) nothing_kept (λ bucket less used. none_used (bucket_root first_mask bucket) used)
-    (buckets_apart first_mask first_storable (range_distinct 0 1)) b refl refl first_storable (omega arith)
+    (buckets_apart first_mask first_storable (range_distinct 0 1)) b refl refl first_storable (omega arith) (λ old was. absurd (cc was))
     (record { filters = All-cons FitsBlock first_filter [] first_fits (All-nil FitsBlock); enough = omega arith; low = λ place other e. let r = range_within 0 2 place other e in omega (arith, r) }) n
 
 pub first_lawful_with : (h : List (Commit Change)) (mask : StoredMask) (given : List ℕ) (filter : StoredFilter) (b n : ℕ) → h ≡ [] → mask ≡ first_mask → given ≡ range_with_len 0 2 → filter ≡ first_filter

@@ -28,7 +28,9 @@ use Rattle.mask_mirror.specs.Linked.{placed, resized, raise_commits}
 use Rattle.mask_mirror.proofs.Keeping.{same_kept}
 use Rattle.mask_order.specs.Fitting.{FitsBlock, FitInto}
 use Rattle.lone_mask.specs.declared.change.Change.{Change}
-use Rattle.lone_mask.specs.Lone.{lone_words, point_of, now, Keeps}
+use Rattle.hook_law.proofs.Growing.{some_is}
+use Rattle.lone_mask.specs.Lone.{lone_words, point_of, now, IsRecord, Keeps}
+use Rattle.mask_order.proofs.Records.{stored_record}
 use Rattle.lone_commits.proofs.Spending.{mask_fresh}
 use Rattle.lone_commits.proofs.WholeMask.{mask_follows, buckets_apart}
 use Rattle.trial_mask.specs.Trial.{TriedWith}
@@ -84,6 +86,8 @@ module _ (mirror : Mirror) (fs : List StoredFilter) (blocks rows size point : �
       resize_lawful kept last gs n stands has =
           let mask = resized kept.mask size2 rows2 in let same = same_kept mirror 0 0 kept tried.mask refl stands tried.stands in
           let is = storable kept.mask in let serial = (tried.kept.masks 0 kept stands).there.serial in
+          let same_serial : (old : StoredMask) → IsRecord h old → mask.serial ≡ old.serial = λ old was.
+          ap (λ (m : StoredMask). m.serial) (some_is kept.mask old (sym (stored_record mirror shape (sheet_of p).cells (root_of h) 0 kept tried.kept stands) ∙ was)) in
           let above = subst (All (λ (row : ℕ). rows ≤ row)) (sym fresh_rows) (range_all (λ (row : ℕ). rows ≤ row) rows (size2 / 16) (λ b up down. up)) in
           let distinct = subst (λ (l : List ℕ). IsDistinct eqb l) (sym fresh_rows) (range_distinct rows (size2 / 16)) in
           let long = many_given point fs tried.has in
@@ -91,7 +95,7 @@ module _ (mirror : Mirror) (fs : List StoredFilter) (blocks rows size point : �
           subst (λ (l : List StoredFilter). Keeps (h ++ take n (raise_commits 0 mask (get_or given (length gs) 0) (placed given l) point)) 0) (tried.changes ∙ same_list last gs has)
           (subst (λ (k : ℕ). Keeps (h ++ take n (raise_commits 0 mask (get_or given (length gs) 0) (placed given (now h)) k)) 0) tried.edits
           (mask_follows h mask given tried.lawful (mask_fresh h mask rows tried.rows_below is above) (buckets_apart mask is distinct) (get_or given (length gs) 0)
-          (fits ∙ ap (λ (l : List StoredFilter). size_of (length l)) (sym tried.changes)) (ap (λ (k : KeptMask). k.mask.mask.words) same ∙ tried.words) is serial into n))
+          (fits ∙ ap (λ (l : List StoredFilter). size_of (length l)) (sym tried.changes)) (ap (λ (k : KeptMask). k.mask.mask.words) same ∙ tried.words) is serial same_serial into n))
 
       pub resized_tried : (mirror2 : Mirror) (p2 : Seat (Unit {0}) (View Change))
           → seen_by p2 ≡ h ++ raise_commits 0 (resized tried.mask.mask size2 rows2) (get_or given (length fs) 0) (placed given fs) point

@@ -10,10 +10,6 @@ use Rattle.std.proofs.lemmas.Bool.{true≢false}
 use Rattle.std.proofs.lemmas.List.{take_at, get_or-append-add, get_or_past}
 use Rattle.std.proofs.lemmas.List.Elements.{All-cons, All-nil, All-append, All-replicate, All-map, All-get_or}
 use Rattle.std.proofs.lemmas.List.FromFn.{length-map-range_with_len}
-use Rattle.store_history.specs.declared.history.Commit.{Commit}
-use Rattle.store_history.specs.History.{root_of}
-use Rattle.store_history.specs.Reads.{read_first}
-use Rattle.pin_store.specs.declared.shape.Shape.{Shape}
 use Rattle.block_codec.specs.declared.mask.StoredMask.{StoredMask}
 use Rattle.block_codec.specs.Blocks.{block}
 use Rattle.block_codec.specs.Masks.{rows_word, mask_words, IsStorableMask, IsMaskBlock}
@@ -23,11 +19,6 @@ use Rattle.block_codec.proofs.Standing.{length_block}
 use Rattle.block_reading.specs.Read.{link_in, is_mask, mask_of_words}
 use Rattle.block_reading.proofs.Only.{mask_only}
 use Rattle.block_reading.proofs.Testing.{mask_tested}
-use Rattle.mask_mirror.specs.declared.mirror.Mirror.{Mirror}
-use Rattle.mask_mirror.specs.declared.mirror.KeptMask.{KeptMask}
-use Rattle.mask_mirror.specs.Kept.{Stands, IsKept}
-use Rattle.lone_mask.specs.declared.change.Change.{Change}
-use Rattle.lone_mask.specs.Lone.{IsRecord}
 
 -- the words of the rows
 abbrev row_words : List ℕ → List ℕ
@@ -37,12 +28,16 @@ row_words rows = map (rows_word rows) (range_with_len 0 16)
 abbrev behind : List ℕ → List ℕ
 behind rows = row_words rows ++ (replicate 6 0 ++ 0 ∷ [])
 
+-- how many words a mask's record has
+pub length_mask_words : (mask : StoredMask) → length mask.mask.words ≡ 14 → length (mask_words mask) ≡ 33
+length_mask_words mask key = let rows = length-map-range_with_len (rows_word mask.rows) 0 16 in let all = length-append mask.mask.words (row_words mask.rows) in omega arith
+
 module _ (mask : StoredMask) (storable : IsStorableMask mask) (serial : mask.serial < 4294967296) (key : length mask.mask.words ≡ 14) where
   abbrev words : List ℕ
   words = block (mask_words mask) None
 
   long_words : length (mask_words mask) ≡ 33
-  long_words = let rows = length-map-range_with_len (rows_word mask.rows) 0 16 in let all = length-append mask.mask.words (row_words mask.rows) in omega arith
+  long_words = length_mask_words mask key
 
   long : length words ≡ 40
   long = let few = long_words in length_block (mask_words mask) None (omega arith)
@@ -134,8 +129,3 @@ module _ (mask : StoredMask) (storable : IsStorableMask mask) (serial : mask.ser
   mask_block_reads = let words_are = key_read mask storable serial key in let rows_are = rows_read in
       ap (λ (t : Bool). if t then Some (mask_read own) else None) (tested mask storable serial key)
       ∙ (λ t. Some (record { serial = mask.serial; size = mask.size; mask = record { words = words_are t }; rows = rows_are t }))
-
--- and the record of a mask that is kept for slot 0 is the mask
-pub kept_record : (h : List (Commit Change)) (mirror : Mirror) (shape : Shape) (cells : List ℕ) (kept : KeptMask) → IsKept mirror shape cells (root_of h) → Stands mirror 0 kept → IsRecord h kept.mask
-kept_record h mirror shape cells kept keeps stands = let is = keeps.masks 0 kept stands in
-    ap (read_first mask_of_words) is.named ∙ (ap mask_of_words is.there.words_are ∙ mask_block_reads kept.mask is.there.storable is.there.serial is.there.mask)
