@@ -1,4 +1,3 @@
-pub mod HeadRows
 pub mod Telling
 pub mod Limits
 pub mod StandingMasks

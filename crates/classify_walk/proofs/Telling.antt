@@ -13,7 +13,8 @@ use Rattle.filter_tables.specs.Seen.{plain_table}
 use Rattle.filter_tables.specs.SeenMask.{plain_mask}
 use Rattle.walk_rules.specs.Questions.{Head}
 use Rattle.walk_steps.specs.Told.{head_told, heads_told, mask_serials}
-use Rattle.classify_walk.specs.Heads.{serials_of, head_of, with_masks_behind}
+use Rattle.head_laws.specs.Heads.{serials_of, head_of}
+use Rattle.classify_walk.specs.Heads.{with_masks_behind}
 
 serials_more : (masks : List MaskName) (mask : MaskName) → mask_serials (masks ++ (mask ∷ [])) ≡ mask_serials masks ++ (mask.serial ∷ [])
 serials_more [] mask = refl

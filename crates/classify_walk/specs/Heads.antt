@@ -1,13 +1,6 @@
--- The tables of lists, as heads.
-use Rattle.std.specs.Prelude.{ℕ, List, [], ◌∷◌, ◌++◌, map}
-use Rattle.filter_tables.specs.Plain.{PlainMask, PlainTable}
+-- Masks told behind those of the last head (this project's own).
+use Rattle.std.specs.Prelude.{ℕ, List, [], ◌∷◌, ◌++◌}
 use Rattle.walk_rules.specs.Questions.{Head}
-
-abbrev pub serials_of : List PlainMask → List ℕ
-serials_of masks = map (λ (mask : PlainMask). mask.serial) masks
-
-abbrev pub head_of : PlainTable → Head
-head_of table = record { serial = table.serial; chain = table.chain; pref = table.pref; protocol = table.protocol; masks = serials_of table.masks }
 
 -- masks behind those of the last head
 abbrev pub with_masks_behind : List ℕ → List Head → List Head

@@ -6,7 +6,8 @@ ghost use Rattle.filter_tables.specs.Seen.{plain_table};
 ghost use Rattle.filter_tables.specs.SeenMask.{plain_mask};
 ghost use Rattle.walk_steps.specs.Told.{head_told, heads_told, mask_serials};
 ghost use Rattle.visit_room.specs.Heads.{last_masks};
-ghost use Rattle.classify_walk.specs.Heads.{head_of, serials_of, with_masks_behind};
+ghost use Rattle.head_laws.specs.Heads.{head_of, serials_of};
+ghost use Rattle.classify_walk.specs.Heads.{with_masks_behind};
 
 use filter_lists::{FilterTable, Lists, MaskList};
 use tc_base::Hook;

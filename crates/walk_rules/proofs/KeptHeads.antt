@@ -18,7 +18,7 @@ use Rattle.walk_rules.specs.Questions.{Head}
 use Rattle.walk_rules.specs.Heads.{heads_on}
 use Rattle.walk_rules.proofs.Listed.{each_all, kept_have, unkept, any_has, sorted_have, unsorted, each_both, all_pairs, pairs_of_all, pairs_weaker}
 use Rattle.walk_rules.proofs.Deciding.{is_among, IsKept}
-use Rattle.walk_rules.proofs.Grouped.{Agree, agree_self, agree_turn, agree_together, is_of, IsHeadOf, grouped}
+use Rattle.walk_rules.proofs.Grouped.{Agree, agree_self, agree_turn, agree_together, is_of, IsHeadOf, AreHeadsOf, grouped}
 
 hook_true : (a b : Hook) → hook_eq a b ≡ true → a ≡ b
 hook_true hooks.Ingress hooks.Ingress e = refl
@@ -39,10 +39,10 @@ same_tests true false there back = sym (there refl)
 same_tests false true there back = back refl
 
 -- ---- the rows of a hook, in order
-abbrev rows_on : Hook → List Row → List Row
+abbrev pub rows_on : Hook → List Row → List Row
 rows_on hook rows = sorted row_before (filter (in_hook hook) rows)
 
-on_have : (P : Row → Type 0) (hook : Hook) (rows : List Row) → Each P rows → Each (λ row. (row.hook ≡ hook) × P row) (rows_on hook rows)
+pub on_have : (P : Row → Type 0) (hook : Hook) (rows : List Row) → Each P rows → Each (λ row. (row.hook ≡ hook) × P row) (rows_on hook rows)
 on_have P hook rows all =
     sorted_have (λ row. (row.hook ≡ hook) × P row) row_before (filter (in_hook hook) rows)
     (kept_have P (λ row. (row.hook ≡ hook) × P row) (in_hook hook) (λ row is has. (hook_true row.hook hook is, has)) rows all)
@@ -107,16 +107,23 @@ module _ (hook : Hook) (rows : List Row) (agrees : Each (λ row. Each (Agree row
   }
 
 -- ---- a sound state
-pub heads_kept : (hook : Hook) (s : State) → Sound s → Each (IsKept s.rows) (heads_on hook s)
-heads_kept hook s sound =
-    let agrees : Each (λ row. Each (Agree row) s.rows) s.rows = all_pairs Agree agree_self agree_turn s.rows (pairs_weaker GoTogether Agree agree_together s.rows sound.together) in
+pub rows_agree : (s : State) → Sound s → Each (λ row. Each (Agree row) s.rows) s.rows
+rows_agree s sound = all_pairs Agree agree_self agree_turn s.rows (pairs_weaker GoTogether Agree agree_together s.rows sound.together)
+
+pub heads_grouped : (hook : Hook) (s : State) → Sound s → AreHeadsOf (rows_on hook s.rows) (heads_on hook s)
+heads_grouped hook s sound =
     let across : Each (λ row. Each (Agree row) (rows_on hook s.rows)) (rows_on hook s.rows) =
     each_weaker (λ row. (row.hook ≡ hook) × Each (Agree row) (rows_on hook s.rows)) (λ row. Each (Agree row) (rows_on hook s.rows)) (λ row both. both.1) (rows_on hook s.rows)
     (on_have (λ row. Each (Agree row) (rows_on hook s.rows)) hook s.rows
     (each_weaker (λ row. Each (Agree row) s.rows) (λ row. Each (Agree row) (rows_on hook s.rows))
-    (λ row agree. each_weaker (λ r. (r.hook ≡ hook) × Agree row r) (Agree row) (λ r both. both.1) (rows_on hook s.rows) (on_have (Agree row) hook s.rows agree)) s.rows agrees)) in
+    (λ row agree. each_weaker (λ r. (r.hook ≡ hook) × Agree row r) (Agree row) (λ r both. both.1) (rows_on hook s.rows) (on_have (Agree row) hook s.rows agree)) s.rows
+    (rows_agree s sound))) in
     let on : Each (λ row. row.hook ≡ hook) (rows_on hook s.rows) =
     each_weaker (λ row. (row.hook ≡ hook) × Unit {0}) (λ row. row.hook ≡ hook) (λ row both. both.0) (rows_on hook s.rows)
     (on_have (λ row. Unit {0}) hook s.rows (each_all (λ row. Unit {0}) (λ row. tt) s.rows)) in
-    let are = grouped hook (rows_on hook s.rows) on (pairs_of_all Agree (rows_on hook s.rows) across) (sorted_in_order row_before row_order (filter (in_hook hook) s.rows)) in
-    each_weaker (IsHeadOf (rows_on hook s.rows)) (IsKept s.rows) (λ head is. kept_one hook s.rows agrees head is) (heads_on hook s) are.each
+    grouped hook (rows_on hook s.rows) on (pairs_of_all Agree (rows_on hook s.rows) across) (sorted_in_order row_before row_order (filter (in_hook hook) s.rows))
+
+pub heads_kept : (hook : Hook) (s : State) → Sound s → Each (IsKept s.rows) (heads_on hook s)
+heads_kept hook s sound =
+    let are = heads_grouped hook s sound in
+    each_weaker (IsHeadOf (rows_on hook s.rows)) (IsKept s.rows) (λ head is. kept_one hook s.rows (rows_agree s sound) head is) (heads_on hook s) are.each

@@ -2,7 +2,7 @@ use Rattle.std.proofs.Common.{◌≡◌, take}
 use Rattle.std.specs.Prelude.{map}
 use Rattle.filter_tables.specs.SeenMask.{plain_mask}
 use Rattle.walk_steps.specs.Told.{mask_serials}
-use Rattle.classify_walk.specs.Heads.{serials_of}
+use Rattle.head_laws.specs.Heads.{serials_of}
 use Rattle.classify_walk.proofs.heads.masks_are_told.Given as goal
 
 abbrev pub invariant-loop-place : goal.invariant-loop-place

@@ -4,7 +4,8 @@ use Rattle.std.proofs.lemmas.List.{take_more, length-map}
 use Rattle.visit_room.specs.Heads.{last_masks}
 use Rattle.walk_steps.specs.Told.{heads_told}
 use Rattle.filter_tables.specs.SeenMask.{plain_mask}
-use Rattle.classify_walk.specs.Heads.{serials_of, with_masks_behind}
+use Rattle.head_laws.specs.Heads.{serials_of}
+use Rattle.classify_walk.specs.Heads.{with_masks_behind}
 use Rattle.classify_walk.proofs.Telling.{last_pushed, table_told, told_count}
 use Rattle.classify_walk.proofs.Limits.{tables_fit, masks_fit}
 use Rattle.classify_walk.proofs.heads.tell_anew.Goals as goal

@@ -2,7 +2,7 @@ use Rattle.std.proofs.Common.{◌≡◌, take}
 use Rattle.std.specs.Prelude.{map}
 use Rattle.filter_tables.specs.Seen.{plain_table}
 use Rattle.walk_steps.specs.Told.{heads_told}
-use Rattle.classify_walk.specs.Heads.{head_of}
+use Rattle.head_laws.specs.Heads.{head_of}
 use Rattle.classify_walk.proofs.heads.tell_anew.Given as goal
 
 abbrev pub invariant-loop-place : goal.invariant-loop-place

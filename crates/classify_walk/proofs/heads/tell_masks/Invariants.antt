@@ -3,7 +3,8 @@ use Rattle.std.specs.Prelude.{map}
 use Rattle.filter_tables.specs.SeenMask.{plain_mask}
 use Rattle.visit_room.specs.Heads.{last_masks}
 use Rattle.walk_steps.specs.Told.{heads_told}
-use Rattle.classify_walk.specs.Heads.{serials_of, with_masks_behind}
+use Rattle.head_laws.specs.Heads.{serials_of}
+use Rattle.classify_walk.specs.Heads.{with_masks_behind}
 use Rattle.classify_walk.proofs.heads.tell_masks.Given as goal
 
 abbrev pub invariant-loop-place : goal.invariant-loop-place

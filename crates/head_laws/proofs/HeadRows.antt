@@ -12,7 +12,7 @@ use Rattle.filter_tables.specs.Whole.{HasSome, IsFull}
 use Rattle.filter_tables.specs.Rows.{row_of, rows_of_mask, rows_of_table, rows_of}
 use Rattle.walk_rules.specs.Questions.{Head}
 use Rattle.walk_rules.specs.Heads.{with_row, heads_in}
-use Rattle.classify_walk.specs.Heads.{serials_of, head_of}
+use Rattle.head_laws.specs.Heads.{serials_of, head_of}
 
 -- ---- numbers
 pub one_number : (n : ℕ) → (n == n) ≡ true

@@ -1,0 +1,3 @@
+pub mod HeadRows
+pub mod ListedHeads
+pub mod OnePlace
