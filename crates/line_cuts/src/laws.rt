@@ -9,8 +9,11 @@ pub fn whole_lines()
     ensures { (lines : List (List ℕ)) → AreLines lines → cut (joined lines) ≡ lines }
 {}
 
-/// Equal texts have equal numbers: a number and what follows it, and numbers behind blanks up to the end of a line.
+/// Equal texts have equal numbers: a number and what follows it, and numbers behind blanks up to a line's
+/// end.
 pub fn ended_numbers()
-    ensures one { (a b : ℕ) (x y : List ℕ) → a < 2 ^ 64 → b < 2 ^ 64 → Low x → Low y → decimal a ++ x ≡ decimal b ++ y → (a ≡ b) × (x ≡ y) }
-    ensures many { (ms ns : List ℕ) → AreShort ms → AreShort ns → numbers_text ms ++ (10 ∷ []) ≡ numbers_text ns ++ (10 ∷ []) → ms ≡ ns }
+    ensures one { (a b : ℕ) (x y : List ℕ) → a < 2 ^ 64 → b < 2 ^ 64 → Low x → Low y
+        → decimal a ++ x ≡ decimal b ++ y → (a ≡ b) × (x ≡ y) }
+    ensures many { (ms ns : List ℕ) → AreShort ms → AreShort ns
+        → numbers_text ms ++ (10 ∷ []) ≡ numbers_text ns ++ (10 ∷ []) → ms ≡ ns }
 {}

@@ -1,4 +1,5 @@
--- A line leads to one stand: it tells which event or which packet it is of, and what else it stands for follows from the stand.
+-- A line leads to one stand: it tells which event or which packet it is of, and what else it stands for
+-- follows from the stand.
 use Rattle.std.proofs.Common.{◌≡◌, ◌∙◌, ℕ, suc, ◌+◌, ◌<◌, ◌≤◌, ◌^◌, Bool, true, false, List, [], ◌∷◌, ◌++◌, length, take, Some, Ok, Err, refl, sym, ap, subst, arith, ◌⊎◌, inl, inr}
 use Rattle.std.specs.Prelude.{max, codes, ◌||◌}
 use Rattle.std.specs.List.{slice_get}
@@ -161,7 +162,7 @@ event_or count event y b not_edit not_refused head same = by_head (kind_head cou
 
 module _ (loaded : LoadedJob) (round : GivenRound) (its : List RoundRecord) (before : List Edit) (it : RoundRecord) (edits : List Edit) (line : List ℕ) (a b : Stand)
     (is : IsLoaded loaded) (given : AreGiven round.batches) (short : length (before ++ edits) < 2 ^ 64) where
-  two_events : TakesEvent loaded round its before it edits line a → TakesEvent loaded round its before it edits line b → a ≡ b
+  two_events : TakesEvent round its before it edits line a → TakesEvent round its before it edits line b → a ≡ b
   two_events first second =
       let same = one_event round before it edits (edits_in its + accepted_count it.events) first.event second.event first.own second.own given first.is_next second.is_next (sym first.text ∙ second.text) in
       first.then ∙ ap (λ (e : Event). inside its before (with_event it e) (edits ++ first.own)) same.0 ∙ ap (λ (own : List Edit). inside its before (with_event it second.event) (edits ++ own)) same.1 ∙ sym second.then

@@ -10,13 +10,15 @@ ghost use Rattle.report_stands.specs.Stands.{Stand, Takes, journal_length};
 
 /// Two lawful runs of a job with the same report are one run, in all that is recorded of them.
 pub fn one_run_of_each_report()
-    ensures { (loaded : LoadedJob) (one other : RunRecord) → IsLoaded loaded → IsLawfulRun loaded one → IsLawfulRun loaded other
+    ensures { (loaded : LoadedJob) (one other : RunRecord) → IsLoaded loaded
+        → IsLawfulRun loaded one → IsLawfulRun loaded other
         → report_text one ≡ report_text other → one ≡ other }
 {}
 
 /// A line leads to one stand, as long as fewer edits were accepted than a number of 64 bits counts.
 pub fn one_stand()
-    ensures { (loaded : LoadedJob) (stand one other : Stand) (line : List ℕ) → IsLoaded loaded → journal_length stand < 2 ^ 64
+    ensures { (loaded : LoadedJob) (stand one other : Stand) (line : List ℕ) → IsLoaded loaded
+        → journal_length stand < 2 ^ 64
         → Takes loaded stand line one → Takes loaded stand line other → one ≡ other }
 {}
 

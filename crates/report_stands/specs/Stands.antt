@@ -1,5 +1,6 @@
 -- How far the lines of a report have come, and which line may come next (this project's own).
-use Rattle.std.specs.Prelude.{◌≡◌, ◌⊎◌, ℕ, ◌+◌, ◌≤◌, max, List, [], ◌∷◌, ◌++◌, length, Option, Some, None, codes, slice_get}
+use Rattle.std.specs.Prelude.{◌≡◌, ◌⊎◌, ℕ, ◌+◌, ◌≤◌, max, codes}
+use Rattle.std.specs.Prelude.{List, [], ◌∷◌, ◌++◌, length, Option, Some, None, slice_get}
 use Rattle.filter_state.specs.declared.edit.Edit.{Edit}
 use Rattle.filter_state.specs.States.{State, no_state}
 use Rattle.filter_state.specs.Journals.{state_from}
@@ -20,8 +21,9 @@ use Rattle.lawful_runs.specs.Events.{AreInOrder, IsLineOf, IsResult}
 use Rattle.lawful_runs.specs.Lawful.{outcomes_in, counters_of}
 use Rattle.report_stands.specs.Begun.{AreBegun}
 
--- A stand is: before the first line; before a round, behind the rounds before it and their journal; in a round, with what it has told
--- so far and the edits that it accepted; behind the rounds, with the lines that are left
+-- HOW FAR A REPORT HAS COME: before its first line; before a round, behind earlier rounds and their journal;
+-- in a round, with what it has told so far and the edits that it has accepted; behind all rounds, with the
+-- lines left.
 pub data Stand : Type 0 where
   start : Stand
   opening : (its : List RoundRecord) (journal : List Edit) → Stand
@@ -57,8 +59,10 @@ abbrev pub settled : LoadedJob → List RoundRecord → List Edit → Stand
 settled loaded its journal = settled_at (slice_get (given_rounds loaded) (length its)) its journal
 
 -- ---- the lines in a round
--- an event's line: the next command of its control, with its result on the state so far. No packet was told before it.
-pub record IsNextEvent (round : GivenRound) (before : List Edit) (it : RoundRecord) (edits : List Edit) (event : Event) (own : List Edit) : Type 0 where
+-- an event's line: the next command of its control, with its result on the state so far. No packet was told
+-- before it.
+pub record IsNextEvent (round : GivenRound) (before : List Edit) (it : RoundRecord) (edits : List Edit)
+    (event : Event) (own : List Edit) : Type 0 where
   pub words : List (List ℕ)
   pub after : State
   pub unwalked : it.outcomes ≡ []
@@ -66,14 +70,18 @@ pub record IsNextEvent (round : GivenRound) (before : List Edit) (it : RoundReco
   pub line : IsLineOf round.batches event words
   pub result : IsResult (state_from no_state (before ++ edits)) words event.kind after own
 
--- a packet's line: all events are told, and it is the next packet's walk
-pub record IsNextOutcome (workers : ℕ) (round : GivenRound) (its : List RoundRecord) (before : List Edit) (it : RoundRecord) (edits : List Edit) (outcome : Outcome) : Type 0 where
+-- a packet's line: all events are told, and it is the next packet's walk, by a worker whose head is no older
+-- than what that worker has seen
+pub record IsNextOutcome (workers : ℕ) (round : GivenRound) (its : List RoundRecord) (before : List Edit)
+    (it : RoundRecord) (edits : List Edit) (outcome : Outcome) : Type 0 where
   pub arrival : Arrival
   pub all : AreInOrder round.batches it.events
   pub there : slice_get round.arrivals (length it.outcomes) ≡ Some arrival
   pub least : 1 ≤ outcome.worker
   pub most : outcome.worker ≤ workers
-  pub walked : IsWalked (before ++ edits) (max (length before) (seen_by outcome.worker (outcomes_in its ++ it.outcomes))) (length (before ++ edits)) arrival outcome
+  pub walked : IsWalked (before ++ edits)
+      (max (length before) (seen_by outcome.worker (outcomes_in its ++ it.outcomes)))
+      (length (before ++ edits)) arrival outcome
 
 -- the round's last line: all events and all packets are told
 pub record IsWhole (round : GivenRound) (it : RoundRecord) : Type 0 where
@@ -81,29 +89,34 @@ pub record IsWhole (round : GivenRound) (it : RoundRecord) : Type 0 where
   pub each : length it.outcomes ≡ length round.arrivals
 
 -- ---- what each line leads to
-pub record TakesEvent (loaded : LoadedJob) (round : GivenRound) (its : List RoundRecord) (before : List Edit) (it : RoundRecord) (edits : List Edit) (line : List ℕ) (next : Stand) : Type 0 where
+pub record TakesEvent (round : GivenRound) (its : List RoundRecord) (before : List Edit) (it : RoundRecord)
+    (edits : List Edit) (line : List ℕ) (next : Stand) : Type 0 where
   pub event : Event
   pub own : List Edit
   pub is_next : IsNextEvent round before it edits event own
   pub text : line ≡ event_line (edits_in its + accepted_count it.events) event
   pub then : next ≡ inside its before (with_event it event) (edits ++ own)
 
-pub record TakesPacket (loaded : LoadedJob) (round : GivenRound) (its : List RoundRecord) (before : List Edit) (it : RoundRecord) (edits : List Edit) (line : List ℕ) (next : Stand) : Type 0 where
+pub record TakesPacket (loaded : LoadedJob) (round : GivenRound) (its : List RoundRecord) (before : List Edit)
+    (it : RoundRecord) (edits : List Edit) (line : List ℕ) (next : Stand) : Type 0 where
   pub outcome : Outcome
   pub is_next : IsNextOutcome loaded.job.workers round its before it edits outcome
   pub text : line ≡ packet_line (1 + length it.outcomes) outcome
   pub then : next ≡ inside its before (with_outcome it outcome) edits
 
-pub record TakesEnd (loaded : LoadedJob) (round : GivenRound) (its : List RoundRecord) (before : List Edit) (it : RoundRecord) (edits : List Edit) (line : List ℕ) (next : Stand) : Type 0 where
+pub record TakesEnd (loaded : LoadedJob) (round : GivenRound) (its : List RoundRecord) (before : List Edit)
+    (it : RoundRecord) (edits : List Edit) (line : List ℕ) (next : Stand) : Type 0 where
   pub whole : IsWhole round it
   pub text : line ≡ numbered_line (codes "end round ") (length its + 1)
   pub then : next ≡ settled loaded (its ++ (it ∷ [])) (before ++ edits)
 
 -- a line in a round is one of these three
-abbrev pub TakesIn : LoadedJob → GivenRound → List RoundRecord → List Edit → RoundRecord → List Edit → List ℕ → Stand → Type 0
+abbrev pub TakesIn : LoadedJob → GivenRound → List RoundRecord → List Edit → RoundRecord → List Edit → List ℕ
+    → Stand → Type 0
 TakesIn loaded round its before it edits line next =
-    TakesEvent loaded round its before it edits line next
-    ⊎ (TakesPacket loaded round its before it edits line next ⊎ TakesEnd loaded round its before it edits line next)
+    TakesEvent round its before it edits line next
+    ⊎ (TakesPacket loaded round its before it edits line next
+    ⊎ TakesEnd loaded round its before it edits line next)
 
 -- ---- ONE LINE: which line may come next, and where the report then stands
 abbrev pub Takes : LoadedJob → Stand → List ℕ → Stand → Type 0
@@ -111,14 +124,17 @@ Takes loaded start line next = (line ≡ codes "clsact report 1\n") × (next ≡
 Takes loaded (opening its journal) line next =
     (line ≡ numbered_line (codes "round ") (length its + 1)) × (next ≡ inside its journal no_round [])
 Takes loaded (inside its before it edits) line next =
-    (round : GivenRound) × (slice_get (given_rounds loaded) (length its) ≡ Some round) × TakesIn loaded round its before it edits line next
+    (round : GivenRound) × (slice_get (given_rounds loaded) (length its) ≡ Some round)
+    × TakesIn loaded round its before it edits line next
 Takes loaded (closing run journal []) line next = ⊥
-Takes loaded (closing run journal (first ∷ left)) line next = (line ≡ first) × (next ≡ closing run journal left)
+Takes loaded (closing run journal (first ∷ left)) line next =
+    (line ≡ first) × (next ≡ closing run journal left)
 
--- lines, one after the other
+-- LINES ONE AFTER THE OTHER, from a stand to a stand
 abbrev pub IsPath : LoadedJob → Stand → List (List ℕ) → Stand → Type 0
 IsPath loaded stand [] end = end ≡ stand
-IsPath loaded stand (line ∷ lines) end = (next : Stand) × Takes loaded stand line next × IsPath loaded next lines end
+IsPath loaded stand (line ∷ lines) end =
+    (next : Stand) × Takes loaded stand line next × IsPath loaded next lines end
 
 -- how many edits were accepted so far
 abbrev pub journal_length : Stand → ℕ

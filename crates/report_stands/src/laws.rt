@@ -7,7 +7,9 @@ ghost use Rattle.lawful_runs.specs.declared.loaded.LoadedJob.{LoadedJob};
 ghost use Rattle.lawful_runs.specs.Lawful.{IsRunWith};
 ghost use Rattle.report_stands.specs.Stands.{start, closing, IsPath};
 
-/// The lines of a lawful run are a path from the first line to the end of the report, and the path ends with this run and its journal.
+/// The lines of a lawful run are a path from before the first line to the end, where this run and its journal
+/// stand.
 pub fn runs_are_paths()
-    ensures { (loaded : LoadedJob) (run : RunRecord) (journal : List Edit) → IsRunWith loaded run journal → IsPath loaded start (report_lines run) (closing run journal []) }
+    ensures { (loaded : LoadedJob) (run : RunRecord) (journal : List Edit) → IsRunWith loaded run journal
+        → IsPath loaded start (report_lines run) (closing run journal []) }
 {}
