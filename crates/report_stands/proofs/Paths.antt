@@ -3,6 +3,7 @@ use Rattle.std.proofs.Common.{◌≡◌, ◌∙◌, ℕ, ◌+◌, List, [], ◌�
 use Rattle.std.specs.Prelude.{codes, Option}
 use Rattle.std.specs.List.{slice_get}
 use Rattle.std.proofs.lemmas.List.{length-append}
+use Rattle.std.proofs.lemmas.Option.{slice_get_past}
 use Rattle.filter_state.specs.declared.edit.Edit.{Edit}
 use Rattle.filter_state.specs.States.{State, no_state}
 use Rattle.filter_state.specs.Journals.{state_from}
@@ -20,7 +21,7 @@ use Rattle.lawful_runs.proofs.WalkedEach.{AreWalkedFrom}
 use Rattle.lawful_runs.proofs.Events.{state_from-append, leads}
 use Rattle.report_stands.specs.Begun.{AreBegun}
 use Rattle.report_stands.specs.Stands.{Stand, start, opening, inside, closing, no_round, run_of, last_lines, settled_at, settled, IsPath}
-use Rattle.report_stands.proofs.Places.{there, past}
+use Rattle.report_stands.proofs.Places.{there}
 use Rattle.report_stands.proofs.Texts.{accepted_append, lines_after, packets_from, round_text, rounds_from, rounds_lines_are, edits_append, edits_cons}
 use Rattle.report_stands.proofs.Fronts.{begun_front, walks_from}
 
@@ -142,7 +143,7 @@ opened loaded front rounds round its journal whole count =
     (here, ap (λ (o : Option GivenRound). settled_at o its journal) here)
 
 pub closed : (loaded : LoadedJob) (its : List RoundRecord) (journal : List Edit) → length its ≡ length (given_rounds loaded) → settled loaded its journal ≡ closing (run_of its journal) journal (last_lines (run_of its journal))
-closed loaded its journal count = ap (λ (o : Option GivenRound). settled_at o its journal) (past (given_rounds loaded) (length its) count)
+closed loaded its journal count = ap (λ (o : Option GivenRound). settled_at o its journal) (slice_get_past (given_rounds loaded) (length its) (omega (arith, count)))
 
 pub rounds_path : (loaded : LoadedJob) (front rounds : List GivenRound) (its more : List RoundRecord) (before journal : List Edit) → given_rounds loaded ≡ front ++ rounds → length its ≡ length front
     → AreRounds loaded.job.workers rounds before (outcomes_in its) more journal
