@@ -21,11 +21,11 @@ use Rattle.lawful_runs.proofs.Results.{result_counted}
 use Rattle.lawful_runs.proofs.Played.{played_at}
 
 -- ---- states behind edits
-state_from-append : (s : State) (edits more : List Edit) → state_from s (edits ++ more) ≡ state_from (state_from s edits) more
+pub state_from-append : (s : State) (edits more : List Edit) → state_from s (edits ++ more) ≡ state_from (state_from s edits) more
 state_from-append s [] more = refl
 state_from-append s (edit ∷ edits) more = state_from-append (state_after s (step s edit)) edits more
 
-leads : (s : State) (words : List (List ℕ)) (kind : EventKind) (next : State) (first : List Edit) → IsResult s words kind next first → state_from s first ≡ next
+pub leads : (s : State) (words : List (List ℕ)) (kind : EventKind) (next : State) (first : List Edit) → IsResult s words kind next first → state_from s first ≡ next
 leads s words (kinds.Accepted done) next first (edit, gives, stepped, is) = ap (state_from s) is ∙ ap (λ (after : Stepped). state_after s after) stepped
 leads s words (kinds.Refused refusal) next first (edit, gives, stepped, same, is) = ap (state_from s) is ∙ sym same
 leads s words (kinds.Syntax word) next first (bad, same, is) = ap (state_from s) is ∙ sym same

@@ -9,6 +9,7 @@ pub mod Played
 pub mod Events
 pub mod Packets
 pub mod Behind
+pub mod GivenCommands
 pub mod OneJournal
 pub mod Counters
 pub mod InOrder

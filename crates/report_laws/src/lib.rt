@@ -1,0 +1,22 @@
+//! A report determines its run.
+//!
+//! A lawful run's text is a lawful report. This crate says the reverse: two lawful runs of a job with the
+//! same text are one run (`one_run_of_each_report`). A report shows neither the frames that walks leave nor
+//! what ran in each walk, but both follow from what it shows, and so nothing of a record is lost in its text.
+//!
+//! Why: a text tells its lines, since each line has its one end at its last byte (`lines_of_reports`). And a
+//! line leads to one stand (`one_stand`). Kinds of lines differ in their first two bytes. An event's line
+//! tells its control, and so the command and its result on the state so far. A packet's line tells its worker
+//! and its points, and its walk is a function of these. All other lines follow from what was told before. So
+//! the lines of a report are the path of one run.
+//!
+//! Numbers are told apart by their decimals as far as those of 64 bits go. A loaded job has far fewer
+//! commands, so no point comes near. That no two batches of a round are of one control is asked of the job as
+//! well: with two, a line might be a command of either.
+//!
+//! Laws only: there is nothing here to call at run time.
+#![tactic(auto)]
+
+mod laws;
+
+pub use laws::{lines_of_reports, one_run_of_each_report, one_stand};

@@ -1,0 +1,5 @@
+pub mod Places
+pub mod OneControl
+pub mod Texts
+pub mod Fronts
+pub mod Paths
