@@ -14,13 +14,13 @@ use Rattle.filter_state.specs.Sound.{Sound, Each}
 use Rattle.state_laws.proofs.Pairs.{each_weaker, any_none}
 use Rattle.state_laws.proofs.Fits.{WithinMasks}
 use Rattle.state_laws.proofs.Room.{found_any}
-use Rattle.state_parts.specs.Parts.{Stands, filter_of, filters_of}
-use Rattle.edit_effects.specs.Effects.{ChangesMask, HasMask, ChangesHook}
-use Rattle.edit_effects.proofs.Accepted.{same_filter}
-use Rattle.edit_effects.proofs.Alike.{new_alike, new_words}
-use Rattle.edit_effects.proofs.Masks.{filters_same, words_same, no_filters, other_last, filters_last}
-use Rattle.edit_effects.proofs.Pushed.{other_tables_pushed, tables_pushed, own_words_pushed, words_pushed}
-use Rattle.edit_effects.proofs.Adding.{mask_for, handle_in, table_for, new_row, added_state, line_filter, adds, fit}
+use Rattle.edit_effect_laws.specs.Parts.{Stands, filter_of, filters_of}
+use Rattle.edit_effect_laws.specs.Effects.{ChangesMask, HasMask, ChangesHook}
+use Rattle.edit_effect_laws.proofs.Accepted.{same_filter}
+use Rattle.edit_effect_laws.proofs.Alike.{new_alike, new_words}
+use Rattle.edit_effect_laws.proofs.Masks.{filters_same, words_same, no_filters, other_last, filters_last}
+use Rattle.edit_effect_laws.proofs.Pushed.{other_tables_pushed, tables_pushed, own_words_pushed, words_pushed}
+use Rattle.edit_effect_laws.proofs.Adding.{mask_for, handle_in, table_for, new_row, added_state, line_filter, adds, fit}
 
 -- ---- to a mask that stands
 stands : (s : State) (line : FilterLine) (pref : ℕ) (row : Row) → mask_row line.hook line.chain pref line.mask.words s.rows ≡ Some row → list_any (of_mask (mask_for s line pref)) s.rows ≡ true

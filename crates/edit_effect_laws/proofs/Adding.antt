@@ -15,8 +15,8 @@ use Rattle.state_laws.proofs.Pairs.{each_weaker}
 use Rattle.state_laws.proofs.Fits.{TableFits, MaskFits, WithinTables, WithinMasks, table_fits, mask_fits}
 use Rattle.state_laws.proofs.Rows.{IsPlain}
 use Rattle.state_laws.proofs.Whole.{rows_of}
-use Rattle.state_parts.specs.Parts.{Filter}
-use Rattle.edit_effects.proofs.Accepted.{not_unless, same_step}
+use Rattle.edit_effect_laws.specs.Parts.{Filter}
+use Rattle.edit_effect_laws.proofs.Accepted.{not_unless, same_step}
 
 -- ---- the new row
 abbrev pub table_for : State → FilterLine → ℕ → ℕ

@@ -6,8 +6,8 @@ use Rattle.filter_state.specs.States.{Row}
 use Rattle.filter_state.specs.Sound.{Each}
 use Rattle.state_laws.proofs.Pairs.{each_weaker, each_both}
 use Rattle.state_laws.proofs.Fits.{Akin, TableFits, MaskFits}
-use Rattle.edit_effects.proofs.Sorted.{bare}
-use Rattle.edit_effects.proofs.Heads.{LookAlike}
+use Rattle.edit_effect_laws.proofs.Sorted.{bare}
+use Rattle.edit_effect_laws.proofs.Heads.{LookAlike}
 
 abbrev looks : Hook → ℕ → ℕ → Proto → ℕ → ℕ → Row
 looks hook chain pref protocol table mask =

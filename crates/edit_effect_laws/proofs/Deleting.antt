@@ -21,14 +21,14 @@ use Rattle.state_laws.proofs.Tests.{row_in_table, row_in_table_from}
 use Rattle.state_laws.proofs.Fits.{Akin, all_akin}
 use Rattle.state_laws.proofs.Places.{NotBoth, only_one}
 use Rattle.walk_rules.proofs.Listed.{any_has}
-use Rattle.state_parts.specs.Parts.{Stands, filters_of, without}
-use Rattle.edit_effects.specs.Effects.{KeepsMask, ChangesMask, ChangesHook}
-use Rattle.edit_effects.proofs.Accepted.{not_unless, same_step}
-use Rattle.edit_effects.proofs.Kept.{spared}
-use Rattle.edit_effects.proofs.Sorted.{tables_of}
-use Rattle.edit_effects.proofs.Masks.{IsHandleIn, filters_same, words_same, no_filters, filters_without}
-use Rattle.edit_effects.proofs.Pushed.{not_on}
-use Rattle.edit_effects.proofs.Taken.{other_mask_taken, other_tables_taken, tables_keep, words_keep}
+use Rattle.edit_effect_laws.specs.Parts.{Stands, filters_of, without}
+use Rattle.edit_effect_laws.specs.Effects.{KeepsMask, ChangesMask, ChangesHook}
+use Rattle.edit_effect_laws.proofs.Accepted.{not_unless, same_step}
+use Rattle.edit_effect_laws.proofs.Kept.{spared}
+use Rattle.edit_effect_laws.proofs.Sorted.{tables_of}
+use Rattle.edit_effect_laws.proofs.Masks.{IsHandleIn, filters_same, words_same, no_filters, filters_without}
+use Rattle.edit_effect_laws.proofs.Pushed.{not_on}
+use Rattle.edit_effect_laws.proofs.Taken.{other_mask_taken, other_tables_taken, tables_keep, words_keep}
 
 -- rows of one table as one of them
 in_same_table : (hook : Hook) (chain pref : ℕ) (x y : Row) → Akin x y → x.table ≡ y.table → in_table hook chain pref x ≡ true → in_table hook chain pref y ≡ true

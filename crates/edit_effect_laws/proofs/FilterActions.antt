@@ -19,13 +19,13 @@ use Rattle.filter_state.specs.Refusals.{or_else, no_hook, protocol_clash_if, no_
 use Rattle.filter_state.specs.Steps.{made_of, resolved_for, with_actions, with_replaced, taken_out, filter_add, replace_or_add, filter_replace, filter_del, step}
 use Rattle.filter_state.specs.Sound.{Sound, IsAction, StandApart, places}
 use Rattle.state_laws.proofs.Pairs.{each_weaker, pairs_weaker, found}
-use Rattle.state_parts.specs.Parts.{params_at}
-use Rattle.edit_effects.specs.Effects.{KeepsActions, LosesNoAction, MakesNoAction}
-use Rattle.edit_effects.proofs.Accepted.{not_unless, same_step}
-use Rattle.edit_effects.proofs.Params.{params_in, Rise, StayOrGo}
-use Rattle.edit_effects.proofs.Rising.{AreRising, Grows, list_grows, stay_or_go, list_unbound}
-use Rattle.edit_effects.proofs.Adding.{adds}
-use Rattle.edit_effects.proofs.Replacing.{exchanged_actions, is_there, replaces}
+use Rattle.edit_effect_laws.specs.Parts.{params_at}
+use Rattle.edit_effect_laws.specs.Effects.{KeepsActions, LosesNoAction, MakesNoAction}
+use Rattle.edit_effect_laws.proofs.Accepted.{not_unless, same_step}
+use Rattle.edit_effect_laws.proofs.Params.{params_in, Rise, StayOrGo}
+use Rattle.edit_effect_laws.proofs.Rising.{AreRising, Grows, list_grows, stay_or_go, list_unbound}
+use Rattle.edit_effect_laws.proofs.Adding.{adds}
+use Rattle.edit_effect_laws.proofs.Replacing.{exchanged_actions, is_there, replaces}
 
 -- ---- a sound state's serials
 rising_of : (s : State) → Sound s → AreRising s.actions_made s.actions

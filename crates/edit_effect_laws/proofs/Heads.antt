@@ -16,8 +16,8 @@ use Rattle.row_order_laws.specs.Sorted.{placed, sorted}
 use Rattle.row_order_laws.specs.Rows.{row_before}
 use Rattle.walk_rules.specs.Questions.{Head}
 use Rattle.walk_rules.specs.Heads.{heads_in}
-use Rattle.edit_effects.proofs.Kept.{last_left, last_kept, either_order}
-use Rattle.edit_effects.proofs.Sorted.{bare, tables_of, tables_bare, AreOne, in_turn, last_first, tables_again}
+use Rattle.edit_effect_laws.proofs.Kept.{last_left, last_kept, either_order}
+use Rattle.edit_effect_laws.proofs.Sorted.{bare, tables_of, tables_bare, AreOne, in_turn, last_first, tables_again}
 
 -- rows of one mask look alike to a table
 abbrev pub LookAlike : Row → Row → Type 0

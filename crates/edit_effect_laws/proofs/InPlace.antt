@@ -13,13 +13,13 @@ use Rattle.filter_state.specs.Sound.{Sound}
 use Rattle.state_laws.proofs.Pairs.{each_weaker}
 use Rattle.state_laws.proofs.Tests.{bytes_eq_from}
 use Rattle.state_laws.proofs.Old.{is_old, IsOld, old_found}
-use Rattle.state_parts.specs.Parts.{filters_of}
-use Rattle.edit_effects.specs.Effects.{ChangesMask, with_actions}
-use Rattle.edit_effects.proofs.Accepted.{same_filter}
-use Rattle.edit_effects.proofs.Heads.{tables_changed}
-use Rattle.edit_effects.proofs.Masks.{filters_same, words_changed, others_changed, filters_changed}
-use Rattle.edit_effects.proofs.Taken.{the_gone}
-use Rattle.edit_effects.proofs.Replacing.{exchanged_actions, is_there, replaces, old_handles, moved_row}
+use Rattle.edit_effect_laws.specs.Parts.{filters_of}
+use Rattle.edit_effect_laws.specs.Effects.{ChangesMask, with_actions}
+use Rattle.edit_effect_laws.proofs.Accepted.{same_filter}
+use Rattle.edit_effect_laws.proofs.Heads.{tables_changed}
+use Rattle.edit_effect_laws.proofs.Masks.{filters_same, words_changed, others_changed, filters_changed}
+use Rattle.edit_effect_laws.proofs.Taken.{the_gone}
+use Rattle.edit_effect_laws.proofs.Replacing.{exchanged_actions, is_there, replaces, old_handles, moved_row}
 
 abbrev stayed : State → Row → Resolved → State
 stayed s old r = with_made (record s { rows = with_new_actions old r.serials s.rows }) (exchanged_actions old r)

@@ -13,10 +13,10 @@ use Rattle.state_laws.proofs.Pairs.{any_first, found}
 use Rattle.state_laws.proofs.Rows.{put_actions}
 use Rattle.row_lookup_laws.proofs.Heads.{head_of, first_head, filter_none}
 use Rattle.walk_rules.proofs.Listed.{kept_have, kept_alike}
-use Rattle.state_parts.specs.Parts.{Filter, filter_of, words_in, is_handle, without}
-use Rattle.edit_effects.specs.Effects.{with_actions}
-use Rattle.edit_effects.proofs.Kept.{last_left, last_kept, either_order, kept_of_mapped}
-use Rattle.edit_effects.proofs.Alike.{HasWords}
+use Rattle.edit_effect_laws.specs.Parts.{Filter, filter_of, words_in, is_handle, without}
+use Rattle.edit_effect_laws.specs.Effects.{with_actions}
+use Rattle.edit_effect_laws.proofs.Kept.{last_left, last_kept, either_order, kept_of_mapped}
+use Rattle.edit_effect_laws.proofs.Alike.{HasWords}
 
 -- of some rows
 abbrev pub filters_at : ℕ → List Row → List Filter

@@ -14,9 +14,9 @@ use Rattle.state_laws.proofs.Pairs.{found}
 use Rattle.state_laws.proofs.Tests.{bytes_eq_true, bytes_eq_from}
 use Rattle.state_laws.proofs.Fits.{MaskFits}
 use Rattle.state_laws.proofs.Old.{is_old}
-use Rattle.edit_effects.proofs.Accepted.{same_filter}
-use Rattle.edit_effects.proofs.Replacing.{exchanged_actions, is_there, replaces, moved_row}
-use Rattle.edit_effects.proofs.Moving.{MovesKey, MovesMask, moved, Known, known, key_moved, mask_moved}
+use Rattle.edit_effect_laws.proofs.Accepted.{same_filter}
+use Rattle.edit_effect_laws.proofs.Replacing.{exchanged_actions, is_there, replaces, moved_row}
+use Rattle.edit_effect_laws.proofs.Moving.{MovesKey, MovesMask, moved, Known, known, key_moved, mask_moved}
 
 -- the state behind a replace that doesn't keep the place
 left_for_last : (s : State) (line : FilterLine) (old : Row) (r : Resolved) (t : State) → with_actions (if bytes_eq old.mask line.mask.words && bytes_eq old.key line.key.words

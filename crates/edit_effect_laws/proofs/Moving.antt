@@ -17,16 +17,16 @@ use Rattle.state_laws.proofs.Fits.{TableFits, MaskFits}
 use Rattle.state_laws.proofs.Old.{is_old, IsOld, old_found}
 use Rattle.row_lookup_laws.proofs.Heads.{any_left}
 use Rattle.filter_tables.specs.Changes.{is_none_left}
-use Rattle.state_parts.specs.Parts.{Stands, filter_of, filters_of, without}
-use Rattle.edit_effects.specs.Effects.{KeepsTables, KeepsMask, HasMask, ChangesHook}
-use Rattle.edit_effects.proofs.Sorted.{bare}
-use Rattle.edit_effects.proofs.Heads.{LookAlike, tables_on, tables_last, tables_in_place, tables_taken}
-use Rattle.edit_effects.proofs.Alike.{HasWords, look_alike, all_alike, new_alike, new_words}
-use Rattle.edit_effects.proofs.Masks.{words_at, filters_at, filters_same, words_same, words_are, other_last, filters_last, filters_without}
-use Rattle.edit_effects.proofs.Pushed.{other_tables_pushed, tables_pushed, own_words_pushed, words_pushed}
-use Rattle.edit_effects.proofs.Taken.{other_mask_taken, other_tables_taken, tables_keep, words_keep}
-use Rattle.edit_effects.proofs.Adding.{line_filter}
-use Rattle.edit_effects.proofs.Replacing.{exchanged_actions, is_there, old_handles, moved_row, fit}
+use Rattle.edit_effect_laws.specs.Parts.{Stands, filter_of, filters_of, without}
+use Rattle.edit_effect_laws.specs.Effects.{KeepsTables, KeepsMask, HasMask, ChangesHook}
+use Rattle.edit_effect_laws.proofs.Sorted.{bare}
+use Rattle.edit_effect_laws.proofs.Heads.{LookAlike, tables_on, tables_last, tables_in_place, tables_taken}
+use Rattle.edit_effect_laws.proofs.Alike.{HasWords, look_alike, all_alike, new_alike, new_words}
+use Rattle.edit_effect_laws.proofs.Masks.{words_at, filters_at, filters_same, words_same, words_are, other_last, filters_last, filters_without}
+use Rattle.edit_effect_laws.proofs.Pushed.{other_tables_pushed, tables_pushed, own_words_pushed, words_pushed}
+use Rattle.edit_effect_laws.proofs.Taken.{other_mask_taken, other_tables_taken, tables_keep, words_keep}
+use Rattle.edit_effect_laws.proofs.Adding.{line_filter}
+use Rattle.edit_effect_laws.proofs.Replacing.{exchanged_actions, is_there, old_handles, moved_row, fit}
 
 abbrev pub moved : State → FilterLine → Row → Resolved → State
 moved s line old r = with_actions (with_row (record s { rows = without_row old s.rows }) (moved_row s line old r.serials)) (exchanged_actions old r)

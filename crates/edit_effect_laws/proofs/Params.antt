@@ -12,7 +12,7 @@ use Rattle.filter_state.specs.Sound.{Each, EachPair}
 use Rattle.state_laws.proofs.Pairs.{each_passing, pairs_filter}
 use Rattle.state_laws.proofs.Changes.{put_params}
 use Rattle.row_lookup_laws.proofs.Heads.{head_of, first_head, filter_none}
-use Rattle.edit_effects.proofs.Kept.{last_left, last_kept, either_order}
+use Rattle.edit_effect_laws.proofs.Kept.{last_left, last_kept, either_order}
 
 abbrev pub params_in : List Action → ℕ → Option Params
 params_in actions serial = option_map (λ (action : Action). action.params) (first_where (has_serial serial) actions)

@@ -10,11 +10,11 @@ use Rattle.filter_state.specs.Order.{of_mask}
 use Rattle.filter_state.specs.Sound.{Each}
 use Rattle.state_laws.proofs.Pairs.{each_append}
 use Rattle.state_laws.proofs.Tests.{hook_eq_true}
-use Rattle.edit_effects.proofs.Kept.{last_left}
-use Rattle.edit_effects.proofs.Sorted.{tables_of}
-use Rattle.edit_effects.proofs.Heads.{LookAlike, tables_on, tables_last, tables_like_another}
-use Rattle.edit_effects.proofs.Alike.{HasWords}
-use Rattle.edit_effects.proofs.Masks.{words_at, words_same, words_are, other_last}
+use Rattle.edit_effect_laws.proofs.Kept.{last_left}
+use Rattle.edit_effect_laws.proofs.Sorted.{tables_of}
+use Rattle.edit_effect_laws.proofs.Heads.{LookAlike, tables_on, tables_last, tables_like_another}
+use Rattle.edit_effect_laws.proofs.Alike.{HasWords}
+use Rattle.edit_effect_laws.proofs.Masks.{words_at, words_same, words_are, other_last}
 
 -- a row of one hook isn't on the other
 pub not_on : (hook : Hook) (row : Row) → hook ≢ row.hook → in_hook hook row ≡ false

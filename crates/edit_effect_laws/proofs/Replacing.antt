@@ -15,8 +15,8 @@ use Rattle.state_laws.proofs.Answers.{neither, and_then_ok}
 use Rattle.state_laws.proofs.Pairs.{each_weaker}
 use Rattle.state_laws.proofs.Fits.{Akin, TableFits, MaskFits}
 use Rattle.state_laws.proofs.Old.{is_old, IsOld, old_table, old_mask}
-use Rattle.edit_effects.proofs.Accepted.{not_unless, same_step}
-use Rattle.edit_effects.proofs.Masks.{IsHandleIn}
+use Rattle.edit_effect_laws.proofs.Accepted.{not_unless, same_step}
+use Rattle.edit_effect_laws.proofs.Masks.{IsHandleIn}
 
 -- the actions behind it: those of the line are bound before those of the old list are unbound
 abbrev pub exchanged_actions : Row → Resolved → Made

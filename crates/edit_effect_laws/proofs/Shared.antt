@@ -21,11 +21,11 @@ use Rattle.state_laws.proofs.Answers.{not_refused, not_not, neither, err_ok}
 use Rattle.state_laws.proofs.Pairs.{each_weaker, any_first}
 use Rattle.state_laws.proofs.Names.{named_by_serial, serial_there}
 use Rattle.walk_rules.proofs.Listed.{kept_have}
-use Rattle.state_parts.specs.Parts.{params_at}
-use Rattle.edit_effects.specs.Effects.{ChangesAction}
-use Rattle.edit_effects.proofs.Accepted.{not_unless, same_step}
-use Rattle.edit_effects.proofs.Kept.{spared}
-use Rattle.edit_effects.proofs.Params.{params_same, params_none, params_before, params_last, params_given, params_spared}
+use Rattle.edit_effect_laws.specs.Parts.{params_at}
+use Rattle.edit_effect_laws.specs.Effects.{ChangesAction}
+use Rattle.edit_effect_laws.proofs.Accepted.{not_unless, same_step}
+use Rattle.edit_effect_laws.proofs.Kept.{spared}
+use Rattle.edit_effect_laws.proofs.Params.{params_same, params_none, params_before, params_last, params_given, params_spared}
 
 -- ---- one made
 -- a serial that wasn't given yet is of no action

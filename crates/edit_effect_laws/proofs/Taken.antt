@@ -12,12 +12,12 @@ use Rattle.state_laws.proofs.Pairs.{each_weaker, each_filter}
 use Rattle.state_laws.proofs.Counts.{filter_any}
 use Rattle.state_laws.proofs.Fits.{Akin}
 use Rattle.walk_rules.proofs.Listed.{unkept}
-use Rattle.edit_effects.proofs.Kept.{spared}
-use Rattle.edit_effects.proofs.Sorted.{tables_of}
-use Rattle.edit_effects.proofs.Heads.{tables_on, tables_taken, tables_like_another}
-use Rattle.edit_effects.proofs.Alike.{HasWords, all_alike, all_words}
-use Rattle.edit_effects.proofs.Masks.{words_at, words_same, words_are}
-use Rattle.edit_effects.proofs.Pushed.{not_on}
+use Rattle.edit_effect_laws.proofs.Kept.{spared}
+use Rattle.edit_effect_laws.proofs.Sorted.{tables_of}
+use Rattle.edit_effect_laws.proofs.Heads.{tables_on, tables_taken, tables_like_another}
+use Rattle.edit_effect_laws.proofs.Alike.{HasWords, all_alike, all_words}
+use Rattle.edit_effect_laws.proofs.Masks.{words_at, words_same, words_are}
+use Rattle.edit_effect_laws.proofs.Pushed.{not_on}
 
 module _ (gone : Row → Bool) (old : Row) (rows : List Row) (only : filter gone rows ≡ old ∷ []) where
   abbrev left : List Row

@@ -6,7 +6,7 @@ use Rattle.filter_state.specs.States.{State, no_state}
 use Rattle.filter_state.specs.Journals.{state_from}
 use Rattle.walk_rules.specs.Questions.{Head}
 use Rattle.state_laws.specs.Cases.{ip, drop, filter_of, on_address}
-use Rattle.state_parts.specs.Parts.{Filter}
+use Rattle.edit_effect_laws.specs.Parts.{Filter}
 
 -- the filters 1 and 2 of one mask, for the addresses 1 and 2, each with an action of its own
 abbrev pub two_filters : List Edit

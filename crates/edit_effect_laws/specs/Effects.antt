@@ -4,7 +4,7 @@ use Rattle.tc_base.specs.declared.hook.Hook.{Hook}
 use Rattle.act_kinds.specs.declared.params.Params.{Params}
 use Rattle.filter_state.specs.States.{State}
 use Rattle.walk_rules.specs.Heads.{heads_on}
-use Rattle.state_parts.specs.Parts.{Filter, filters_of, words_of, params_at, is_handle}
+use Rattle.edit_effect_laws.specs.Parts.{Filter, filters_of, words_of, params_at, is_handle}
 
 -- ---- tables, masks and filters
 -- the tables of both hooks and the words of all masks stay

@@ -1,2 +1,4 @@
+pub mod Parts
+pub mod PartCases
 pub mod Effects
-pub mod Cases
+pub mod EffectCases

@@ -6,7 +6,7 @@ use Rattle.act_kinds.specs.declared.params.Control.TheVariants as controls
 use Rattle.act_kinds.specs.declared.params.Params.{Params}
 use Rattle.act_kinds.specs.declared.params.Params.TheVariants as params
 use Rattle.filter_state.specs.States.{Row, State}
-use Rattle.state_parts.specs.Parts.{Filter}
+use Rattle.edit_effect_laws.specs.Parts.{Filter}
 
 -- a filter of table 1 under a mask of one word, with a key of one word and no actions
 abbrev pub row_of : ℕ → ℕ → ℕ → ℕ → Row

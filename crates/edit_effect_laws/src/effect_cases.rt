@@ -6,12 +6,12 @@ ghost use Rattle.act_kinds.specs.declared.params.Params.TheVariants as params;
 ghost use Rattle.filter_state.specs.declared.edit.Edit.TheVariants as edits;
 ghost use Rattle.state_laws.specs.Cases.{on_address};
 ghost use Rattle.walk_rules.specs.Heads.{heads_on};
-ghost use Rattle.state_parts.specs.Parts.{filters_of, words_of, params_at};
-ghost use Rattle.edit_effects.specs.Cases.{two_and, replaced_by, filter_with, table_with};
+ghost use Rattle.edit_effect_laws.specs.Parts.{filters_of, words_of, params_at};
+ghost use Rattle.edit_effect_laws.specs.EffectCases.{two_and, replaced_by, filter_with, table_with};
 
 /// What an edit makes of two filters of one mask: a third one comes last; with its own mask and key a filter stays where it was, with
 /// another key it comes last, with another mask it leaves; the tables change with the masks alone.
-pub fn worked_cases()
+pub fn worked_effects()
     ensures third { filters_of (two_and (on_address 3)) 1 ≡ filter_with 1 1 1 ∷ filter_with 2 2 2 ∷ filter_with 3 3 3 ∷ [] }
     ensures third_tables { heads_on hooks.Ingress (two_and (on_address 3)) ≡ table_with (1 ∷ []) }
     ensures in_place { filters_of (two_and (replaced_by 255 1)) 1 ≡ filter_with 1 1 3 ∷ filter_with 2 2 2 ∷ [] }

@@ -16,8 +16,8 @@ ghost use Rattle.filter_state.specs.Lines.{IsLine};
 ghost use Rattle.filter_state.specs.Actions.{is_named};
 ghost use Rattle.filter_state.specs.Tables.{first_where, mask_row, filter_row, mask_or_next};
 ghost use Rattle.filter_state.specs.Steps.{step};
-ghost use Rattle.state_parts.specs.Parts.{Filter, Stands, filters_of, words_of, params_at, without};
-ghost use Rattle.edit_effects.specs.Effects.{KeepsFilters, KeepsTables, ChangesMask, HasMask, ChangesHook, KeepsActions, LosesNoAction, MakesNoAction, ChangesAction, with_actions};
+ghost use Rattle.edit_effect_laws.specs.Parts.{Filter, Stands, filters_of, words_of, params_at, without};
+ghost use Rattle.edit_effect_laws.specs.Effects.{KeepsFilters, KeepsTables, ChangesMask, HasMask, ChangesHook, KeepsActions, LosesNoAction, MakesNoAction, ChangesAction, with_actions};
 
 /// The qdisc comes and goes without a change to tables, filters or actions.
 pub fn the_qdisc()

@@ -1,5 +1,5 @@
-use Rattle.edit_effects.proofs.FilterActions.{filters_keep, add_loses_none, delete_makes_none}
-use Rattle.edit_effects.proofs.laws.actions_of_filters.Goals as goal
+use Rattle.edit_effect_laws.proofs.FilterActions.{filters_keep, add_loses_none, delete_makes_none}
+use Rattle.edit_effect_laws.proofs.laws.actions_of_filters.Goals as goal
 
 pub returns-clause-kept : goal.returns-clause-kept
 returns-clause-kept c = filters_keep

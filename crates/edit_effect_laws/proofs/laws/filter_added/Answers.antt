@@ -1,5 +1,5 @@
-use Rattle.edit_effects.proofs.Added.{added_to_old, added_to_new}
-use Rattle.edit_effects.proofs.laws.filter_added.Goals as goal
+use Rattle.edit_effect_laws.proofs.Added.{added_to_old, added_to_new}
+use Rattle.edit_effect_laws.proofs.laws.filter_added.Goals as goal
 
 pub returns-clause-old_mask : goal.returns-clause-old_mask
 returns-clause-old_mask c = added_to_old

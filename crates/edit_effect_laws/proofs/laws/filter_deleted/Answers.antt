@@ -1,5 +1,5 @@
-use Rattle.edit_effects.proofs.Deleting.{filter_deleted, table_deleted}
-use Rattle.edit_effects.proofs.laws.filter_deleted.Goals as goal
+use Rattle.edit_effect_laws.proofs.Deleting.{filter_deleted, table_deleted}
+use Rattle.edit_effect_laws.proofs.laws.filter_deleted.Goals as goal
 
 pub returns-clause-from_mask : goal.returns-clause-from_mask
 returns-clause-from_mask c = λ s t hook protocol chain pref handle done sound e.

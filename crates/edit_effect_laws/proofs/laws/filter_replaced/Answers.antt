@@ -1,8 +1,8 @@
 use Rattle.std.proofs.Common.{ap}
 use Rattle.filter_state.specs.Steps.{replace_or_add}
-use Rattle.edit_effects.proofs.InPlace.{replaced_in_place}
-use Rattle.edit_effects.proofs.Moved.{replaced_key, replaced_mask}
-use Rattle.edit_effects.proofs.laws.filter_replaced.Goals as goal
+use Rattle.edit_effect_laws.proofs.InPlace.{replaced_in_place}
+use Rattle.edit_effect_laws.proofs.Moved.{replaced_key, replaced_mask}
+use Rattle.edit_effect_laws.proofs.laws.filter_replaced.Goals as goal
 
 pub returns-clause-in_place : goal.returns-clause-in_place
 returns-clause-in_place c = replaced_in_place
