@@ -30,7 +30,7 @@ fn slot_of(hook: Hook, table: usize, mask: usize) -> u32
 /// Walks over lists that stay as they are get the same tables each time. So those of the last walk are looked at first: that costs half
 /// as much as telling them anew.
 pub(crate) fn tell_heads(lists: &Lists, hook: Hook, into: &mut HeadRoom)
-    ensures told { heads_told into.new ≡ map head_of (tables_on hook (both_of lists.now)) }
+    ensures told { heads_told into.new.tables ≡ map head_of (tables_on hook (both_of lists.now)) }
     ensures kept { AreKept lists.now }
 {
     into.recall();
@@ -82,8 +82,8 @@ fn masks_are_told(masks: &[MaskList], names: &[MaskName]) -> bool
 
 // Tells the tables of a hook.
 fn tell_anew(lists: &Lists, hook: Hook, into: &mut HeadRoom)
-    requires empty { into.old ≡ [] }
-    ensures told { heads_told into.new ≡ map head_of (tables_on hook (both_of lists.now)) }
+    requires empty { into.old.tables ≡ [] }
+    ensures told { heads_told into.new.tables ≡ map head_of (tables_on hook (both_of lists.now)) }
     ensures kept { AreKept lists.now }
 {
     let tables = lists.tables(hook);
@@ -97,8 +97,8 @@ fn tell_anew(lists: &Lists, hook: Hook, into: &mut HeadRoom)
 fn tell_masks(masks: &[MaskList], hook: Hook, table: usize, into: &mut HeadRoom)
     requires table { table < 256 }
     requires few { length masks.now ≤ 16 }
-    requires bare { last_masks into.old ≡ Some [] }
-    ensures { heads_told into.new ≡ with_masks_behind (serials_of (map plain_mask masks.now)) (heads_told into.old) }
+    requires bare { last_masks into.old.tables ≡ Some [] }
+    ensures { heads_told into.new.tables ≡ with_masks_behind (serials_of (map plain_mask masks.now)) (heads_told into.old.tables) }
 {
     for (place, mask) in masks.iter().enumerate() {
         into.push_mask(MaskName {

@@ -12,11 +12,11 @@ use Rattle.filter_state.specs.Steps.{step}
 use Rattle.filter_state.specs.Journals.{state_after}
 use Rattle.filter_state.specs.Sound.{Sound, IsAction}
 use Rattle.state_laws.proofs.Pairs.{found}
-use Rattle.state_parts.specs.Parts.{params_at}
+use Rattle.edit_effect_laws.specs.Parts.{params_at}
 use Rattle.hook_law.specs.Meaning.{IsLive}
 use Rattle.hook_law.specs.Changes.{KeepsParams}
 use Rattle.hook_meaning.specs.Stated.{ActionTerms, action_stated, action_at, hook_meaning}
-use Rattle.edit_effects.specs.Effects.{KeepsActions, MakesNoAction}
+use Rattle.edit_effect_laws.specs.Effects.{KeepsActions, MakesNoAction}
 use Rattle.hook_edit_laws.specs.Premises.{NoneComes, NewOnesCome}
 use Rattle.hook_edit_laws.proofs.Indexes.{HasOldIndex, HaveOldIndexes, index_in, indexes_stay}
 

@@ -12,15 +12,15 @@ use Rattle.filter_state.specs.States.{Row, State}
 use Rattle.filter_state.specs.Tables.{mask_row, filter_row, mask_or_next}
 use Rattle.filter_state.specs.Steps.{step}
 use Rattle.filter_state.specs.Sound.{Sound}
-use Rattle.state_parts.specs.Parts.{Stands, Filter, filters_of}
-use Rattle.state_parts.specs.Parts.{without as parts_without}
+use Rattle.edit_effect_laws.specs.Parts.{Stands, Filter, filters_of}
+use Rattle.edit_effect_laws.specs.Parts.{without as parts_without}
 use Rattle.hook_law.specs.Changes.{KeepsParams}
 use Rattle.hook_meaning.specs.Stated.{filter_stated, filters_at, hook_meaning}
-use Rattle.edit_effects.specs.Effects.{HasMask, ChangesHook}
-use Rattle.edit_effects.proofs.Added.{added_to_new}
-use Rattle.edit_effects.proofs.Adding.{line_filter}
-use Rattle.edit_effects.proofs.Deleting.{table_deleted}
-use Rattle.edit_effects.proofs.Moved.{replaced_key, replaced_mask}
+use Rattle.edit_effect_laws.specs.Effects.{HasMask, ChangesHook}
+use Rattle.edit_effect_laws.proofs.Added.{added_to_new}
+use Rattle.edit_effect_laws.proofs.Adding.{line_filter}
+use Rattle.edit_effect_laws.proofs.Deleting.{table_deleted}
+use Rattle.edit_effect_laws.proofs.Moved.{replaced_key, replaced_mask}
 use Rattle.hook_edit_laws.specs.Premises.{now, next, IsAccepted, IsAddOf, named_row, filter_of_line, without, LeavesOtherHook, KeepsHeads, IsMask}
 use Rattle.hook_edit_laws.proofs.Accepted.{sound, at_next}
 use Rattle.hook_edit_laws.proofs.Stating.{same_heads}

@@ -18,8 +18,8 @@ use Rattle.filter_state.specs.Sound.{Sound, Each, IsAction}
 use Rattle.state_laws.proofs.Pairs.{each_weaker, each_append, found}
 use Rattle.hook_law.specs.Meaning.{IsLive}
 use Rattle.hook_meaning.specs.Stated.{action_stated, hook_meaning}
-use Rattle.edit_effects.specs.Effects.{ChangesAction}
-use Rattle.edit_effects.proofs.Shared.{added_action, changed_in, changed_action}
+use Rattle.edit_effect_laws.specs.Effects.{ChangesAction}
+use Rattle.edit_effect_laws.proofs.Shared.{added_action, changed_in, changed_action}
 use Rattle.hook_edit_laws.specs.Premises.{now, next, IsAccepted, SetsAction}
 use Rattle.hook_edit_laws.proofs.Accepted.{sound, at_next}
 use Rattle.hook_edit_laws.proofs.Stepping.{unless_refused}

@@ -14,7 +14,7 @@ use Rattle.filter_state.specs.Refusals.{or_else, no_hook, hook_exists, hook_in_u
 use Rattle.filter_state.specs.Steps.{Stepped, step}
 use Rattle.filter_state.specs.Journals.{state_after}
 use Rattle.filter_state.specs.Sound.{Sound}
-use Rattle.state_parts.specs.Parts.{params_at}
+use Rattle.edit_effect_laws.specs.Parts.{params_at}
 use Rattle.hook_law.specs.Places.{marker_root}
 use Rattle.hook_law.specs.Meaning.{point_of}
 use Rattle.hook_law.specs.Changes.{LeavesMasks}
@@ -22,7 +22,7 @@ use Rattle.hook_law.specs.Keeping.{IsAtRest}
 use Rattle.hook_law.specs.Numbered.{Marks}
 use Rattle.hook_meaning.specs.Stated.{action_stated, action_at, hook_meaning}
 use Rattle.hook_meaning.specs.Blocks.{hook_codec}
-use Rattle.edit_effects.proofs.Shared.{deleted_action}
+use Rattle.edit_effect_laws.proofs.Shared.{deleted_action}
 use Rattle.hook_edit_laws.specs.Premises.{now, next, IsAccepted, IsUnseen, NoneComes}
 use Rattle.hook_edit_laws.proofs.Accepted.{lawful, sound, at_next}
 use Rattle.hook_edit_laws.proofs.Stepping.{unless_refused}

@@ -6,13 +6,13 @@ use Rattle.filter_state.specs.States.{Row, State}
 use Rattle.filter_state.specs.Tables.{first_where}
 use Rattle.filter_state.specs.Sound.{Sound, Each}
 use Rattle.state_laws.proofs.Pairs.{each_map}
-use Rattle.state_parts.specs.Parts.{Filter, filter_of, filters_of}
-use Rattle.state_parts.specs.Parts.{without as parts_without}
+use Rattle.edit_effect_laws.specs.Parts.{Filter, filter_of, filters_of}
+use Rattle.edit_effect_laws.specs.Parts.{without as parts_without}
 use Rattle.hook_law.specs.Records.{StatedFilter}
 use Rattle.hook_law.specs.Changes.{KeepsParams, LeavesOthers, GainsFilter}
 use Rattle.hook_meaning.specs.Stated.{filter_stated, hook_meaning}
-use Rattle.edit_effects.specs.Effects.{ChangesMask, ChangesHook, HasMask, with_actions}
-use Rattle.edit_effects.proofs.Kept.{kept_of_mapped}
+use Rattle.edit_effect_laws.specs.Effects.{ChangesMask, ChangesHook, HasMask, with_actions}
+use Rattle.edit_effect_laws.proofs.Kept.{kept_of_mapped}
 use Rattle.hook_edit_laws.specs.Premises.{without, HaveOthers, Swaps, Loses, LeavesOtherHook, IsMask}
 use Rattle.hook_edit_laws.proofs.Stating.{same_heads, other_heads}
 use Rattle.hook_edit_laws.proofs.OneHandle.{only_filter, around}

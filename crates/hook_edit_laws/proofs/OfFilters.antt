@@ -13,8 +13,8 @@ use Rattle.filter_state.specs.Steps.{step}
 use Rattle.filter_state.specs.Sound.{Sound}
 use Rattle.hook_law.specs.Changes.{KeepsParams}
 use Rattle.hook_meaning.specs.Stated.{hook_meaning}
-use Rattle.edit_effects.specs.Effects.{KeepsActions}
-use Rattle.edit_effects.proofs.FilterActions.{filters_keep, delete_makes_none}
+use Rattle.edit_effect_laws.specs.Effects.{KeepsActions}
+use Rattle.edit_effect_laws.proofs.FilterActions.{filters_keep, delete_makes_none}
 use Rattle.hook_edit_laws.specs.Premises.{now, next, IsAccepted, IsOfFilters, NoneComes, NewOnesCome}
 use Rattle.hook_edit_laws.proofs.Accepted.{leads, sound, next_sound, at_next}
 use Rattle.hook_edit_laws.proofs.Acting.{goes, keeps_params, new_ones, none_comes}

@@ -12,9 +12,9 @@ use Rattle.state_laws.proofs.Places.{NotBoth, only_one}
 use Rattle.state_laws.proofs.Room.{found_any}
 use Rattle.row_lookup_laws.proofs.Heads.{head_of, filter_and}
 use Rattle.walk_rules.proofs.Listed.{unkept}
-use Rattle.state_parts.specs.Parts.{Filter, filter_of, filters_of, is_handle, without}
-use Rattle.edit_effects.specs.Effects.{with_actions}
-use Rattle.edit_effects.proofs.Kept.{kept_of_mapped}
+use Rattle.edit_effect_laws.specs.Parts.{Filter, filter_of, filters_of, is_handle, without}
+use Rattle.edit_effect_laws.specs.Effects.{with_actions}
+use Rattle.edit_effect_laws.proofs.Kept.{kept_of_mapped}
 
 -- ---- the one row of a mask with a handle
 abbrev of_handle : ℕ → ℕ → Row → Bool

@@ -16,18 +16,18 @@ use Rattle.filter_state.specs.Tables.{in_table, has_handle, mask_row, filter_row
 use Rattle.filter_state.specs.Steps.{filter_add, replace_or_add, step}
 use Rattle.filter_state.specs.Sound.{Sound}
 use Rattle.state_laws.proofs.Room.{first_passes}
-use Rattle.state_parts.specs.Parts.{Stands, filters_of}
-use Rattle.state_parts.specs.Parts.{without as parts_without}
+use Rattle.edit_effect_laws.specs.Parts.{Stands, filters_of}
+use Rattle.edit_effect_laws.specs.Parts.{without as parts_without}
 use Rattle.hook_law.specs.Records.{StatedFilter}
 use Rattle.hook_law.specs.Changes.{KeepsParams, GainsFilter}
 use Rattle.hook_meaning.specs.Stated.{hook_meaning}
-use Rattle.edit_effects.specs.Effects.{ChangesMask, ChangesHook, with_actions}
-use Rattle.edit_effects.proofs.Accepted.{same_filter}
-use Rattle.edit_effects.proofs.Added.{added_to_old}
-use Rattle.edit_effects.proofs.Adding.{line_filter}
-use Rattle.edit_effects.proofs.Deleting.{filter_deleted}
-use Rattle.edit_effects.proofs.InPlace.{replaced_in_place}
-use Rattle.edit_effects.proofs.Replacing.{replaces}
+use Rattle.edit_effect_laws.specs.Effects.{ChangesMask, ChangesHook, with_actions}
+use Rattle.edit_effect_laws.proofs.Accepted.{same_filter}
+use Rattle.edit_effect_laws.proofs.Added.{added_to_old}
+use Rattle.edit_effect_laws.proofs.Adding.{line_filter}
+use Rattle.edit_effect_laws.proofs.Deleting.{filter_deleted}
+use Rattle.edit_effect_laws.proofs.InPlace.{replaced_in_place}
+use Rattle.edit_effect_laws.proofs.Replacing.{replaces}
 use Rattle.hook_edit_laws.specs.Premises.{now, next, IsAccepted, IsOfFilters, IsAddOf, named_row, filter_of_line, Swaps, Loses}
 use Rattle.hook_edit_laws.proofs.Accepted.{sound, at_next}
 use Rattle.hook_edit_laws.proofs.Masks.{gains, swaps, loses}

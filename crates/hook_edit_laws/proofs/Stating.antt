@@ -9,7 +9,7 @@ use Rattle.filter_state.specs.Order.{of_mask}
 use Rattle.row_order_laws.specs.Sorted.{sorted}
 use Rattle.row_order_laws.specs.Rows.{row_before}
 use Rattle.walk_rules.specs.Heads.{heads_on, heads_in}
-use Rattle.state_parts.specs.Parts.{filter_of, words_in, words_of}
+use Rattle.edit_effect_laws.specs.Parts.{filter_of, words_in, words_of}
 use Rattle.miniq_pair.specs.Heads.{hook_number}
 use Rattle.hook_meaning.specs.Stated.{table_stated, filter_stated, tables_at, filters_at}
 

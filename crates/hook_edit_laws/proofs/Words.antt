@@ -15,11 +15,11 @@ use Rattle.state_laws.proofs.Pairs.{each_append, each_filter, found}
 use Rattle.state_laws.proofs.Fits.{MaskFits}
 use Rattle.state_laws.proofs.Old.{is_old}
 use Rattle.state_laws.proofs.Tests.{bytes_eq_true}
-use Rattle.state_parts.specs.Parts.{Stands, words_of}
-use Rattle.edit_effects.proofs.Alike.{HasWords, all_words}
-use Rattle.edit_effects.proofs.Masks.{words_at, words_are}
-use Rattle.edit_effects.proofs.Moving.{Known, known}
-use Rattle.edit_effects.proofs.Replacing.{Replaces, replaces, moved_row}
+use Rattle.edit_effect_laws.specs.Parts.{Stands, words_of}
+use Rattle.edit_effect_laws.proofs.Alike.{HasWords, all_words}
+use Rattle.edit_effect_laws.proofs.Masks.{words_at, words_are}
+use Rattle.edit_effect_laws.proofs.Moving.{Known, known}
+use Rattle.edit_effect_laws.proofs.Replacing.{Replaces, replaces, moved_row}
 use Rattle.hook_edit_laws.specs.Premises.{named_row}
 
 other_words : (row : Row) (line : FilterLine) → row.mask ≢ line.mask.words → (bytes_eq row.mask line.mask.words && bytes_eq row.key line.key.words) ≡ false

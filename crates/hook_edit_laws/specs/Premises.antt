@@ -20,7 +20,7 @@ use Rattle.hook_law.specs.Keeping.{Keeps}
 use Rattle.miniq_pair.specs.Heads.{hook_number}
 use Rattle.hook_meaning.specs.Stated.{hook_meaning, tables_at, filters_at, action_at}
 use Rattle.hook_meaning.specs.Blocks.{hook_codec}
-use Rattle.state_parts.specs.Parts.{words_of}
+use Rattle.edit_effect_laws.specs.Parts.{words_of}
 
 -- the state that the commits have come to, and the one to which the edit leads from there
 abbrev pub now : List (Commit Edit) → State

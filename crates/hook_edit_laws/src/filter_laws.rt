@@ -10,7 +10,7 @@ ghost use Rattle.filter_state.specs.declared.refusal.Done.{Done};
 ghost use Rattle.filter_state.specs.declared.refusal.Done.TheVariants as dones;
 ghost use Rattle.filter_state.specs.States.{Row, State};
 ghost use Rattle.filter_state.specs.Tables.{mask_row, filter_row, mask_or_next};
-ghost use Rattle.state_parts.specs.Parts.{Stands};
+ghost use Rattle.edit_effect_laws.specs.Parts.{Stands};
 ghost use Rattle.hook_law.specs.Changes.{KeepsParams, GainsFilter};
 ghost use Rattle.hook_meaning.specs.Stated.{hook_meaning, filters_at};
 ghost use Rattle.hook_edit_laws.specs.Premises.{now, next, IsAccepted, IsOfFilters, IsAddOf, named_row, NoneComes, NewOnesCome, filter_of_line, without, Swaps, Loses, LeavesOtherHook, KeepsHeads, IsMask};

@@ -62,19 +62,3 @@ module _ (size : ℕ) where
       pick true false d e = omega arith
       pick false true d e = omega arith
       pick false false d e = omega arith
-
-  -- a filter is in the bucket of its key
-  pub in_bucket : (k : ℕ) (fs : List StoredFilter) (f : StoredFilter) (place : ℕ) → bucket_for size f.key.words ≡ k → slice_get fs place ≡ Some f → IsAmong f (bucket_of size k fs)
-  in_bucket k [] f place is e = absurd (cc e)
-  in_bucket k (g ∷ gs) f zero is e = let same : g ≡ f = cc e in
-      (length (bucket_of size k gs), ap (λ (l : List StoredFilter). slice_get (bucket_of size k gs ++ l) (length (bucket_of size k gs))) (ap (if_in k) same ∙ in_own k f is) ∙ at_end (bucket_of size k gs))
-    where
-      at_end : (l : List StoredFilter) → slice_get (l ++ f ∷ []) (length l) ≡ Some f
-      at_end [] = refl
-      at_end (x ∷ xs) = at_end xs
-  in_bucket k (g ∷ gs) f (suc place) is e = let rest = in_bucket k gs f place is e in (rest.0, before (bucket_of size k gs) rest.0 rest.1)
-    where
-      before : (l : List StoredFilter) (n : ℕ) → slice_get l n ≡ Some f → slice_get (l ++ if_in k g) n ≡ Some f
-      before [] n e = absurd (cc e)
-      before (x ∷ xs) zero e = e
-      before (x ∷ xs) (suc n) e = before xs n e

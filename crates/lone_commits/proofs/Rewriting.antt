@@ -28,13 +28,14 @@ use Rattle.mask_order.specs.Fitting.{FitsBlock}
 use Rattle.mask_order.proofs.ChainsRead.{inserted_reads, read_behind, read_split}
 use Rattle.mask_order.proofs.KeptChains.{kept_reads, kept_fit, kept_link}
 use Rattle.mask_order.proofs.Placing.{bucket_every, rewritten_reads}
+use Rattle.mask_table.proofs.Buckets.{in_bucket}
 use Rattle.lone_mask.specs.declared.change.Change.{Change}
 use Rattle.lone_mask.specs.declared.change.Change.TheVariants as changes
 use Rattle.lone_mask.specs.Lone.{changed, point_of, now, HaveOwnKeys, Follows}
 use Rattle.lone_commits.specs.Handles.{HaveOwnHandles}
 use Rattle.mask_order.proofs.Records.{stored_record}
 use Rattle.lone_commits.proofs.Tested.{has_handle, few_have, own_left, split_count, none_out, one_out, one_place}
-use Rattle.lone_commits.proofs.InBuckets.{bucket_more, bucket_still, bucket_around, bucket_filter, two_buckets, in_bucket}
+use Rattle.lone_commits.proofs.InBuckets.{bucket_more, bucket_still, bucket_around, bucket_filter, two_buckets}
 
 -- at a place of what a chain reads as, there is the block that reads so
 record ReadsAt (ls : List Link) (fs : List StoredFilter) (n : ℕ) (f : StoredFilter) : Type 0 where

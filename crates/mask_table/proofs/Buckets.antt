@@ -45,7 +45,7 @@ in_mask size k (g ∷ gs) f i = pick (λ a. in_mask size k gs f a) (in_append f 
     pick more (inr b) = one (eqb (hash_of g.key.words % size) k) b
 
 -- a filter of the mask is in the bucket of its key
-in_bucket : (size k : ℕ) (fs : List StoredFilter) (f : StoredFilter) (j : ℕ) → hash_of f.key.words % size ≡ k → slice_get fs j ≡ Some f → IsAmong f (bucket_of size k fs)
+pub in_bucket : (size k : ℕ) (fs : List StoredFilter) (f : StoredFilter) (j : ℕ) → hash_of f.key.words % size ≡ k → slice_get fs j ≡ Some f → IsAmong f (bucket_of size k fs)
 in_bucket size k [] f j is e = absurd (cc e)
 in_bucket size k (g ∷ gs) f zero is e = let same : g ≡ f = cc (e) in
     in_right f (bucket_of size k gs) _ (subst (λ (z : StoredFilter). IsAmong f (cond (eqb (hash_of z.key.words % size) k) (z ∷ []) [])) (sym same) (one (eqb (hash_of f.key.words % size) k) refl))

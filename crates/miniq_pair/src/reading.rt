@@ -29,8 +29,8 @@ pub(crate) fn hook_number(hook: Hook) -> u32
 
 // Puts a table behind those that are there.
 fn push_table(into: &mut HeadRoom, table: &StoredTable)
-    requires { length into.old < 256 }
-    ensures { into.new ≡ into.old ++ told_of table.now ∷ [] }
+    requires { length into.old.tables < 256 }
+    ensures { into.new.tables ≡ into.old.tables ++ told_of table.now ∷ [] }
 {
     into.push(table.serial, table.chain, table.pref, table.protocol);
     for mask in table.masks.items() {
@@ -57,9 +57,9 @@ pub fn head<L: HeadLaw, M: Ledger>(
     ensures longer { IsPrefix (seen_by reader.old.place) (seen_by reader.new.place) }
     ensures lawful { L.keeps (seen_by reader.new.place) (floor_start reader.new.place) }
     ensures stamp { result ≡ (root_of (seen_by reader.new.place) (head_root hook)).stamp }
-    ensures loads { loads_of reader.new.place ≡ loads_of reader.old.place + 1 + block_words * length into.new }
+    ensures loads { loads_of reader.new.place ≡ loads_of reader.old.place + 1 + block_words * length into.new.tables }
     ensures steps { steps.new + loads_of reader.old.place ≡ steps.old + loads_of reader.new.place }
-    ensures told { HeadTold (λ k. L.heads (seen_by reader.new.place) k hook) (seen_by reader.new.place) hook into.new result }
+    ensures told { HeadTold (λ k. L.heads (seen_by reader.new.place) k hook) (seen_by reader.new.place) hook into.new.tables result }
 {
     into.clear();
     let (mut walk, stamp) = Walk::along(reader, store, HEAD_ROOTS + hook_number(hook), steps);

@@ -13,8 +13,8 @@ const TABLES_MAX: usize = 256;
 
 /// The tables of a hook in their order: 256 at most, each with 16 masks at most.
 ///
-/// Tables that were let go stay in the room until others are put, and `recall` brings them back: walks over the same tables then need
-/// not be told them again and again.
+/// Tables that were let go stand by until another is put, and `recall` brings them back: walks over the same tables then need not be
+/// told them again and again. Contracts see the tables that are told, and beside them those that stand by (`spare`).
 #[derive(Drop)]
 pub struct HeadRoom {
     heads: Vec<TableHead>,
@@ -22,23 +22,26 @@ pub struct HeadRoom {
 }
 
 impl Model for HeadRoom {
-    ghost use Rattle.std.specs.Prelude.{◌≤◌, List, [], if◌then◌else◌, vec_capacity};
-    ghost use Rattle.visit_room.specs.declared.table_head.TableHead.{TableHead};
+    ghost use Rattle.std.specs.Prelude.{◌≤◌, [], if◌then◌else◌, vec_capacity};
+    ghost use Rattle.visit_room.specs.Heads.{Heads};
 
-    ghost Value = { List TableHead };
+    ghost Value = { Heads };
 
-    ghost view = { λ r. if r.is_clear then [] else r.heads.items };
+    ghost view = { λ r. record {
+        tables = if r.is_clear then [] else r.heads.items;
+        spare = if r.is_clear then r.heads.items else []
+    } };
 
     ghost invariant = { λ r. 256 ≤ vec_capacity r.heads };
 }
 
 impl HeadRoom {
-    ghost use Rattle.std.specs.Prelude.{◌≡◌, ◌<◌, ◌≤◌, ◌++◌, ◌∷◌, [], length, IfOk, IfSome};
+    ghost use Rattle.std.specs.Prelude.{◌≡◌, ◌<◌, ◌++◌, ◌∷◌, [], length, IfOk};
     ghost use Rattle.visit_room.specs.Heads.{bare_head, with_mask_behind, IsBelow, last_masks};
 
     /// Takes the room. No other call takes memory.
     pub fn with_room(alloc: Global) -> Result<HeadRoom, NoMemory>
-        ensures { IfOk result (λ r. r ≡ []) }
+        ensures { IfOk result (λ r. r ≡ record { tables = []; spare = [] }) }
     {
         Ok(HeadRoom {
             heads: Vec::with_capacity(alloc, TABLES_MAX)?,
@@ -46,17 +49,18 @@ impl HeadRoom {
         })
     }
 
-    /// Lets all tables go.
+    /// Lets all tables go: they stand by. Where there is none, those that stand by stay.
     pub fn clear(&mut self)
-        ensures { self.new ≡ [] }
+        ensures tables { self.new.tables ≡ [] }
+        ensures spare { self.new.spare ≡ self.old.tables ++ self.old.spare }
     {
         self.is_clear = true;
     }
 
-    /// Brings back the tables that were let go last, if no other was put since. Which tables these are is for the caller to see. A
-    /// room that has tables keeps them.
+    /// Brings back the tables that stand by: those that were let go last, if no other was put since. A room that has tables keeps them.
     pub fn recall(&mut self)
-        ensures { 0 < length self.old → self.new ≡ self.old }
+        ensures tables { self.new.tables ≡ self.old.tables ++ self.old.spare }
+        ensures spare { self.new.spare ≡ [] }
     {
         // What was let go is still there.
         self.is_clear = false;
@@ -64,8 +68,9 @@ impl HeadRoom {
 
     /// Puts a table without masks behind those that are there, fewer than 256.
     pub fn push(&mut self, serial: u32, chain: u32, pref: u32, protocol: Proto)
-        requires { length self.old < 256 }
-        ensures { self.new ≡ self.old ++ (bare_head serial chain pref protocol ∷ []) }
+        requires { length self.old.tables < 256 }
+        ensures tables { self.new.tables ≡ self.old.tables ++ (bare_head serial chain pref protocol ∷ []) }
+        ensures spare { self.new.spare ≡ [] }
     {
         let head = TableHead {
             serial,
@@ -86,8 +91,9 @@ impl HeadRoom {
 
     /// Puts a mask behind those of the last table, fewer than 16.
     pub fn push_mask(&mut self, mask: MaskName)
-        requires { IsBelow 16 (last_masks self.old) }
-        ensures { self.new ≡ with_mask_behind mask self.old }
+        requires { IsBelow 16 (last_masks self.old.tables) }
+        ensures tables { self.new.tables ≡ with_mask_behind mask self.old.tables }
+        ensures spare { self.new.spare ≡ [] }
     {
         if self.is_clear {
             unreachable!();
@@ -97,7 +103,7 @@ impl HeadRoom {
 
     /// The tables, in order.
     pub fn heads(&self) -> &[TableHead]
-        ensures { result.now ≡ self.now }
+        ensures { result.now ≡ self.now.tables }
     {
         if self.is_clear { &[] } else { &self.heads }
     }

@@ -46,11 +46,11 @@ serial_at hit given at read d same is here =
     ap (λ xs. (get_or xs read d).serial) same ∙ ap (λ n. (get_or hit n d).serial) is ∙ sym (get_or-map (λ (x : ActionName). x.serial) hit at d 0 here)
 
 -- what is asked there
-pub action_asked : (c : Course) (table : ℕ) (run : Run) (serial : ℕ) → c.stage ≡ stages.AtAction table run → table < length c.heads →
+pub action_asked : (c : Course) (table : ℕ) (run : Run) (serial : ℕ) → c.stage ≡ stages.AtAction table run → table < length c.heads.tables →
     serial ≡ action_at (action_serials c.hit) run.at → length c.points < 65536 →
     question_of (standing_of c) ≡ Some (params_of serial)
 action_asked c table run serial stage here is left =
-    is_asked (standing_of c) left ∙ rw (stage, action_opened c.heads c.hit table run here, is) refl
+    is_asked (standing_of c) left ∙ rw (stage, action_opened c.heads.tables c.hit table run here, is) refl
 
 -- ---- what follows
 -- one visit more
@@ -72,42 +72,42 @@ list_counted st head tables endings.Reclassify = refl
 list_counted st head tables (endings.Goto chain) = refl
 
 -- after the answer, by where the run of the list stands then
-after_params : (c : Course) (table : ℕ) (run : Run) (params : Params) (s : Stand) → c.stage ≡ stages.AtAction table run → table < length c.heads →
+after_params : (c : Course) (table : ℕ) (run : Run) (params : Params) (s : Stand) → c.stage ≡ stages.AtAction table run → table < length c.heads.tables →
     run.length ≡ length c.hit → runs.after run (control_given params c.frame) ≡ s →
     after (standing_of c) (told_params params)
-    ≡ after_action (ran (standing_of c) (action_at (action_serials c.hit) run.at) params) (head_told (get_or c.heads table no_table)) (action_serials c.hit)
-    (heads_told (drop (table + 1) c.heads)) s
+    ≡ after_action (ran (standing_of c) (action_at (action_serials c.hit) run.at) params) (head_told (get_or c.heads.tables table no_table)) (action_serials c.hit)
+    (heads_told (drop (table + 1) c.heads.tables)) s
 after_params c table run params s stage here same stands =
     let many : length (action_serials c.hit) ≡ run.length = length-map c.hit (λ (x : ActionName). x.serial) ∙ sym same in
-    rw (stage, action_opened c.heads c.hit table run here, many, stands) refl
+    rw (stage, action_opened c.heads.tables c.hit table run here, many, stands) refl
 
 -- the run goes on
 pub goes_in_list : (c e : Course) (points : List ℕ) (point table serial : ℕ) (run next : Run) (params : Params) →
-    c.stage ≡ stages.AtAction table run → table < length c.heads → run.length ≡ length c.hit →
+    c.stage ≡ stages.AtAction table run → table < length c.heads.tables → run.length ≡ length c.hit →
     points ≡ c.points ++ (point ∷ []) → serial ≡ action_at (action_serials c.hit) run.at →
-    standing_of e ≡ ran (standing_of (record c { points = points })) serial params → e.heads ≡ c.heads → e.hit ≡ c.hit →
+    standing_of e ≡ ran (standing_of (record c { points = points })) serial params → e.heads.tables ≡ c.heads.tables → e.hit ≡ c.hit →
     runs.after run (control_given params c.frame) ≡ on next.at next.jumps →
     standing_of (record e { stage = stages.AtAction table next }) ≡ after (standing_of c) (told_params params)
 goes_in_list c e points point table serial run next params stage here same kept is did heads hit stands =
-    let head = head_told (get_or c.heads table no_table) in
-    let tables = heads_told (drop (table + 1) c.heads) in
-    let place : place_of e.heads e.hit (stages.AtAction table next) ≡ at_action head (action_serials c.hit) next.at next.jumps tables =
-    rw (heads, hit) (action_opened c.heads c.hit table next here) in
-    ap (λ st. stands_at st (place_of e.heads e.hit (stages.AtAction table next))) (did ∙ ran_counted c points point serial params kept)
+    let head = head_told (get_or c.heads.tables table no_table) in
+    let tables = heads_told (drop (table + 1) c.heads.tables) in
+    let place : place_of e.heads.tables e.hit (stages.AtAction table next) ≡ at_action head (action_serials c.hit) next.at next.jumps tables =
+    rw (heads, hit) (action_opened c.heads.tables c.hit table next here) in
+    ap (λ st. stands_at st (place_of e.heads.tables e.hit (stages.AtAction table next))) (did ∙ ran_counted c points point serial params kept)
     ∙ rw (place, is, after_params c table run params _ stage here same stands) refl
 
 -- the run has ended
 pub goes_past_list : (c e : Course) (points : List ℕ) (point table serial : ℕ) (run : Run) (params : Params) (ending : Ending) →
-    c.stage ≡ stages.AtAction table run → table < length c.heads → run.length ≡ length c.hit →
+    c.stage ≡ stages.AtAction table run → table < length c.heads.tables → run.length ≡ length c.hit →
     points ≡ c.points ++ (point ∷ []) → serial ≡ action_at (action_serials c.hit) run.at →
-    standing_of e ≡ ran (standing_of (record c { points = points })) serial params → e.heads ≡ c.heads →
+    standing_of e ≡ ran (standing_of (record c { points = points })) serial params → e.heads.tables ≡ c.heads.tables →
     runs.after run (control_given params c.frame) ≡ over ending →
-    list_ended (standing_of e) (heads_told (drop table e.heads)) ending ≡ after (standing_of c) (told_params params)
+    list_ended (standing_of e) (heads_told (drop table e.heads.tables)) ending ≡ after (standing_of c) (told_params params)
 goes_past_list c e points point table serial run params ending stage here same kept is did heads stands =
-    let head = head_told (get_or c.heads table no_table) in
-    let tables = heads_told (drop (table + 1) c.heads) in
+    let head = head_told (get_or c.heads.tables table no_table) in
+    let tables = heads_told (drop (table + 1) c.heads.tables) in
     ap (λ xs. list_ended (standing_of e) (heads_told (drop table xs)) ending) heads
-    ∙ ended_at (standing_of e) c.heads table ending here
+    ∙ ended_at (standing_of e) c.heads.tables table ending here
     ∙ ap (λ st. list_ended_at st head tables ending) (did ∙ ran_counted c points point serial params kept)
     ∙ list_counted (ran (standing_of c) serial params) head tables ending
     ∙ rw (is, after_params c table run params _ stage here same stands) refl

@@ -45,9 +45,9 @@ asks_at heads hit (stages.AtMask table mask) st stop unended = (_, ap (question_
 asks_at heads hit (stages.AtAction table run) st stop unended = (_, ap (question_at st) (action_opened heads hit table run stop.0))
 asks_at heads hit (stages.Over verdict) st stop unended = absurd (unended verdict refl)
 
-pub is_going : (c : Course) → IsStop c.heads c.hit c.stage → IsOpen c.stage → length c.points < 65536 → progresses.Going ≡ progress_of (standing_of c)
+pub is_going : (c : Course) → IsStop c.heads.tables c.hit c.stage → IsOpen c.stage → length c.points < 65536 → progresses.Going ≡ progress_of (standing_of c)
 is_going c stop unended left =
-    let asks = asks_at c.heads c.hit c.stage (standing_of c) stop unended in
+    let asks = asks_at c.heads.tables c.hit c.stage (standing_of c) stop unended in
     sym (ap progress_at (is_asked (standing_of c) left ∙ asks.1))
 
 -- a walk that is not over is dropped, if it has an outcome

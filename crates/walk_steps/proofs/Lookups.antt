@@ -33,15 +33,15 @@ mask_opened heads given table mask head masks d here is_mask same is same_masks 
 
 -- what is asked there
 pub mask_asked : (c : Course) (table mask serial : ℕ) (head : Head) (masks : List ℕ) (tables : List Head) → c.stage ≡ stages.AtMask table mask →
-    mask_place (heads_told (drop table c.heads)) mask ≡ at_mask head (serial ∷ masks) tables → length c.points < 65536 →
+    mask_place (heads_told (drop table c.heads.tables)) mask ≡ at_mask head (serial ∷ masks) tables → length c.points < 65536 →
     values_of c.key.words ≡ frame_values c.frame.bytes → question_of (standing_of c) ≡ Some (filter_of head.serial serial (values_of c.key.words))
 mask_asked c table mask serial head masks tables stage is left same = is_asked (standing_of c) left ∙ rw (stage, is, same) refl
 
 -- no filter was found
 pub goes_unhit : (c : Course) (hit : List ActionName) (points : List ℕ) (stop : Stage) (point table mask serial : ℕ) (head : Head) (masks : List ℕ) (tables : List Head) →
-    c.stage ≡ stages.AtMask table mask → mask_place (heads_told (drop table c.heads)) mask ≡ at_mask head (serial ∷ masks) tables →
+    c.stage ≡ stages.AtMask table mask → mask_place (heads_told (drop table c.heads.tables)) mask ≡ at_mask head (serial ∷ masks) tables →
     points ≡ c.points ++ (point ∷ []) →
-    place_of c.heads hit stop ≡ place_unhit (ether_type_of c.frame.bytes) (mask_place (heads_told (drop table c.heads)) mask) →
+    place_of c.heads.tables hit stop ≡ place_unhit (ether_type_of c.frame.bytes) (mask_place (heads_told (drop table c.heads.tables)) mask) →
     standing_of (record c { hit = hit; points = points; stage = stop }) ≡ after (standing_of c) told_no_filter
 goes_unhit c hit points stop point table mask serial head masks tables stage is kept place =
     gone c hit points stop point _ kept place ∙ rw (stage, is) refl
@@ -53,9 +53,9 @@ after_hit st head mask masks tables [] = refl
 after_hit st head mask masks tables (action ∷ actions) = refl
 
 pub goes_hit : (c : Course) (hit : List ActionName) (points : List ℕ) (stop : Stage) (point table mask serial : ℕ) (head : Head) (masks : List ℕ) (tables : List Head) →
-    c.stage ≡ stages.AtMask table mask → mask_place (heads_told (drop table c.heads)) mask ≡ at_mask head (serial ∷ masks) tables →
+    c.stage ≡ stages.AtMask table mask → mask_place (heads_told (drop table c.heads.tables)) mask ≡ at_mask head (serial ∷ masks) tables →
     points ≡ c.points ++ (point ∷ []) →
-    place_of c.heads hit stop ≡ place_hit hit (mask_place (heads_told (drop table c.heads)) mask) →
+    place_of c.heads.tables hit stop ≡ place_hit hit (mask_place (heads_told (drop table c.heads.tables)) mask) →
     standing_of (record c { hit = hit; points = points; stage = stop }) ≡ after (standing_of c) (told_actions (action_serials hit))
 goes_hit c hit points stop point table mask serial head masks tables stage is kept place =
     gone c hit points stop point _ kept place ∙ rw (stage, is) (after_hit (standing_of c) head serial masks tables hit)

@@ -62,11 +62,11 @@ by_count : (c : Course) (left : Bool) → nat_lt (length c.points) 65536 ≡ lef
     (outcome : Outcome) × (outcome_of (standing_of c) ≡ Some outcome)
 by_count c true left course none =
     let some : length c.points < 65536 = grind (arith, nat_tests) in
-    unasked c.heads c.hit c.stage (standing_of c) course.stop (λ going. none (going ∙ sym (ap progress_at (is_asked (standing_of c) some))))
+    unasked c.heads.tables c.hit c.stage (standing_of c) course.stop (λ going. none (going ∙ sym (ap progress_at (is_asked (standing_of c) some))))
 by_count c false left course none =
     let most = course.visits in
     let last : length c.points ≡ 65536 = grind (arith, nat_tests) in
-    at_last (place_of c.heads c.hit c.stage) (standing_of c) last
+    at_last (place_of c.heads.tables c.hit c.stage) (standing_of c) last
 
 -- a walk that needs no visit more, or may make none, has ended so
 pub leads_to_end : {V : Type 0} (told : V → Question → Answer → ℕ → V → Type 0) (before now : V) (first c : Course) →

@@ -16,5 +16,5 @@ one_more points given point kept = ap length kept ∙ length-append points (poin
 
 -- a course that has gone on to a stage by a visit
 pub gone : (c : Course) (hit : List ActionName) (points : List ℕ) (stage : Stage) (point : ℕ) (place : Place) → points ≡ c.points ++ (point ∷ []) →
-    place_of c.heads hit stage ≡ place → standing_of (record c { hit = hit; points = points; stage = stage }) ≡ moved (standing_of c) place
+    place_of c.heads.tables hit stage ≡ place → standing_of (record c { hit = hit; points = points; stage = stage }) ≡ moved (standing_of c) place
 gone c hit points stage point place kept is = rw (one_more c.points points point kept, is) refl

@@ -49,16 +49,16 @@ abbrev pub standing_of : Course → Standing
 standing_of c = record {
   hook = c.hook;
   frame = c.frame;
-  heads = heads_told c.heads;
+  heads = heads_told c.heads.tables;
   restarts = c.restarts;
   visits = length c.points;
   executed = map execution c.executed;
-  place = place_of c.heads c.hit c.stage;
+  place = place_of c.heads.tables c.hit c.stage;
 }
 
 -- what holds of a walk between its calls
 pub record IsCourse (c : Course) : Type 0 where
-  pub stop : IsStop c.heads c.hit c.stage
+  pub stop : IsStop c.heads.tables c.hit c.stage
   pub fields : values_of c.key.words ≡ frame_values c.frame.bytes
   pub executed : length c.executed ≤ length c.points
   pub visits : length c.points ≤ VISITS_MAX
@@ -83,7 +83,7 @@ actions_at hit stage = []
 
 -- whoever answers knows the masks that the head told, and the actions that run
 pub record IsKnown {V : Type 0} (knows_mask : V → ℕ → MaskName → Type 0) (knows_action : V → ActionName → Type 0) (visits : V) (c : Course) : Type 0 where
-  pub masks : MasksKnown (knows_mask visits) c.heads
+  pub masks : MasksKnown (knows_mask visits) c.heads.tables
   pub actions : Each (knows_action visits) (actions_at c.hit c.stage)
 
 -- ---- what follows, without the count of visits

@@ -21,7 +21,7 @@ pub(crate) fn execute(course: &mut Course, serial: u32, params: &Params) -> Cont
     ensures control { result ≡ control_given params.now course.old.frame }
     ensures ran { standing_of course.new ≡ ran (standing_of course.old) serial params.now }
     ensures course { IsCourse course.new }
-    ensures names { (course.new.heads ≡ course.old.heads) × (course.new.hit ≡ course.old.hit) × (course.new.stage ≡ course.old.stage) × (course.new.points ≡ course.old.points) }
+    ensures names { (course.new.heads.tables ≡ course.old.heads.tables) × (course.new.hit ≡ course.old.hit) × (course.new.stage ≡ course.old.stage) × (course.new.points ≡ course.old.points) }
 {
     let length = course.frame.bytes().len();
     course.executed.push(serial, length as u32);
@@ -34,12 +34,12 @@ pub(crate) fn execute(course: &mut Course, serial: u32, params: &Params) -> Cont
 
 /// Where the walk stands after the list of a table's filter has ended.
 pub(crate) fn end_list(course: &mut Course, table: usize, ending: Ending)
-    requires table { table < length course.old.heads }
+    requires table { table < length course.old.heads.tables }
     requires course { IsCourse course.old }
-    ensures goes { standing_of course.new ≡ list_ended (standing_of course.old) (heads_told (drop table course.old.heads)) ending }
+    ensures goes { standing_of course.new ≡ list_ended (standing_of course.old) (heads_told (drop table course.old.heads.tables)) ending }
     ensures course { IsCourse course.new }
     ensures unhit { actions_at course.new.hit course.new.stage ≡ [] }
-    ensures names { (course.new.heads ≡ course.old.heads) × (course.new.hit ≡ course.old.hit) × (course.new.points ≡ course.old.points) }
+    ensures names { (course.new.heads.tables ≡ course.old.heads.tables) × (course.new.hit ≡ course.old.hit) × (course.new.points ≡ course.old.points) }
 {
     match ending {
         Ending::Accept | Ending::Pipe => course.stage = Stage::Over(Verdict::Pass),
@@ -59,7 +59,7 @@ fn restart(course: &mut Course, chain: u32)
     ensures goes { standing_of course.new ≡ restart_at (standing_of course.old) chain }
     ensures course { IsCourse course.new }
     ensures unhit { actions_at course.new.hit course.new.stage ≡ [] }
-    ensures names { (course.new.heads ≡ course.old.heads) × (course.new.hit ≡ course.old.hit) × (course.new.points ≡ course.old.points) }
+    ensures names { (course.new.heads.tables ≡ course.old.heads.tables) × (course.new.hit ≡ course.old.hit) × (course.new.points ≡ course.old.points) }
 {
     if course.restarts == 0 {
         course.stage = Stage::Over(Verdict::Drop);

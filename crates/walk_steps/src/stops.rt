@@ -28,8 +28,8 @@ fn tries(head: &TableHead, chain: u32, ether: u16) -> bool
 
 /// The first mask of that chain's tables that are tried, among the tables from a place on.
 pub(crate) fn first_stop(heads: &HeadRoom, from: usize, chain: u32, ether: u16) -> Stage
-    ensures stop { (hit : List ActionValue) → IsStop heads.now hit result }
-    ensures place { (hit : List ActionValue) → place_of heads.now hit result ≡ first_stop chain ether (heads_told (drop from heads.now)) }
+    ensures stop { (hit : List ActionValue) → IsStop heads.now.tables hit result }
+    ensures place { (hit : List ActionValue) → place_of heads.now.tables hit result ≡ first_stop chain ether (heads_told (drop from heads.now.tables)) }
     ensures unhit { (hit : List ActionValue) → actions_at hit result ≡ [] }
 {
     let heads = heads.heads();
@@ -45,10 +45,10 @@ pub(crate) fn first_stop(heads: &HeadRoom, from: usize, chain: u32, ether: u16) 
 
 /// The stop after a mask that has no filter for the frame.
 pub(crate) fn unhit_stop(heads: &HeadRoom, table: usize, mask: usize, ether: u16) -> Stage
-    requires table { table < length heads.now }
-    requires mask { IsMask heads.now table mask }
-    ensures stop { (hit : List ActionValue) → IsStop heads.now hit result }
-    ensures place { (hit : List ActionValue) → place_of heads.now hit result ≡ place_unhit ether (mask_place (heads_told (drop table heads.now)) mask) }
+    requires table { table < length heads.now.tables }
+    requires mask { IsMask heads.now.tables table mask }
+    ensures stop { (hit : List ActionValue) → IsStop heads.now.tables hit result }
+    ensures place { (hit : List ActionValue) → place_of heads.now.tables hit result ≡ place_unhit ether (mask_place (heads_told (drop table heads.now.tables)) mask) }
     ensures unhit { (hit : List ActionValue) → actions_at hit result ≡ [] }
 {
     let head = &heads.heads()[table];
@@ -64,10 +64,10 @@ pub(crate) fn unhit_stop(heads: &HeadRoom, table: usize, mask: usize, ether: u16
 
 /// The stop after a mask that has a filter with these actions for the frame.
 pub(crate) fn hit_stop(heads: &HeadRoom, hit: &Hit, table: usize, mask: usize) -> Stage
-    requires table { table < length heads.now }
-    requires mask { IsMask heads.now table mask }
-    ensures stop { IsStop heads.now hit.now result }
-    ensures place { place_of heads.now hit.now result ≡ place_hit hit.now (mask_place (heads_told (drop table heads.now)) mask) }
+    requires table { table < length heads.now.tables }
+    requires mask { IsMask heads.now.tables table mask }
+    ensures stop { IsStop heads.now.tables hit.now result }
+    ensures place { place_of heads.now.tables hit.now result ≡ place_hit hit.now (mask_place (heads_told (drop table heads.now.tables)) mask) }
     ensures actions { actions_at hit.now result ≡ hit.now }
 {
     let length = hit.actions().len();

@@ -30,8 +30,8 @@ pub trait Visits {
 
     /// The tables of a hook.
     fn head(&mut self, hook: Hook, into: &mut HeadRoom) -> Point
-        ensures told { told self.old (heads_of hook) (told_heads (heads_told into.new)) result self.new }
-        ensures masks { MasksKnown (knows_mask self.new) into.new }
+        ensures told { told self.old (heads_of hook) (told_heads (heads_told into.new.tables)) result self.new }
+        ensures masks { MasksKnown (knows_mask self.new) into.new.tables }
         ensures kept_masks { (table : ℕ) (mask : MaskValue) → knows_mask self.old table mask → knows_mask self.new table mask }
         ensures kept_actions { (action : ActionValue) → knows_action self.old action → knows_action self.new action };
 

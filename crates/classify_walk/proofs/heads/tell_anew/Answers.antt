@@ -13,7 +13,7 @@ use Rattle.classify_walk.proofs.heads.tell_anew.Goals as goal
 pub push-requires : goal.push-requires
 push-requires c =
     let few = tables_fit c.args.lists.now c.args.hook c.tables-tables.result.now c.tables-tables.ensures.kept c.tables-tables.ensures.tables in
-    let count = told_count c.tables-tables.result.now c.loop-place.place c.loop-place.into (omega (arith, c.loop-place-test.true)) c.loop-place.invariant in
+    let count = told_count c.tables-tables.result.now c.loop-place.place c.loop-place.into.tables (omega (arith, c.loop-place-test.true)) c.loop-place.invariant in
     omega (arith, few, count, c.loop-place-test.true)
 
 pub tell_masks-requires-clause-table : goal.tell_masks-requires-clause-table
@@ -31,13 +31,13 @@ tell_masks-requires-clause-few c =
 pub tell_masks-requires-clause-bare : goal.tell_masks-requires-clause-bare
 tell_masks-requires-clause-bare c =
     let t = c.index-tables-place.result in
-    ap last_masks c.push.ensures ∙ last_pushed c.loop-place.into t.serial t.chain t.pref t.protocol
+    ap last_masks c.push.ensures.tables ∙ last_pushed c.loop-place.into.tables t.serial t.chain t.pref t.protocol
 
 pub loop-place-preserved : goal.loop-place-preserved
 loop-place-preserved c =
     let tables = c.tables-tables.result.now in
     let place = c.loop-place.place in
     let t = c.index-tables-place.result in
-    table_told tables place t c.loop-place.into c.push.new.self c.tell_masks.new.into
-    (take_more tables place t c.loop-place-test.true ∙ ap (λ u. take place tables ++ (u ∷ [])) (sym c.index-tables-place.is)) c.push.ensures
-    (c.tell_masks.ensures ∙ ap (λ ms. with_masks_behind (serials_of ms) (heads_told c.push.new.self)) c.as_slice.ensures) c.loop-place.invariant
+    table_told tables place t c.loop-place.into.tables c.push.new.self.tables c.tell_masks.new.into.tables
+    (take_more tables place t c.loop-place-test.true ∙ ap (λ u. take place tables ++ (u ∷ [])) (sym c.index-tables-place.is)) c.push.ensures.tables
+    (c.tell_masks.ensures ∙ ap (λ ms. with_masks_behind (serials_of ms) (heads_told c.push.new.self.tables)) c.as_slice.ensures) c.loop-place.invariant

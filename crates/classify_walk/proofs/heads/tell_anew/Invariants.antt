@@ -6,4 +6,4 @@ use Rattle.head_laws.specs.Heads.{head_of}
 use Rattle.classify_walk.proofs.heads.tell_anew.Given as goal
 
 abbrev pub invariant-loop-place : goal.invariant-loop-place
-invariant-loop-place l = heads_told l.into ≡ map head_of (map plain_table (take l.place l.tables))
+invariant-loop-place l = heads_told l.into.tables ≡ map head_of (map plain_table (take l.place l.tables))

@@ -7,12 +7,12 @@ use Rattle.classify_walk.proofs.heads.tell_masks.Goals as goal
 
 pub loop-place-init : goal.loop-place-init
 loop-place-init c = record {
-  told = sym (behind_none (heads_told c.args.into.now));
+  told = sym (behind_none (heads_told c.args.into.now.tables));
   count = ap (option_map length) c.requires.bare;
 }
 
 pub push_mask-requires : goal.push_mask-requires
-push_mask-requires c = below c.loop-place.place (last_masks c.loop-place.into) c.loop-place.invariant.count (omega (arith, c.requires.few, c.loop-place-test.true))
+push_mask-requires c = below c.loop-place.place (last_masks c.loop-place.into.tables) c.loop-place.invariant.count (omega (arith, c.requires.few, c.loop-place-test.true))
 
 pub loop-place-preserved : goal.loop-place-preserved
 loop-place-preserved c =
@@ -20,7 +20,7 @@ loop-place-preserved c =
     let place = c.loop-place.place in
     let mask = c.index-masks-place.result in
     record {
-      told = mask_told masks place mask c.slot_of.result c.args.into.now c.loop-place.into c.push_mask.new.self
-          (take_more masks place mask c.loop-place-test.true ∙ ap (λ m. take place masks ++ (m ∷ [])) (sym c.index-masks-place.is)) c.push_mask.ensures c.loop-place.invariant.told;
-      count = count_more (record { serial = mask.serial; slot = c.slot_of.result }) place c.loop-place.into c.push_mask.new.self c.push_mask.ensures c.loop-place.invariant.count;
+      told = mask_told masks place mask c.slot_of.result c.args.into.now.tables c.loop-place.into.tables c.push_mask.new.self.tables
+          (take_more masks place mask c.loop-place-test.true ∙ ap (λ m. take place masks ++ (m ∷ [])) (sym c.index-masks-place.is)) c.push_mask.ensures.tables c.loop-place.invariant.told;
+      count = count_more (record { serial = mask.serial; slot = c.slot_of.result }) place c.loop-place.into.tables c.push_mask.new.self.tables c.push_mask.ensures.tables c.loop-place.invariant.count;
     }

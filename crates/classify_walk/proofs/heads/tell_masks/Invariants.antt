@@ -9,6 +9,6 @@ use Rattle.classify_walk.proofs.heads.tell_masks.Given as goal
 
 abbrev pub invariant-loop-place : goal.invariant-loop-place
 invariant-loop-place l = record {
-  told : heads_told l.into ≡ with_masks_behind (serials_of (map plain_mask (take l.place l.masks))) (heads_told l.initial.into);
-  count : option_map length (last_masks l.into) ≡ Some l.place;
+  told : heads_told l.into.tables ≡ with_masks_behind (serials_of (map plain_mask (take l.place l.masks))) (heads_told l.initial.into.tables);
+  count : option_map length (last_masks l.into.tables) ≡ Some l.place;
 }

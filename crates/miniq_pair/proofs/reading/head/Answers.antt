@@ -60,7 +60,7 @@ returns-clause-told g c =
     let last : h ≡ seen_by c.next_block.new.reader.place = sym (n.same.seen ∙ v.same.seen) in
     let over : v.place ≡ length (root_of h (head_root hook)).chain = n.over c.loop-walk-test.false (head_root hook) v.place v.before ∙ ap (λ (s : List (Commit g.row.L-Entry.Denot)). length (root_of s (head_root hook)).chain) first in
     let long = read_length table_in (root_of h (head_root hook)).chain end.tables end.read in
-    subst (λ (s : List (Commit g.row.L-Entry.Denot)). HeadTold (λ k. g.L.HeadLaw.heads s k hook) s hook c.loop-walk.into c.along-stamp.result.1) last record {
+    subst (λ (s : List (Commit g.row.L-Entry.Denot)). HeadTold (λ k. g.L.HeadLaw.heads s k hook) s hook c.loop-walk.into.tables c.along-stamp.result.1) last record {
       tables = end.tables;
       read = end.read;
       told_are = v.told end.tables end.read ∙ ap (map told_of) (take_all v.place end.tables (omega arith));
@@ -80,5 +80,5 @@ returns-clause-loads g c =
     let n = c.next_block.ensures in
     let over : v.place ≡ length (root_of h (head_root hook)).chain = n.over c.loop-walk-test.false (head_root hook) v.place v.before ∙ ap (λ (s : List (Commit g.row.L-Entry.Denot)). length (root_of s (head_root hook)).chain) v.same.seen in
     let long = read_length table_in (root_of h (head_root hook)).chain end.tables end.read in
-    let count : length c.loop-walk.into ≡ v.place = ap length (v.told end.tables end.read) ∙ (length-map (take v.place end.tables) told_of ∙ length-take-le v.place end.tables (omega arith)) in
+    let count : length c.loop-walk.into.tables ≡ v.place = ap length (v.told end.tables end.read) ∙ (length-map (take v.place end.tables) told_of ∙ length-take-le v.place end.tables (omega arith)) in
     let none = (n.none c.loop-walk-test.false).0 in omega (arith, none, v.loads, a.loads, count)

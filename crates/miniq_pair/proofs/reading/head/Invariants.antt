@@ -16,7 +16,7 @@ invariant-loop-walk g l = record {
   before : IsBefore l.store.shape l.reader.place (head_root l.fn.hook) place l.walk.next;
   loads : loads_of l.reader.place ≡ loads_of l.initial.reader.place + 40 * place;
   steps : l.steps ≡ l.initial.steps + 40 * place;
-  told : (tables : List StoredTable) → read_all table_in (root_of (seen_by l.initial.reader.place) (head_root l.fn.hook)).chain ≡ Some tables → l.into ≡ map told_of (take place tables);
+  told : (tables : List StoredTable) → read_all table_in (root_of (seen_by l.initial.reader.place) (head_root l.fn.hook)).chain ≡ Some tables → l.into.tables ≡ map told_of (take place tables);
 }
 
 abbrev pub decreases-loop-walk : goal.decreases-loop-walk

@@ -6,21 +6,21 @@ use Rattle.miniq_pair.proofs.Putting.{told_with, last_of, mask_behind, below}
 use Rattle.miniq_pair.proofs.reading.push_table.Goals as goal
 
 pub loop-mask-init : goal.loop-mask-init
-loop-mask-init c = record { told = c.push.ensures }
+loop-mask-init c = record { told = c.push.ensures.tables }
 
 pub push_mask-requires : goal.push_mask-requires
 push_mask-requires c = let test = c.loop-mask-test.true in let same = c.items-mask-items.ensures.same in let few = c.items-mask-items.ensures.few in let long = ap length same in
     let taken = length-take-le c.loop-mask.mask-index c.args.table.now.masks (omega arith) in
-    below c.loop-mask.into (take c.loop-mask.mask-index c.args.table.now.masks) (ap last_masks c.loop-mask.invariant.told ∙ last_of c.args.into.now c.args.table.now (take c.loop-mask.mask-index c.args.table.now.masks)) (omega arith)
+    below c.loop-mask.into.tables (take c.loop-mask.mask-index c.args.table.now.masks) (ap last_masks c.loop-mask.invariant.told ∙ last_of c.args.into.now.tables c.args.table.now (take c.loop-mask.mask-index c.args.table.now.masks)) (omega arith)
 
 pub loop-mask-preserved : goal.loop-mask-preserved
 loop-mask-preserved c = let test = c.loop-mask-test.true in let same = c.items-mask-items.ensures.same in let long = ap length same in
     let masks = c.args.table.now.masks in let index = c.loop-mask.mask-index in record {
-      told = c.push_mask.ensures ∙ (ap (with_mask_behind _) c.loop-mask.invariant.told ∙ (mask_behind c.args.into.now c.args.table.now (take index masks) _
-          ∙ ap (λ (ms : List MaskName). c.args.into.now ++ told_with c.args.table.now ms ∷ [])
+      told = c.push_mask.ensures.tables ∙ (ap (with_mask_behind _) c.loop-mask.invariant.told ∙ (mask_behind c.args.into.now.tables c.args.table.now (take index masks) _
+          ∙ ap (λ (ms : List MaskName). c.args.into.now.tables ++ told_with c.args.table.now ms ∷ [])
           (ap (λ (ms : List MaskName). take index masks ++ get_or ms index _ ∷ []) same ∙ sym (take_more masks index _ (omega arith)))));
     }
 
 pub returns : goal.returns
 returns c = let test = c.loop-mask-test.false in let long = ap length c.items-mask-items.ensures.same in
-    c.loop-mask.invariant.told ∙ ap (λ (ms : List MaskName). c.args.into.now ++ told_with c.args.table.now ms ∷ []) (take_all c.loop-mask.mask-index c.args.table.now.masks (omega arith))
+    c.loop-mask.invariant.told ∙ ap (λ (ms : List MaskName). c.args.into.now.tables ++ told_with c.args.table.now ms ∷ []) (take_all c.loop-mask.mask-index c.args.table.now.masks (omega arith))

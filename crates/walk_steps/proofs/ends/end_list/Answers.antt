@@ -6,7 +6,7 @@ use Rattle.walk_steps.proofs.ends.end_list.Goals as goal
 pub returns-in-Shot-clause-goes : goal.returns-in-Shot-clause-goes
 returns-in-Shot-clause-goes c =
     let course = c.args.course.now in
-    rw c.in-Shot.is (sym (ended_at (standing_of course) course.heads c.args.table _ c.requires.table))
+    rw c.in-Shot.is (sym (ended_at (standing_of course) course.heads.tables c.args.table _ c.requires.table))
 
 pub returns-in-Unspec-clause-course : goal.returns-in-Unspec-clause-course
 returns-in-Unspec-clause-course c = record {
@@ -19,9 +19,9 @@ returns-in-Unspec-clause-course c = record {
 pub returns-in-Reclassify-clause-goes : goal.returns-in-Reclassify-clause-goes
 returns-in-Reclassify-clause-goes c =
     let course = c.args.course.now in
-    rw c.in-Reclassify.is (c.restart.ensures.goes ∙ sym (ended_at (standing_of course) course.heads c.args.table _ c.requires.table))
+    rw c.in-Reclassify.is (c.restart.ensures.goes ∙ sym (ended_at (standing_of course) course.heads.tables c.args.table _ c.requires.table))
 
 pub returns-in-Goto-clause-goes : goal.returns-in-Goto-clause-goes
 returns-in-Goto-clause-goes c =
     let course = c.args.course.now in
-    rw c.in-Goto.is (c.restart-in-Goto.ensures.goes ∙ sym (ended_at (standing_of course) course.heads c.args.table _ c.requires.table))
+    rw c.in-Goto.is (c.restart-in-Goto.ensures.goes ∙ sym (ended_at (standing_of course) course.heads.tables c.args.table _ c.requires.table))

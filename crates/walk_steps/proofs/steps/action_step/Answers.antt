@@ -12,7 +12,7 @@ returns-in-At-clause-step g c =
     let params = c.params-params.result.0 in
     let point = c.params-params.result.1 in
     let names = c.execute-control.ensures.names in
-    let stop : (c.args.table < length old.heads) × (run.length ≡ length old.hit) × (run.ended ≡ false) = rw c.requires.stage at c.requires.course.stop in
+    let stop : (c.args.table < length old.heads.tables) × (run.length ≡ length old.hit) × (run.ended ≡ false) = rw c.requires.stage at c.requires.course.stop in
     let serial = serial_at old.hit _ run.at c.at.result no_action c.actions.ensures.same c.at.ensures.same (omega (arith, c.at.ensures.within)) in
     let control = ap (runs.after run) c.execute-control.ensures.control in
     record {
@@ -33,7 +33,7 @@ returns-in-At-clause-known g c =
     let names = c.execute-control.ensures.names in
     let actions = rw c.requires.stage at c.requires.known.actions in
     record {
-      masks = masks_still _ _ c.params-params.ensures.kept_masks old.heads _ names.0 c.requires.known.masks;
+      masks = masks_still _ _ c.params-params.ensures.kept_masks old.heads.tables _ names.0 c.requires.known.masks;
       actions = actions_still _ _ c.params-params.ensures.kept_actions old.hit _ names.1 actions;
     }
 
@@ -44,7 +44,7 @@ returns-in-Ended-clause-step g c =
     let params = c.params-params.result.0 in
     let point = c.params-params.result.1 in
     let names = c.execute-control.ensures.names in
-    let stop : (c.args.table < length old.heads) × (run.length ≡ length old.hit) × (run.ended ≡ false) = rw c.requires.stage at c.requires.course.stop in
+    let stop : (c.args.table < length old.heads.tables) × (run.length ≡ length old.hit) × (run.ended ≡ false) = rw c.requires.stage at c.requires.course.stop in
     let serial = serial_at old.hit _ run.at c.at.result no_action c.actions.ensures.same c.at.ensures.same (omega (arith, c.at.ensures.within)) in
     let control = ap (runs.after run) c.execute-control.ensures.control in
     record {
@@ -65,6 +65,6 @@ returns-in-Ended-clause-known g c =
     let old = c.args.course.now in
     let names = c.execute-control.ensures.names in
     record {
-      masks = masks_still _ _ c.params-params.ensures.kept_masks old.heads _ (c.end_list.ensures.names.0 ∙ names.0) c.requires.known.masks;
+      masks = masks_still _ _ c.params-params.ensures.kept_masks old.heads.tables _ (c.end_list.ensures.names.0 ∙ names.0) c.requires.known.masks;
       actions = none_known _ _ c.end_list.ensures.unhit;
     }

@@ -15,8 +15,8 @@ returns-clause-step g c =
     let old = c.args.course.now in
     let hit = c.lookup-found.new.into in
     let head = c.index-heads-table.result in
-    let stop : (c.args.table < length old.heads) × IsMask old.heads c.args.table c.args.mask = rw c.requires.stage at c.requires.course.stop in
-    let place = mask_opened old.heads _ c.args.table c.args.mask head _ no_mask stop.0 stop.1 c.heads.ensures c.index-heads-table.is c.as_slice.ensures.same in
+    let stop : (c.args.table < length old.heads.tables) × IsMask old.heads.tables c.args.table c.args.mask = rw c.requires.stage at c.requires.course.stop in
+    let place = mask_opened old.heads.tables _ c.args.table c.args.mask head _ no_mask stop.0 stop.1 c.heads.ensures c.index-heads-table.is c.as_slice.ensures.same in
     record {
       question = filter_of head.serial _ (values_of old.key.words);
       answer = filter_told c.lookup-found.result.0 hit;
@@ -49,7 +49,7 @@ returns-clause-course g c =
 
 pub returns-clause-known : goal.returns-clause-known
 returns-clause-known g c = record {
-  masks = masks_still _ _ c.lookup-found.ensures.kept_masks c.args.course.now.heads c.args.course.now.heads refl c.requires.known.masks;
+  masks = masks_still _ _ c.lookup-found.ensures.kept_masks c.args.course.now.heads.tables c.args.course.now.heads.tables refl c.requires.known.masks;
   actions = elim c.if-found.branch [
     | then-found w ↦ rw (w.course-is, w.hit_stop-course.ensures.actions) c.lookup-found.ensures.actions
     | else-found w ↦ rw (w.course-is, w.unhit_stop-course.ensures.unhit c.lookup-found.new.into) tt

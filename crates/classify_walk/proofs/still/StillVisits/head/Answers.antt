@@ -16,4 +16,4 @@ returns-clause-told c = (
 )
 
 pub returns-clause-masks : goal.returns-clause-masks
-returns-clause-masks c = masks_known c.args.self.now.lists.now c.args.hook c.tell_heads.new.into c.tell_heads.ensures.kept c.tell_heads.ensures.told
+returns-clause-masks c = masks_known c.args.self.now.lists.now c.args.hook c.tell_heads.new.into.tables c.tell_heads.ensures.kept c.tell_heads.ensures.told

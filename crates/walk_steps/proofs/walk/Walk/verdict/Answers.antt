@@ -11,4 +11,4 @@ pub returns-in_default : goal.returns-in_default
 returns-in_default c =
     let course = c.self.inside.course in
     let P : Walking → Type 0 = λ walk. IfSome (outcome_of walk.standing) (λ outcome. verdicts.Drop ≡ outcome.verdict) in
-    subst P c.self.view_is (is_dropped course.heads course.hit course.stage (standing_of course) c.self.invariant.stop c.in_default.not-Over)
+    subst P c.self.view_is (is_dropped course.heads.tables course.hit course.stage (standing_of course) c.self.invariant.stop c.in_default.not-Over)

@@ -1,0 +1,4 @@
+pub mod Parts
+pub mod PartCases
+pub mod Effects
+pub mod EffectCases
