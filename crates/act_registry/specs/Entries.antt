@@ -1,5 +1,6 @@
 -- The live actions as a list, and what the calls make of it. The counts and their rules are those of the kernel's
 -- net/sched/act_api.c, whose functions are named. Serials, and what names nothing, are this project's own.
+use Rattle.act_registry.specs.declared.limits.TheConstants.{ACTIONS_MAX, MADE_MAX}
 use Rattle.std.specs.Prelude.{◌≡◌, ℕ, ◌+◌, ◌-◌, ◌<◌, ◌≤◌, Bool, true, false, not, ◌==◌, ◌&&◌, nat_lt, List, length, map, filter, find, Option, unwrap_or, if◌then◌else◌}
 use Rattle.std.specs.List.{All, AllPairs, list_any, range_with_len}
 use Rattle.act_registry.specs.declared.entry.Entry.{Entry}
@@ -85,5 +86,5 @@ pub record AreLive {P : Type 0} (kind_of : P → ℕ) (es : List (Entry P)) (mad
   pub rising : AreRising es
   pub apart : AreApart kind_of es
   pub each : All (IsLive made) es
-  pub few : length es ≤ 1024
-  pub in_run : made ≤ 16384
+  pub few : length es ≤ ACTIONS_MAX
+  pub in_run : made ≤ MADE_MAX

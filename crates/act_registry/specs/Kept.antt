@@ -1,4 +1,5 @@
 -- What contracts see of a registry, and why its calls are refused (this project's own).
+use Rattle.act_registry.specs.declared.limits.TheConstants.{ACTIONS_MAX, MADE_MAX}
 use Rattle.std.specs.Prelude.{◌≡◌, ℕ, Bool, false, nat_lt, nat_le, List, length, Option, Some, None, Result, Ok, Err, IfErr, if◌then◌else◌}
 use Rattle.act_registry.specs.declared.entry.Entry.{Entry}
 use Rattle.act_registry.specs.declared.fault.RegistryFault.{RegistryFault}
@@ -25,8 +26,8 @@ is_taken kind_of kind es (Some index) = is_used kind_of kind es index
 abbrev pub make_refusal : {P : Type 0} → (P → ℕ) → ℕ → Option ℕ → Kept P → Option RegistryFault
 make_refusal kind_of kind index r =
     if is_taken kind_of kind r.entries index then Some ActionExists
-    else (if nat_le 1024 (length r.entries) then Some ActionsFull
-    else (if nat_le 16384 r.made then Some CountersFull
+    else (if nat_le ACTIONS_MAX (length r.entries) then Some ActionsFull
+    else (if nat_le MADE_MAX r.made then Some CountersFull
     else None))
 
 -- the refusal is told; want of memory may be told where there is none, and no room was reserved

@@ -21,6 +21,7 @@
 
 mod entry;
 mod fault;
+mod limits;
 mod names;
 mod places;
 mod registry;
@@ -28,4 +29,5 @@ mod room;
 
 pub use entry::{Entry, Kinded};
 pub use fault::RegistryFault;
+pub use limits::{ACTIONS_MAX, MADE_MAX};
 pub use registry::Registry;

@@ -1,4 +1,5 @@
 //! The names of the entries, sorted by kind and then by index: what a kind and index are found by.
+ghost use Rattle.act_registry.specs.declared.limits.TheConstants.{ACTIONS_MAX};
 ghost use Rattle.std.specs.Prelude.{◌≡◌, ◌<◌, ◌≤◌, ◌+◌, ℕ, length, IfSome, true, false};
 ghost use Rattle.std.specs.List.{AllPairs, count_by};
 ghost use Rattle.std.specs.Option.{IfNone};
@@ -35,7 +36,7 @@ pub(crate) fn serial_of(names: &[Name], kind: u32, index: u32) -> Option<u32>
 /// The lowest index from 1 that the kind doesn't use. It takes one step for each index of the kind below it.
 pub(crate) fn lowest_free(names: &[Name], kind: u32) -> u32
     requires sorted { AllPairs ComesBefore names.now }
-    requires few { length names.now ≤ 1024 }
+    requires few { length names.now ≤ ACTIONS_MAX }
     ensures within { (1 ≤ result) × (result ≤ length names.now + 1) }
     ensures free { count_by (has_name kind result) names.now ≡ 0 }
     ensures lowest { (lower : ℕ) → 1 ≤ lower → lower < result → 0 < count_by (has_name kind lower) names.now }

@@ -6,18 +6,13 @@ ghost use Rattle.act_registry.specs.declared.fault.RegistryFault.{RegistryFault}
 
 use crate::entry::{Entry, Kinded};
 use crate::fault::RegistryFault;
+use crate::limits::{ACTIONS_MAX, MADE_MAX};
 use crate::names::{Name, lowest_free, place_for};
 use crate::places::{place_of, place_of_serial};
 use crate::room::{insert_within, push_within};
 use std::alloc::Global;
 use std::marker::Model;
 use tc_base::NoMemory;
-
-// How many actions may be live at once (this project's own).
-const ACTIONS_MAX: usize = 1024;
-
-// How many actions may be made in a run (this project's own).
-const MADE_MAX: u32 = 16384;
 
 /// The live actions, by rising serial, with their names by kind and index.
 #[derive(Drop)]
@@ -46,6 +41,7 @@ impl<P: Kinded> Model for Registry<P> {
 }
 
 impl<P: Kinded> Registry<P> {
+    ghost use Rattle.act_registry.specs.declared.limits.TheConstants.{ACTIONS_MAX, MADE_MAX};
     ghost use Rattle.act_registry.specs.Entries.{is_named, has_serial, bound_more, with_params, change_where, leave_out, unbound, new_entry, is_used, lowest_unused, index_for, IsLowestUnused, AreLive};
     ghost use Rattle.act_registry.specs.Kept.{refusal_of, is_taken, make_refusal, Told, delete_refusal};
     ghost use Rattle.act_registry.specs.OnePlace.{OnlyAt, NoPlace};
@@ -290,8 +286,8 @@ impl<P: Kinded> Registry<P> {
     // Puts a new entry behind the others, and its name in its place. There is room for both.
     fn put(&mut self, params: P, index: u32, bound: bool) -> u32
         requires room { 0 < self.old.spare }
-        requires few { length self.old.entries < 1024 }
-        requires in_run { self.old.made < 16384 }
+        requires few { length self.old.entries < ACTIONS_MAX }
+        requires in_run { self.old.made < MADE_MAX }
         requires free { NoPlace (is_named P.kind_of (P.kind_of params) index) self.old.entries }
         ensures serial { result ≡ self.old.made + 1 }
         ensures entries { self.new.entries ≡ self.old.entries ++ new_entry (self.old.made + 1) index params bound ∷ [] }

@@ -1,4 +1,5 @@
 //! Doing what was planned.
+ghost use Rattle.act_registry.specs.declared.limits.TheConstants.{ACTIONS_MAX, MADE_MAX};
 ghost use Rattle.std.specs.Prelude.{◌≡◌, ◌≤◌, ◌<◌, ◌+◌, length, None, IsSome};
 ghost use Rattle.act_kinds.specs.Params.{kind_of};
 ghost use Rattle.filter_state.specs.Actions.{is_named, change_where, more_bound, made_more, serial_of};
@@ -16,8 +17,8 @@ pub(crate) fn carry_out(parts: &[PlannedAction], registry: &mut Registry<Params>
     requires short { length parts.now ≤ 16 }
     requires fit { AreFit (made_of registry.old) parts.now }
     requires room { made_by parts.now ≤ registry.old.spare }
-    requires few { length registry.old.entries + made_by parts.now ≤ 1024 }
-    requires in_run { registry.old.made + made_by parts.now ≤ 16384 }
+    requires few { length registry.old.entries + made_by parts.now ≤ ACTIONS_MAX }
+    requires in_run { registry.old.made + made_by parts.now ≤ MADE_MAX }
     requires references { Each (λ (action : Action). action.references + length parts.now < 4294967295) (actions_of registry.old.entries) }
     ensures actions { actions_of registry.new.entries ≡ (carried (made_of registry.old) parts.now).actions }
     ensures made { registry.new.made ≡ (carried (made_of registry.old) parts.now).made }
@@ -30,8 +31,8 @@ pub(crate) fn carry_out(parts: &[PlannedAction], registry: &mut Registry<Params>
 fn carry_out_one(part: &PlannedAction, registry: &mut Registry<Params>)
     requires fits { FitsAs (made_of registry.old) part.now part.now.params }
     requires room { makes part.now ≤ registry.old.spare }
-    requires few { length registry.old.entries + makes part.now ≤ 1024 }
-    requires in_run { registry.old.made + makes part.now ≤ 16384 }
+    requires few { length registry.old.entries + makes part.now ≤ ACTIONS_MAX }
+    requires in_run { registry.old.made + makes part.now ≤ MADE_MAX }
     requires references { Each (λ (action : Action). action.references < 4294967295) (actions_of registry.old.entries) }
     ensures actions { actions_of registry.new.entries ≡ (carried_one (made_of registry.old) part.now).actions }
     ensures made { registry.new.made ≡ (carried_one (made_of registry.old) part.now).made }
@@ -46,8 +47,8 @@ fn carry_out_one(part: &PlannedAction, registry: &mut Registry<Params>)
 fn make(registry: &mut Registry<Params>, params: Params, index: u32)
     requires new { serial_of (kind_of params) index (actions_of registry.old.entries) ≡ None }
     requires room { 0 < registry.old.spare }
-    requires few { length registry.old.entries < 1024 }
-    requires in_run { registry.old.made < 16384 }
+    requires few { length registry.old.entries < ACTIONS_MAX }
+    requires in_run { registry.old.made < MADE_MAX }
     ensures actions { actions_of registry.new.entries ≡ (made_more (made_of registry.old) params index 1).actions }
     ensures made { registry.new.made ≡ registry.old.made + 1 }
     ensures spare { registry.new.spare + 1 ≡ registry.old.spare }

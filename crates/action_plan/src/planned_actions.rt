@@ -1,4 +1,5 @@
 //! A plan that is kept until it is carried out.
+ghost use Rattle.act_registry.specs.declared.limits.TheConstants.{ACTIONS_MAX, MADE_MAX};
 ghost use Rattle.std.specs.Prelude.{◌≡◌, ◌≤◌, ◌<◌, ◌+◌, length, IfOk};
 ghost use Rattle.filter_state.specs.States.{Action};
 ghost use Rattle.filter_state.specs.Sound.{Each};
@@ -55,8 +56,8 @@ impl PlannedActions {
     pub fn carry_out(&self, registry: &mut Registry<Params>)
         requires fit { AreFit (made_of registry.old) self.now }
         requires room { made_by self.now ≤ registry.old.spare }
-        requires few { length registry.old.entries + made_by self.now ≤ 1024 }
-        requires in_run { registry.old.made + made_by self.now ≤ 16384 }
+        requires few { length registry.old.entries + made_by self.now ≤ ACTIONS_MAX }
+        requires in_run { registry.old.made + made_by self.now ≤ MADE_MAX }
         requires references { Each (λ (action : Action). action.references + length self.now < 4294967295) (actions_of registry.old.entries) }
         ensures actions { actions_of registry.new.entries ≡ (carried (made_of registry.old) self.now).actions }
         ensures made { registry.new.made ≡ (carried (made_of registry.old) self.now).made }

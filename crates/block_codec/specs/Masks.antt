@@ -1,4 +1,5 @@
 -- A stored mask (this project's own).
+use Rattle.block_codec.specs.declared.places.TheConstants.{ROWS}
 use Rattle.std.specs.Prelude.{◌≡◌, ℕ, ◌+◌, ◌*◌, ◌^◌, ◌<◌, List, ◌∷◌, ◌++◌, map, length, slice_index, Option, All, IsTrue}
 use Rattle.std.specs.List.{range_with_len}
 use Rattle.flow_mask.specs.Sizes.{is_size}
@@ -21,7 +22,7 @@ mask_words stored = 2 ∷ stored.serial ∷ stored.size ∷ (stored.mask.words +
 pub record IsStorableMask (stored : StoredMask) : Type 0 where
   pub size : IsTrue (is_size stored.size)
   pub rows : stored.size ≡ 16 * length stored.rows
-  pub each_row : All (λ row. row < 8192) stored.rows
+  pub each_row : All (λ row. row < ROWS) stored.rows
 
 -- these are the words of that mask, with that link
 pub record IsMaskBlock (words : List ℕ) (it : StoredMask × Option ℕ) : Type 0 where

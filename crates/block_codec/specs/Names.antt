@@ -1,4 +1,5 @@
 -- The names of actions and masks in a word, and the limits of their numbers (this project's own).
+use Rattle.block_codec.specs.declared.places.TheConstants.{MASK_SLOTS}
 use Rattle.std.specs.Prelude.{ℕ, ◌%◌, ◌/◌, ◌^◌, ◌<◌, ◌≤◌}
 use Rattle.visit_room.specs.declared.names.ActionName.{ActionName}
 use Rattle.visit_room.specs.declared.names.MaskName.{MaskName}
@@ -26,4 +27,4 @@ mask_in word = record { serial = word % 2 ^ 32; slot = word / 2 ^ 32 }
 -- 8,192 places have a mask at a time; serials have 32 bits
 pub record IsMaskName (name : MaskName) : Type 0 where
   pub serial : name.serial < 2 ^ 32
-  pub slot : name.slot < 8192
+  pub slot : name.slot < MASK_SLOTS

@@ -1,4 +1,5 @@
 -- What is looked at before words are read, and the things that they then are (this project's own).
+use Rattle.block_codec.specs.declared.places.TheConstants.{ROWS}
 use Rattle.std.specs.Prelude.{◌≡◌, ℕ, ◌+◌, ◌*◌, ◌/◌, ◌%◌, ◌^◌, ◌<◌, ◌≤◌, ◌==◌, List, map, take, slice_index, slice_range, if◌then◌else◌, All, IsTrue}
 use Rattle.std.specs.List.{range_with_len}
 use Rattle.tc_base.specs.declared.hook.Proto.{Proto}
@@ -33,7 +34,7 @@ rows_of count words = map (row_in words) (range_with_len 0 count)
 
 -- there are so many rows, and zeros behind them
 pub record HasRows (count : ℕ) (words : List ℕ) : Type 0 where
-  pub rows : All (λ row. row < 8192) (take count (rows_of 64 words))
+  pub rows : All (λ row. row < ROWS) (take count (rows_of 64 words))
   pub rest : All (λ row. row ≡ 0) (slice_range (rows_of 64 words) count 64)
 
 -- the first words are those of a mask: its kind, its serial, and one of the sizes

@@ -1,4 +1,5 @@
 //! Masks.
+ghost use Rattle.block_codec.specs.declared.places.TheConstants.{ROWS};
 ghost use Rattle.std.specs.Prelude.{◌≡◌, ◌+◌, ◌*◌, ◌/◌, ◌<◌, ◌≤◌, ◌↔◌, IsTrue, length, map, All, slice_index};
 ghost use Rattle.std.specs.List.{range_with_len};
 ghost use Rattle.flow_mask.specs.Sizes.{is_size};
@@ -33,9 +34,9 @@ pub struct StoredMask {
 
 // The row at a place, and 0 where there is none.
 fn row_at(rows: &[u32], place: usize) -> u64
-    requires { All (λ row. row < 8192) rows.now }
+    requires { All (λ row. row < ROWS) rows.now }
     ensures row { result ≡ slice_index rows.now place }
-    ensures small { result < 8192 }
+    ensures small { result < ROWS }
 {
     match rows.get(place) {
         Some(row) => u64::from(*row),
@@ -45,7 +46,7 @@ fn row_at(rows: &[u32], place: usize) -> u64
 
 // Four rows in a word.
 fn rows_word(rows: &[u32], at: usize) -> u64
-    requires rows { All (λ row. row < 8192) rows.now }
+    requires rows { All (λ row. row < ROWS) rows.now }
     requires at { at < 16 }
     ensures { result ≡ rows_word rows.now at }
 {
@@ -100,7 +101,7 @@ fn is_size(number: u64) -> bool
 }
 
 fn are_rows(rows: &[u32]) -> bool
-    ensures { IsTrue result ↔ All (λ row. row < 8192) rows.now }
+    ensures { IsTrue result ↔ All (λ row. row < ROWS) rows.now }
 {
     rows.iter().all(|row| *row < ROWS)
 }

@@ -15,6 +15,9 @@ pub const ROWS: u32 = 8_192;
 /// The buckets of a row.
 pub const ROW_BUCKETS: u32 = 16;
 
+/// The buckets of all rows.
+pub const BUCKETS: u32 = ROWS * ROW_BUCKETS;
+
 /// The tables of a hook.
 pub const TABLES: u32 = 256;
 
@@ -37,7 +40,7 @@ pub const ACTION_ROOTS: u32 = MASK_ROOTS + MASK_SLOTS;
 pub const BUCKET_ROOTS: u32 = ACTION_ROOTS + ACTION_SLOTS;
 
 /// All roots, 141,315.
-pub const ROOTS: u32 = BUCKET_ROOTS + ROWS * ROW_BUCKETS;
+pub const ROOTS: u32 = BUCKET_ROOTS + BUCKETS;
 
 /// The blocks of filters, masks and actions, which come first.
 pub const POOL_BLOCKS: u32 = 16_384;

@@ -1,4 +1,5 @@
 //! The walks of a capture.
+ghost use Rattle.frame_edit.specs.declared.limits.TheConstants.{FRAME_MAX};
 ghost use Rattle.std.specs.Prelude.{◌≡◌, ◌≤◌, ◌++◌, length, map, IfOk, IfSome, OnOk};
 ghost use Rattle.pcap_io.specs.Captures.{AreShort};
 ghost use Rattle.pcap_io.specs.Places.{packet_of};
@@ -30,6 +31,7 @@ pub struct WalkedCapture {
 }
 
 impl WalkedCapture {
+    ghost use Rattle.frame_edit.specs.declared.limits.TheConstants.{FRAME_MAX};
     ghost use Rattle.std.specs.Prelude.{◌≡◌, ◌+◌, ◌≤◌, ℕ, [], length, IfOk, IfSome, OnOk};
     ghost use Rattle.pcap_io.specs.Captures.{AreShort};
     ghost use Rattle.pcap_io.specs.Places.{packet_of};
@@ -55,7 +57,7 @@ impl WalkedCapture {
     // Adds what the walk of this packet leaves.
     fn add(&mut self, walk: &Walk, packet: PacketView<'_>) -> Result<(), NoMemory>
         requires room { Each HasRoomForRun self.old.counts.items }
-        requires short { length packet.bytes.now ≤ 262144 }
+        requires short { length packet.bytes.now ≤ FRAME_MAX }
         ensures added { OnOk result (IfSome (outcome_of walk.now.standing) (IsAdded (packet_of packet.entry) self.old self.new)) }
         ensures short { OnOk result (AreShort self.old.passed → AreShort self.new.passed) }
         ensures few { OnOk result ((walks : ℕ) → AreFew walks self.old.counts.items → AreFew (walks + 1) self.new.counts.items) }
@@ -94,7 +96,7 @@ pub fn walk_capture(
 
 // Puts the packet behind those that passed, as its walk left it, unless it was dropped.
 fn keep(passed: &mut Packets, walk: &Walk, packet: PacketView<'_>) -> Result<(), NoMemory>
-    requires { length packet.bytes.now ≤ 262144 }
+    requires { length packet.bytes.now ≤ FRAME_MAX }
     ensures kept { OnOk result (IfSome (outcome_of walk.now.standing)
         (λ outcome. passed.new ≡ passed.old ++ passed_one (packet_of packet.entry) outcome)) }
     ensures short { OnOk result (AreShort passed.old → AreShort passed.new) }
@@ -113,8 +115,8 @@ fn keep(passed: &mut Packets, walk: &Walk, packet: PacketView<'_>) -> Result<(),
 
 // The original length of a frame that had so many bytes and now has others.
 fn regrown(original: u32, before: usize, after: usize) -> u32
-    requires before { before ≤ 262144 }
-    requires after { after ≤ 262144 }
+    requires before { before ≤ FRAME_MAX }
+    requires after { after ≤ FRAME_MAX }
     ensures { result ≡ regrown original before after }
 {
     let grown = (u64::from(original) + after as u64).saturating_sub(before as u64);

@@ -1,4 +1,5 @@
 -- What an addition comes to, and when it can be done.
+use Rattle.filter_state.specs.declared.limits.TheConstants.{FILTERS_MAX}
 use Rattle.std.specs.Prelude.{◌≡◌, ◌≤◌, ◌<◌, ◌+◌, Result, Ok, Err}
 use Rattle.filter_state.specs.declared.refusal.Done.{Done}
 use Rattle.filter_state.specs.declared.refusal.Done.TheVariants as dones
@@ -26,7 +27,7 @@ pub record IsReady (kept : Kept) (addition : Addition) : Type 0 where
   pub handle : 1 ≤ addition.arrival.filter.handle
   pub tables : kept.tables_made + 1 < 4294967296
   pub masks : kept.masks_made + 1 < 4294967296
-  pub filters : kept.filters < 4096
+  pub filters : kept.filters < FILTERS_MAX
 
 -- An addition is planned where the step accepts the edit, and leads where the step does; it is refused for the step's reason, or,
 -- where the step accepts the edit, for want of memory.

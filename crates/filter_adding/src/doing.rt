@@ -1,4 +1,5 @@
 //! Adding a filter that was made ready.
+ghost use Rattle.filter_state.specs.declared.limits.TheConstants.{FILTERS_MAX};
 ghost use Rattle.std.specs.Prelude.{◌≡◌, ◌+◌, ◌<◌, ◌≤◌, []};
 ghost use Rattle.filter_state.specs.Steps.{raised};
 ghost use Rattle.filter_tables.specs.Seen.{plain_table};
@@ -43,7 +44,7 @@ pub fn add(kept: &mut Kept, addition: Addition) -> Done
 
 // One filter more, and a table or a mask more where the filter has the next serial.
 fn count(kept: &mut Kept, arrival: &Arrival)
-    requires few { kept.old.filters < 4096 }
+    requires few { kept.old.filters < FILTERS_MAX }
     requires table { arrival.now.table_serial ≤ kept.old.tables_made + 1 }
     requires mask { arrival.now.mask_serial ≤ kept.old.masks_made + 1 }
     ensures hooked { kept.new.hooked ≡ kept.old.hooked }

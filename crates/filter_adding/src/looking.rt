@@ -1,4 +1,5 @@
 //! Looking at an edit that adds a filter: every refusal in its order, before anything is taken.
+ghost use Rattle.filter_state.specs.declared.limits.TheConstants.{TABLES_MAX};
 ghost use Rattle.std.specs.Prelude.{◌≡◌, ◌&&◌, [], not, nat_le, is_some, length};
 ghost use Rattle.filter_state.specs.Lines.{IsFilter};
 ghost use Rattle.filter_state.specs.Refusals.{handle_taken, tables_full, filters_full};
@@ -12,7 +13,7 @@ ghost use Rattle.hook_lists.specs.Steps.{refusal_of};
 ghost use Rattle.filter_adding.specs.Looks.{place_refusal, limit_refusal, found_or, LookTold};
 
 use action_plan::ActionPlan;
-use filter_state::{FilterLine, Refusal};
+use filter_state::{FILTERS_MAX, FilterLine, Refusal, TABLES_MAX};
 use filter_tables::MaskLists;
 use hook_lists::{
     Kept, check_actions, check_hook, check_masks, check_match, check_protocol, find_table, resolve,
@@ -22,11 +23,6 @@ use tc_base::Hook;
 
 // The pref of a chain's first table, if its line gives none: the kernel's first automatic preference, 0xC000.
 const FIRST_PREF: u32 = 49152;
-
-// How many tables a hook has at most, and how many filters there are on both hooks (this project's own).
-const TABLES_MAX: usize = 256;
-
-const FILTERS_MAX: u32 = 4096;
 
 /// What was found for a line that isn't refused.
 #[derive(Drop)]
@@ -180,7 +176,7 @@ fn check_tables(
 
 // Whether a table that isn't there would be one too many.
 fn has_no_room(kept: &Kept, hook: Hook, place: Option<usize>) -> bool
-    ensures { result ≡ (not (is_some place) && nat_le 256 (length (tables_on hook (both_of kept.now)))) }
+    ensures { result ≡ (not (is_some place) && nat_le TABLES_MAX (length (tables_on hook (both_of kept.now)))) }
 {
     place.is_none() && table_count(kept, hook) >= TABLES_MAX
 }

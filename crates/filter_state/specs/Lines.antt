@@ -1,4 +1,5 @@
 -- Which edits a batch line can say. The ranges are this project's own where no source is given.
+use Rattle.filter_state.specs.declared.limits.TheConstants.{LINE_ACTIONS_MAX}
 use Rattle.std.specs.Prelude.{◌≡◌, ℕ, ◌<◌, ◌≤◌, List, [], ◌∷◌, length, Option, Some, None, IfSome, IsSomeAnd, IsSome}
 use Rattle.act_kinds.specs.declared.params.Control.{Control}
 use Rattle.act_kinds.specs.declared.params.Control.TheVariants as controls
@@ -62,7 +63,7 @@ pub record IsFilter (line : FilterLine) : Type 0 where
   pub handle : IfSome line.handle IsIndex
   pub keys : AreKeys line.key.words line.mask.words
   pub actions : AreFilterActions line.actions
-  pub most : length line.actions ≤ 16
+  pub most : length line.actions ≤ LINE_ACTIONS_MAX
 
 -- the edit is one that a batch line can say
 abbrev pub IsLine : Edit → Type 0

@@ -1,4 +1,6 @@
 -- When an edit is refused, each refusal by its own condition on the state.
+use Rattle.act_registry.specs.declared.limits.TheConstants.{ACTIONS_MAX, MADE_MAX}
+use Rattle.filter_state.specs.declared.limits.TheConstants.{TABLES_MAX, MASKS_MAX, FILTERS_MAX}
 use Rattle.std.specs.Prelude.{ℕ, ◌==◌, ◌&&◌, nat_le, nat_lt, Bool, false, not, List, length, is_some, Option, Some, None, if◌then◌else◌}
 use Rattle.std.specs.List.{list_any}
 use Rattle.std.specs.Option.{option_map}
@@ -62,25 +64,25 @@ exists_but s hook chain pref replaced mask key =
     option_map (λ (row : Row). refusals.Exists row.handle)
     (first_where (λ row. in_table hook chain pref row && (has_match mask key row && not (is_left_out replaced row))) s.rows)
 
--- the edit makes a table, and the hook has 256
+-- the edit makes a table, and the hook has the most
 abbrev pub tables_full : State → Hook → ℕ → ℕ → Option Refusal
-tables_full s hook chain pref = when (not (list_any (in_table hook chain pref) s.rows) && nat_le 256 (table_count hook s.rows)) refusals.TablesFull
+tables_full s hook chain pref = when (not (list_any (in_table hook chain pref) s.rows) && nat_le TABLES_MAX (table_count hook s.rows)) refusals.TablesFull
 
--- the edit makes a mask, and the table has 16
+-- the edit makes a mask, and the table has the most
 abbrev pub masks_full : State → Hook → ℕ → ℕ → List ℕ → Option Refusal
 masks_full s hook chain pref mask =
-    when (not (is_some (mask_row hook chain pref mask s.rows)) && nat_le 16 (mask_count hook chain pref s.rows)) refusals.MasksFull
+    when (not (is_some (mask_row hook chain pref mask s.rows)) && nat_le MASKS_MAX (mask_count hook chain pref s.rows)) refusals.MasksFull
 
 abbrev pub filters_full : State → Option Refusal
-filters_full s = when (nat_le 4096 (length s.rows)) refusals.FiltersFull
+filters_full s = when (nat_le FILTERS_MAX (length s.rows)) refusals.FiltersFull
 
--- live actions and those that the edit makes are more than 1,024; none is unbound yet
+-- live actions and those that the edit makes are too many; none is unbound yet
 abbrev pub actions_full : Made → Option Refusal
-actions_full next = when (nat_lt 1024 (length next.actions)) refusals.ActionsFull
+actions_full next = when (nat_lt ACTIONS_MAX (length next.actions)) refusals.ActionsFull
 
--- actions made so far and those that the edit makes are more than 16,384
+-- actions made so far and those that the edit makes are too many
 abbrev pub counters_full : Made → Option Refusal
-counters_full next = when (nat_lt 16384 next.made) refusals.CountersFull
+counters_full next = when (nat_lt MADE_MAX next.made) refusals.CountersFull
 
 abbrev pub action_exists : State → Kind → Option ℕ → Option Refusal
 action_exists s kind None = None

@@ -1,4 +1,6 @@
 -- What holds of every state that edits lead to.
+use Rattle.act_registry.specs.declared.limits.TheConstants.{ACTIONS_MAX, MADE_MAX}
+use Rattle.filter_state.specs.declared.limits.TheConstants.{TABLES_MAX, MASKS_MAX, FILTERS_MAX, LINE_ACTIONS_MAX}
 use Rattle.std.specs.Prelude.{◌≡◌, ℕ, ◌+◌, ◌<◌, ◌≤◌, ◌==◌, ◌⊎◌, true, List, [], ◌∷◌, length, IsTrue}
 use Rattle.std.specs.List.{list_any, flat_map, count_by}
 use Rattle.tc_base.specs.declared.hook.Hook.{Hook}
@@ -38,7 +40,7 @@ pub record IsRow (s : State) (row : Row) : Type 0 where
   pub keys : AreKeys row.key row.mask
   pub table : (1 ≤ row.table) × (row.table ≤ s.tables_made)
   pub mask : (1 ≤ row.mask_serial) × (row.mask_serial ≤ s.masks_made)
-  pub most : length row.actions ≤ 16
+  pub most : length row.actions ≤ LINE_ACTIONS_MAX
   pub live : Each (λ serial. IsTrue (list_any (has_serial serial) s.actions)) row.actions
 
 -- two actions: serials rise, and no two have the same kind and index
@@ -65,8 +67,8 @@ pub record Sound (s : State) : Type 0 where
   pub actions : Each (IsAction s) s.actions
   pub apart : EachPair StandApart s.actions
   pub hooked : 0 < length s.rows → s.hooked ≡ true
-  pub tables : (hook : Hook) → table_count hook s.rows ≤ 256
-  pub masks : (hook : Hook) (chain pref : ℕ) → mask_count hook chain pref s.rows ≤ 16
-  pub filters : length s.rows ≤ 4096
-  pub live : length s.actions ≤ 1024
-  pub made : s.actions_made ≤ 16384
+  pub tables : (hook : Hook) → table_count hook s.rows ≤ TABLES_MAX
+  pub masks : (hook : Hook) (chain pref : ℕ) → mask_count hook chain pref s.rows ≤ MASKS_MAX
+  pub filters : length s.rows ≤ FILTERS_MAX
+  pub live : length s.actions ≤ ACTIONS_MAX
+  pub made : s.actions_made ≤ MADE_MAX

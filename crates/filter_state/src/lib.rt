@@ -17,8 +17,10 @@
 
 mod action_line;
 mod edit;
+mod limits;
 mod refusal;
 
 pub use action_line::{ActionLine, ActionLines};
 pub use edit::{Edit, FilterLine};
+pub use limits::{FILTERS_MAX, LINE_ACTIONS_MAX, MASKS_MAX, TABLES_MAX};
 pub use refusal::{Done, Refusal};

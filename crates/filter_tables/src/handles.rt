@@ -1,4 +1,5 @@
 //! The handles of a table, sorted: what the lowest free one is found by.
+ghost use Rattle.filter_state.specs.declared.limits.TheConstants.{FILTERS_MAX};
 ghost use Rattle.std.specs.Prelude.{◌≡◌, ◌<◌, ◌≤◌, ◌+◌, ℕ, Bool, length, vec_capacity, if◌then◌else◌};
 ghost use Rattle.std.specs.List.{count_by};
 ghost use Rattle.filter_tables.specs.Handles.{IsRising, IsPlaceFor, times};
@@ -41,7 +42,7 @@ pub(crate) fn drop_handle(handles: &mut Vec<u32>, handle: u32)
 pub(crate) fn lowest_free(handles: &[u32]) -> u32
     requires rising { IsRising handles.now }
     requires from_one { times 0 handles.now ≡ 0 }
-    requires few { length handles.now ≤ 4096 }
+    requires few { length handles.now ≤ FILTERS_MAX }
     ensures from_one { 1 ≤ result }
     ensures free { times result handles.now ≡ 0 }
     ensures lowest { (lower : ℕ) → 1 ≤ lower → lower < result → 0 < times lower handles.now }

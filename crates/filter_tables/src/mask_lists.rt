@@ -1,4 +1,5 @@
 //! The masks of one table, and the handles of its filters beside them.
+ghost use Rattle.filter_state.specs.declared.limits.TheConstants.{FILTERS_MAX};
 ghost use Rattle.std.specs.Prelude.{◌≡◌, ◌<◌, ◌≤◌, ◌++◌, ◌∷◌, [], length, map, find, option_map, Some, OnOk, false};
 ghost use Rattle.std.specs.List.{list_any};
 ghost use Rattle.filter_index.specs.Listed.{has_handle, has_key, without};
@@ -105,7 +106,7 @@ impl MaskLists {
 
     /// The lowest handle from 1 that no filter has.
     pub fn free_handle(&self) -> u32
-        requires { count_of self.now.masks ≤ 4096 }
+        requires { count_of self.now.masks ≤ FILTERS_MAX }
         ensures { IsLowestFree self.now.masks result }
     {
         lowest_free(&self.handles)

@@ -1,4 +1,5 @@
 -- A frame that is being edited. Its limits are this project's own.
+use Rattle.frame_edit.specs.declared.limits.TheConstants.{FRAME_MAX}
 use Rattle.std.specs.Prelude.{◌≡◌, ℕ, ◌+◌, ◌≤◌, Bool, ◌&&◌, ◌||◌, nat_lt, List, length}
 use Rattle.frame_edit.specs.declared.meta.Meta.{Meta}
 use Rattle.frame_edit.specs.Metadata.{no_meta}
@@ -22,7 +23,7 @@ with_bytes frame bytes = record { bytes = bytes; loaded = frame.loaded; meta = f
 -- no room.
 abbrev pub lacks_room : EditedFrame → Bool
 lacks_room frame =
-    has_ethernet frame.bytes && (nat_lt (frame.loaded + 64) (length frame.bytes + 4) || nat_lt 262144 (length frame.bytes + 4))
+    has_ethernet frame.bytes && (nat_lt (frame.loaded + 64) (length frame.bytes + 4) || nat_lt FRAME_MAX (length frame.bytes + 4))
 
 -- where a frame lies in its buffer of 64 and 262,144 bytes, so that `end` stands 64 past the loaded length
 pub record IsPlaced (buffer : List ℕ) (start end : ℕ) : Type 0 where
@@ -30,4 +31,4 @@ pub record IsPlaced (buffer : List ℕ) (start end : ℕ) : Type 0 where
   pub ordered : start ≤ end
   pub head : 64 ≤ end
   pub inside : end ≤ 262208
-  pub within : end ≤ start + 262144
+  pub within : end ≤ start + FRAME_MAX

@@ -1,3 +1,4 @@
+ghost use Rattle.frame_edit.specs.declared.limits.TheConstants.{FRAME_MAX};
 ghost use Rattle.std.specs.Prelude.{◌≡◌, ◌+◌, ◌≤◌, ◌<◌, length, IfOk, OnOk, OnErr, []};
 ghost use Rattle.std.specs.Option.{ForSome};
 ghost use Rattle.std.specs.Result.{is_err};
@@ -5,13 +6,11 @@ ghost use Rattle.frame_edit.specs.Tags.{ether_type_of, pushed, popped, modified}
 ghost use Rattle.frame_edit.specs.EditedFrame.{loaded_frame, with_bytes, lacks_room};
 
 use crate::Meta;
+use crate::limits::FRAME_MAX;
 use crate::tag::{self, ADDRESSES, HEADER, TAG};
 use std::alloc::Global;
 use std::marker::Model;
 use tc_base::NoMemory;
-
-/// The most bytes of a frame.
-const MOST: usize = 262_144;
 
 /// The most bytes by which a frame may grow past its loaded length, and so the head room.
 const GROWTH: usize = 64;
@@ -51,7 +50,7 @@ impl Frame {
     pub fn with_room(alloc: Global) -> Result<Frame, NoMemory>
         ensures { IfOk result (λ frame. frame ≡ loaded_frame []) }
     {
-        let buffer = vec![in alloc; 0u8; GROWTH + MOST]?;
+        let buffer = vec![in alloc; 0u8; GROWTH + FRAME_MAX]?;
         Ok(Frame {
             buffer,
             start: GROWTH,
@@ -62,7 +61,7 @@ impl Frame {
 
     /// A copy of these bytes in place of the frame, with no metadata set.
     pub fn load(&mut self, bytes: &[u8])
-        requires { length bytes.now ≤ 262144 }
+        requires { length bytes.now ≤ FRAME_MAX }
         ensures { self.new ≡ loaded_frame bytes.now }
     {
         self.start = GROWTH;
@@ -75,7 +74,7 @@ impl Frame {
     #[inline]
     pub fn bytes(&self) -> &[u8]
         ensures bytes { result.now ≡ self.now.bytes }
-        ensures within { length result.now ≤ 262144 }
+        ensures within { length result.now ≤ FRAME_MAX }
         ensures growth { length result.now ≤ self.now.loaded + 64 }
     {
         &self.buffer[self.start..self.end]
@@ -121,7 +120,7 @@ impl Frame {
         if length < HEADER {
             return Ok(());
         }
-        if self.start < TAG || length + TAG > MOST {
+        if self.start < TAG || length + TAG > FRAME_MAX {
             return Err(NoRoom);
         }
         self.start -= TAG;

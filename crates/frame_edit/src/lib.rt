@@ -16,10 +16,12 @@
 #![tactic(auto)]
 
 mod frame;
+mod limits;
 mod meta;
 mod tag;
 #[cfg(test)]
 mod tests;
 
 pub use frame::{Frame, NoRoom};
+pub use limits::FRAME_MAX;
 pub use meta::Meta;

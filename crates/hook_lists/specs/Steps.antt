@@ -1,4 +1,5 @@
 -- What the calls make of what is kept, and what they ask for.
+use Rattle.act_registry.specs.declared.limits.TheConstants.{ACTIONS_MAX, MADE_MAX}
 use Rattle.std.specs.Prelude.{◌≡◌, ◌+◌, ◌≤◌, List, length, Option, Some, None, Result, Ok, Err}
 use Rattle.filter_state.specs.declared.refusal.Refusal.{Refusal}
 use Rattle.filter_state.specs.declared.refusal.Refusal.TheVariants as refusals
@@ -27,8 +28,8 @@ pub record IsRoomier (old new : Kept) : Type 0 where
 pub record PlanFits (kept : Kept) (plan : List PlannedAction) : Type 0 where
   pub fit : AreFit (made_of kept.actions) plan
   pub room : made_by plan ≤ kept.actions.spare
-  pub few : length kept.actions.entries + made_by plan ≤ 1024
-  pub in_run : kept.actions.made + made_by plan ≤ 16384
+  pub few : length kept.actions.entries + made_by plan ≤ ACTIONS_MAX
+  pub in_run : kept.actions.made + made_by plan ≤ MADE_MAX
 
 -- all but the actions is as before
 pub record SameTables (old new : Kept) : Type 0 where

@@ -1,5 +1,6 @@
 //! Why an edit of filters is refused: each check gives the refusal that the state's own condition gives. A table is found once, and
 //! its place handed on.
+ghost use Rattle.filter_state.specs.declared.limits.TheConstants.{MASKS_MAX};
 ghost use Rattle.std.specs.Prelude.{◌≡◌, ◌<◌, ◌&&◌, not, nat_le, length, find, is_some, Some};
 ghost use Rattle.filter_state.specs.Refusals.{no_hook, protocol_clash, protocol_clash_if, exists_but, masks_full};
 ghost use Rattle.filter_index.specs.Listed.{has_key};
@@ -15,13 +16,10 @@ ghost use Rattle.hook_lists.specs.Steps.{refusal_of};
 
 use crate::kept::Kept;
 use filter_index::Filters;
-use filter_state::Refusal;
+use filter_state::{MASKS_MAX, Refusal};
 use filter_tables::{FilterTable, FilterTables, MaskList, MaskLists};
 use flow_fields::Key;
 use tc_base::{Hook, Proto};
-
-// How many masks a table may have (this project's own).
-const MASKS_MAX: usize = 16;
 
 /// The tables of a hook.
 pub fn tables_of(kept: &Kept, hook: Hook) -> &FilterTables
@@ -174,7 +172,7 @@ fn other_with_key(filters: &Filters, left: Option<u32>, key: &Key<14>) -> Option
 
 // Whether that mask would be one too many.
 fn has_no_room(masks: &MaskLists, mask: &Key<14>) -> bool
-    ensures { result ≡ (not (is_some (place_where (has_words mask.now.words) masks.now.masks)) && nat_le 16 (length masks.now.masks)) }
+    ensures { result ≡ (not (is_some (place_where (has_words mask.now.words) masks.now.masks)) && nat_le MASKS_MAX (length masks.now.masks)) }
 {
     masks.find_mask(mask).is_none() && masks.as_slice().len() >= MASKS_MAX
 }

@@ -1,4 +1,5 @@
 //! The actions of a line, against what is kept.
+ghost use Rattle.filter_state.specs.declared.limits.TheConstants.{LINE_ACTIONS_MAX};
 ghost use Rattle.std.specs.Prelude.{◌≡◌, ◌≤◌, length, [], OnOk, IfOk};
 ghost use Rattle.filter_state.specs.Lines.{AreFilterActions};
 ghost use Rattle.filter_state.specs.Actions.{all_unbound};
@@ -11,15 +12,10 @@ ghost use Rattle.hook_lists.specs.States.{state_of, AreKept};
 ghost use Rattle.hook_lists.specs.Steps.{refusal_of, IsRoomier, PlanFits, SameTables};
 
 use crate::kept::Kept;
+use act_registry::{ACTIONS_MAX, MADE_MAX};
 use action_plan::{ActionPlan, PlannedActions, unbind_all};
 use filter_state::{ActionLines, Refusal};
 use tc_base::NoMemory;
-
-// How many actions may be live at once (this project's own).
-const ACTIONS_MAX: usize = 1024;
-
-// How many actions may be made in a run (this project's own).
-const MADE_MAX: u32 = 16384;
 
 /// Plans the actions of a line.
 ///
@@ -27,7 +23,7 @@ const MADE_MAX: u32 = 16384;
 pub fn resolve(kept: &Kept, lines: &ActionLines, plan: &mut ActionPlan) -> Result<(), Refusal>
     requires empty { plan.old ≡ [] }
     requires lines { AreFilterActions lines.now }
-    requires few { length lines.now ≤ 16 }
+    requires few { length lines.now ≤ LINE_ACTIONS_MAX }
     ensures { PlanTold (made_of kept.now.actions) (resolved_for (state_of kept.now) lines.now) (plan_or plan.new result) }
 {
     plan.fill(&kept.actions, lines.as_slice())

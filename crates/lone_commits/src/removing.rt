@@ -1,4 +1,5 @@
 //! A filter that is taken out of the lone mask.
+ghost use Rattle.block_codec.specs.declared.places.TheConstants.{POOL_BLOCKS};
 ghost use Rattle.std.specs.Prelude.{◌≡◌, ℕ, ◌+◌, ◌<◌, ◌≤◌, List, ◌∷◌, ◌++◌, length, slice_get, Some};
 ghost use Rattle.store_history.specs.declared.history.Commit.{Commit};
 ghost use Rattle.store_history.specs.History.{root_of};
@@ -24,7 +25,7 @@ pub fn a_removal_follows()
     ensures follows { (h : List (Commit Change)) (mirror : Mirror) (shape : Shape) (cells : List ℕ) (kept : KeptMask) (last handle root : ℕ) (front : List StoredFilter) (old : StoredFilter) (given : List ℕ)
         → IsKept mirror shape cells (root_of h) → Stands mirror 0 kept → HasFilters mirror 0 last (now h) → kept.mask.size ≡ size_of (length (now h))
         → FilterAt (root_of h) kept.mask handle root front old → HaveOwnHandles (now h) → HaveOwnKeys (now h)
-        → length front ≤ length given → ((place b : ℕ) → slice_get given place ≡ Some b → b < 16384)
+        → length front ≤ length given → ((place b : ℕ) → slice_get given place ≡ Some b → b < POOL_BLOCKS)
         → Follows h (remove_at h root given front (point_of h + 1) (changes.Take handle)) }
     ensures front { (h : List (Commit Change)) (mirror : Mirror) (shape : Shape) (cells : List ℕ) (kept : KeptMask) (last handle root : ℕ) (front : List StoredFilter) (found : StoredFilter)
         (earlier : List StoredFilter) (old : StoredFilter) (later : List StoredFilter)

@@ -1,4 +1,5 @@
 -- Filters that are looked for by their handle (this project's own).
+use Rattle.block_codec.specs.declared.places.TheConstants.{BUCKET_ROOTS}
 use Rattle.std.specs.Prelude.{◌≡◌, ℕ, ◌+◌, List, length, map, slice_index_or, Option, Some, None}
 use Rattle.store_history.specs.declared.history.Link.{Link}
 use Rattle.store_history.specs.declared.history.Named.{Named}
@@ -16,6 +17,6 @@ pub record HasHandle (filters : List (Option StoredFilter)) (handle b : ℕ) : T
 pub record IsFound (roots : ℕ → Named) (mask : StoredMask) (handle place count : ℕ) (blocks : List ℕ) : Type 0 where
   pub front : List StoredFilter
   pub filter : StoredFilter
-  pub there : FilterAt roots mask handle (10243 + place) front filter
+  pub there : FilterAt roots mask handle (BUCKET_ROOTS + place) front filter
   pub counted : length front ≡ count
-  pub blocks_are : map (λ (l : Link). l.block) (roots (10243 + place)).chain ≡ blocks
+  pub blocks_are : map (λ (l : Link). l.block) (roots (BUCKET_ROOTS + place)).chain ≡ blocks

@@ -1,4 +1,5 @@
 //! Filters that are taken out of masks, and others that take their places.
+ghost use Rattle.block_codec.specs.declared.places.TheConstants.{BLOCK_WORDS, MASK_SLOTS, POOL_BLOCKS, ROOTS};
 ghost use Rattle.std.specs.Prelude.{◌≡◌, ◌≢◌, ℕ, ◌+◌, ◌<◌, ◌≤◌, ◌++◌, ◌∷◌, [], List, length, map, take};
 ghost use Rattle.store_history.specs.declared.history.Link.{Link};
 ghost use Rattle.store_history.specs.History.{root_of};
@@ -39,8 +40,8 @@ pub fn take_out<L: Law, E: EditName<L::Entry>>(
     edit: Point,
 )
     requires store { IsSeatOf store.now writer.old.place }
-    requires shape { (store.now.shape.words ≡ 40) × (16384 ≤ store.now.shape.blocks) × (141315 ≤ store.now.shape.roots) }
-    requires slot { slot < 8192 }
+    requires shape { (store.now.shape.words ≡ BLOCK_WORDS) × (POOL_BLOCKS ≤ store.now.shape.blocks) × (ROOTS ≤ store.now.shape.roots) }
+    requires slot { slot < MASK_SLOTS }
     requires there { (kept : KeptMask) × (root : ℕ) × (front : List StoredFilter) × (filter : StoredFilter)
         × Stands mirror.old slot kept × FilterAt (root_of (seen_by writer.old.place)) kept.mask handle root front filter }
     requires many { (kept : KeptMask) (root : ℕ) (front : List StoredFilter) (filter : StoredFilter) → Stands mirror.old slot kept
@@ -98,8 +99,8 @@ pub fn exchange<L: Law, E: EditName<L::Entry>>(
     edit: Point,
 )
     requires store { IsSeatOf store.now writer.old.place }
-    requires shape { (store.now.shape.words ≡ 40) × (16384 ≤ store.now.shape.blocks) × (141315 ≤ store.now.shape.roots) }
-    requires slot { slot < 8192 }
+    requires shape { (store.now.shape.words ≡ BLOCK_WORDS) × (POOL_BLOCKS ≤ store.now.shape.blocks) × (ROOTS ≤ store.now.shape.roots) }
+    requires slot { slot < MASK_SLOTS }
     requires storable { IsStorableFilter filter.now }
     requires there { (kept : KeptMask) × (front : List StoredFilter) × (old : StoredFilter)
         × Stands mirror.old slot kept × FilterAt (root_of (seen_by writer.old.place)) kept.mask filter.now.handle (root_for kept.mask filter.now) front old }

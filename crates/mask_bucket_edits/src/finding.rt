@@ -1,4 +1,5 @@
 //! Where the filter with a handle stands.
+ghost use Rattle.block_codec.specs.declared.places.TheConstants.{BUCKETS, BUCKET_ROOTS, MASK_SLOTS, POOL_BLOCKS};
 ghost use Rattle.std.specs.Prelude.{◌≡◌, ◌+◌, ◌<◌, ◌≤◌, ◌↔◌, ℕ, List, length, slice_get, slice_index, Some, None, IfSome, IsTrue, All};
 ghost use Rattle.store_history.specs.declared.history.Named.{Named};
 ghost use Rattle.pin_store.specs.declared.shape.Shape.{Shape};
@@ -19,7 +20,7 @@ pub struct Found {
 
 // A filter with the handle is kept in the block.
 fn has_handle(mirror: &Mirror, block: u32, handle: u32) -> bool
-    requires { block < 16384 }
+    requires { block < POOL_BLOCKS }
     ensures { IsTrue result ↔ HasHandle mirror.now.filters.items handle block }
 {
     match &mirror.filters[block as usize] {
@@ -30,7 +31,7 @@ fn has_handle(mirror: &Mirror, block: u32, handle: u32) -> bool
 
 // How many of the blocks stand in front of one with such a filter, or None where there is none.
 pub(crate) fn count_before(mirror: &Mirror, blocks: &[u32], handle: u32) -> Option<usize>
-    requires { All (λ b. b < 16384) blocks.now }
+    requires { All (λ b. b < POOL_BLOCKS) blocks.now }
     ensures found { IfSome result (λ count. (b : ℕ) × (slice_get blocks.now count ≡ Some b) × HasHandle mirror.now.filters.items handle b) }
     ensures none { result ≡ None → (place b : ℕ) → slice_get blocks.now place ≡ Some b → HasHandle mirror.now.filters.items handle b → ⊥ }
 {
@@ -44,7 +45,7 @@ pub(crate) fn count_before(mirror: &Mirror, blocks: &[u32], handle: u32) -> Opti
 
 // Puts the chain of the bucket at a place into the room, and answers how many of its filters stand in front of one with the handle, if there is one.
 fn look(room: &mut NumberRoom, mirror: &Mirror, place: u32, handle: u32) -> Option<usize>
-    requires small { place < 131072 }
+    requires small { place < BUCKETS }
     requires spelled { (blocks : List ℕ) × Spells mirror.now.next.items (slice_index mirror.now.first.items place) blocks }
     ensures room { (blocks : List ℕ) → Spells mirror.now.next.items (slice_index mirror.now.first.items place) blocks → room.new ≡ blocks }
     ensures found { IfSome result (λ count. (b : ℕ) × (slice_get room.new count ≡ Some b) × HasHandle mirror.now.filters.items handle b) }
@@ -59,7 +60,7 @@ fn look(room: &mut NumberRoom, mirror: &Mirror, place: u32, handle: u32) -> Opti
 fn find_among(room: &mut NumberRoom, mirror: &Mirror, kept: &KeptMask, handle: u32) -> Found
     requires there { (slot : ℕ) × (shape : Shape) × (cells : List ℕ) × (roots : ℕ → Named) × (root : ℕ) × (front : List StoredFilter) × (filter : StoredFilter)
         × Stands mirror.now slot kept.now × IsKept mirror.now shape cells roots × FilterAt roots kept.now.mask handle root front filter }
-    ensures small { result.place < 131072 }
+    ensures small { result.place < BUCKETS }
     ensures found { (slot : ℕ) (shape : Shape) (cells : List ℕ) (roots : ℕ → Named) → Stands mirror.now slot kept.now → IsKept mirror.now shape cells roots
         → IsFound roots kept.now.mask handle result.place result.front room.new }
 {
@@ -74,10 +75,10 @@ fn find_among(room: &mut NumberRoom, mirror: &Mirror, kept: &KeptMask, handle: u
 
 /// Finds a filter with a handle in the mask at a slot, which has one, and puts the chain of its bucket into the room.
 pub fn find(room: &mut NumberRoom, mirror: &Mirror, slot: u32, handle: u32) -> Found
-    requires slot { slot < 8192 }
+    requires slot { slot < MASK_SLOTS }
     requires there { (kept : KeptMask) × (shape : Shape) × (cells : List ℕ) × (roots : ℕ → Named) × (root : ℕ) × (front : List StoredFilter) × (filter : StoredFilter)
         × Stands mirror.now slot kept × IsKept mirror.now shape cells roots × FilterAt roots kept.mask handle root front filter }
-    ensures small { result.place < 131072 }
+    ensures small { result.place < BUCKETS }
     ensures found { (kept : KeptMask) (shape : Shape) (cells : List ℕ) (roots : ℕ → Named) → Stands mirror.now slot kept → IsKept mirror.now shape cells roots
         → IsFound roots kept.mask handle result.place result.front room.new }
 {
@@ -90,11 +91,11 @@ pub fn find(room: &mut NumberRoom, mirror: &Mirror, slot: u32, handle: u32) -> F
 /// How many filters stand in front of one with a handle in the bucket at a place, which has one. The bucket's chain is put into the
 /// room.
 pub fn find_in(room: &mut NumberRoom, mirror: &Mirror, place: u32, handle: u32) -> usize
-    requires small { place < 131072 }
+    requires small { place < BUCKETS }
     requires there { (slot : ℕ) × (kept : KeptMask) × (shape : Shape) × (cells : List ℕ) × (roots : ℕ → Named) × (front : List StoredFilter) × (filter : StoredFilter)
-        × Stands mirror.now slot kept × IsKept mirror.now shape cells roots × FilterAt roots kept.mask handle (10243 + place) front filter }
+        × Stands mirror.now slot kept × IsKept mirror.now shape cells roots × FilterAt roots kept.mask handle (BUCKET_ROOTS + place) front filter }
     ensures found { (slot : ℕ) (kept : KeptMask) (shape : Shape) (cells : List ℕ) (roots : ℕ → Named) (front : List StoredFilter) (filter : StoredFilter)
-        → Stands mirror.now slot kept → IsKept mirror.now shape cells roots → FilterAt roots kept.mask handle (10243 + place) front filter
+        → Stands mirror.now slot kept → IsKept mirror.now shape cells roots → FilterAt roots kept.mask handle (BUCKET_ROOTS + place) front filter
         → IsFound roots kept.mask handle place result room.new }
 {
     match look(room, mirror, place, handle) {

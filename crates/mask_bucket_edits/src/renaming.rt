@@ -1,4 +1,5 @@
 //! A bucket's root that comes to name another chain.
+ghost use Rattle.block_codec.specs.declared.places.TheConstants.{BLOCK_WORDS, BUCKETS, BUCKET_ROOTS, POOL_BLOCKS, ROOTS};
 ghost use Rattle.std.specs.Prelude.{◌≡◌, ℕ, ◌+◌, ◌<◌, ◌≤◌, ◌++◌, ◌∷◌, [], List, Some};
 ghost use Rattle.store_history.specs.History.{root_of};
 ghost use Rattle.pin_store.specs.Layout.{commit_of};
@@ -25,18 +26,18 @@ pub fn rename<L: Law, E: EditName<L::Entry>>(
     edit: Point,
 )
     requires store { IsSeatOf store.now writer.old.place }
-    requires shape { (store.now.shape.words ≡ 40) × (16384 ≤ store.now.shape.blocks) × (141315 ≤ store.now.shape.roots) }
-    requires place { place < 131072 }
+    requires shape { (store.now.shape.words ≡ BLOCK_WORDS) × (POOL_BLOCKS ≤ store.now.shape.blocks) × (ROOTS ≤ store.now.shape.roots) }
+    requires place { place < BUCKETS }
     requires kept { IsKept mirror.old store.now.shape (sheet_of writer.old.place).cells (root_of (seen_by writer.old.place)) }
-    requires chain { (own : BucketAt mirror.old (10243 + place)) × (blocks : List ℕ)
+    requires chain { (own : BucketAt mirror.old (BUCKET_ROOTS + place)) × (blocks : List ℕ)
         × HoldsChain mirror.old store.now.shape (sheet_of writer.old.place).cells own.kept.mask.size own.bucket number blocks
-        × AreOwn mirror.old (root_of (seen_by writer.old.place)) (10243 + place) blocks }
+        × AreOwn mirror.old (root_of (seen_by writer.old.place)) (BUCKET_ROOTS + place) blocks }
     requires lawful { (blocks : List ℕ) → Spells mirror.old.next.items number blocks → L.keeps
-        (seen_by writer.old.place ++ commit_of store.now.shape (sheet_of writer.old.place).cells (10243 + place) blocks edit (Some edit) E.edit ∷ [])
+        (seen_by writer.old.place ++ commit_of store.now.shape (sheet_of writer.old.place).cells (BUCKET_ROOTS + place) blocks edit (Some edit) E.edit ∷ [])
         (base_of (sheet_of writer.old.place)) }
     ensures store { IsSeatOf store.now writer.new.place }
     ensures seen { (blocks : List ℕ) → Spells mirror.old.next.items number blocks → seen_by writer.new.place
-        ≡ seen_by writer.old.place ++ commit_of store.now.shape (sheet_of writer.old.place).cells (10243 + place) blocks edit (Some edit) E.edit ∷ [] }
+        ≡ seen_by writer.old.place ++ commit_of store.now.shape (sheet_of writer.old.place).cells (BUCKET_ROOTS + place) blocks edit (Some edit) E.edit ∷ [] }
     ensures sheet { sheet_of writer.new.place ≡ sheet_of writer.old.place }
     ensures renamed { IsRenamed mirror.old mirror.new place number }
     ensures kept { IsKept mirror.new store.now.shape (sheet_of writer.new.place).cells (root_of (seen_by writer.new.place)) }

@@ -1,4 +1,5 @@
 //! What stands in front of a place of a bucket's chain, written anew.
+ghost use Rattle.block_codec.specs.declared.places.TheConstants.{BLOCK_WORDS, BUCKETS, BUCKET_ROOTS, POOL_BLOCKS, ROOTS};
 ghost use Rattle.std.specs.Prelude.{◌≡◌, ◌≢◌, ℕ, ◌+◌, ◌<◌, ◌≤◌, ◌++◌, ◌∷◌, [], List, length, take, Some};
 ghost use Rattle.store_history.specs.History.{root_of};
 ghost use Rattle.store_history.specs.Reads.{read_all};
@@ -41,21 +42,21 @@ pub fn rewrite<L: Law, E: EditName<L::Entry>>(
     edit: Point,
 )
     requires store { IsSeatOf store.now writer.old.place }
-    requires shape { (store.now.shape.words ≡ 40) × (16384 ≤ store.now.shape.blocks) × (141315 ≤ store.now.shape.roots) }
-    requires small { found.place < 131072 }
+    requires shape { (store.now.shape.words ≡ BLOCK_WORDS) × (POOL_BLOCKS ≤ store.now.shape.blocks) × (ROOTS ≤ store.now.shape.roots) }
+    requires small { found.place < BUCKETS }
     requires found { (slot handle : ℕ) × (kept : KeptMask) × Stands mirror.old slot kept
         × IsFound (root_of (seen_by writer.old.place)) kept.mask handle found.place found.front blocks.now
-        × ((filter : StoredFilter) → IsAmong filter (listed with) → 10243 + found.place ≡ root_for kept.mask filter) }
+        × ((filter : StoredFilter) → IsAmong filter (listed with) → BUCKET_ROOTS + found.place ≡ root_for kept.mask filter) }
     requires storable { (filter : StoredFilter) → IsAmong filter (listed with) → IsStorableFilter filter }
     requires many { length given.now ≡ found.front + length (listed with) }
     requires given { AreGiven (base_of (sheet_of writer.old.place)) (seen_by writer.old.place) given.now }
     requires kept { IsKept mirror.old store.now.shape (sheet_of writer.old.place).cells (root_of (seen_by writer.old.place)) }
-    requires lawful { (front : List StoredFilter) → read_all filter_in (take found.front (root_of (seen_by writer.old.place) (10243 + found.place)).chain) ≡ Some front
-        → L.keeps (seen_by writer.old.place ++ rewrite_at (seen_by writer.old.place) (10243 + found.place) given.now (front ++ listed with) found.front edit E.edit ∷ [])
+    requires lawful { (front : List StoredFilter) → read_all filter_in (take found.front (root_of (seen_by writer.old.place) (BUCKET_ROOTS + found.place)).chain) ≡ Some front
+        → L.keeps (seen_by writer.old.place ++ rewrite_at (seen_by writer.old.place) (BUCKET_ROOTS + found.place) given.now (front ++ listed with) found.front edit E.edit ∷ [])
         (base_of (sheet_of writer.old.place)) }
     ensures store { IsSeatOf store.now writer.new.place }
-    ensures seen { (front : List StoredFilter) → read_all filter_in (take found.front (root_of (seen_by writer.old.place) (10243 + found.place)).chain) ≡ Some front
-        → seen_by writer.new.place ≡ seen_by writer.old.place ++ rewrite_at (seen_by writer.old.place) (10243 + found.place) given.now (front ++ listed with.entry) found.front edit E.edit ∷ [] }
+    ensures seen { (front : List StoredFilter) → read_all filter_in (take found.front (root_of (seen_by writer.old.place) (BUCKET_ROOTS + found.place)).chain) ≡ Some front
+        → seen_by writer.new.place ≡ seen_by writer.old.place ++ rewrite_at (seen_by writer.old.place) (BUCKET_ROOTS + found.place) given.now (front ++ listed with.entry) found.front edit E.edit ∷ [] }
     ensures sheet { IsSameButCells (sheet_of writer.old.place) (sheet_of writer.new.place) }
     ensures others { (other : ℕ) → (IsAmong other given.now → ⊥) → other < store.now.shape.blocks
         → block_words store.now.shape (sheet_of writer.new.place).cells other ≡ block_words store.now.shape (sheet_of writer.old.place).cells other }

@@ -1,4 +1,5 @@
 -- Filters that were laid into blocks for a mask that no root names yet (this project's own).
+use Rattle.block_codec.specs.declared.places.TheConstants.{POOL_BLOCKS}
 use Rattle.std.specs.Prelude.{◌≡◌, ℕ, ◌+◌, ◌<◌, List, [], ◌∷◌, map, slice_index}
 use Rattle.store_history.specs.declared.history.Commit.{Commit}
 use Rattle.pin_store.specs.declared.shape.Shape.{Shape}
@@ -44,7 +45,7 @@ pub record IsLaid (mirror : Mirror) (shape : Shape) (cells : List ℕ) (mask : S
 pub record IsReady {E : Type 0} (mirror : Mirror) (shape : Shape) (cells : List ℕ) (mask : StoredMask) (base : ℕ) (h : List (Commit E)) (block : ℕ) (xs : List Laid) : Type 0 where
   pub laid : IsLaid mirror shape cells mask xs
   pub free : (b : ℕ) → IsAmong b (laid_blocks xs) → IsUnnamed base h b
-  pub low : block < 16384
+  pub low : block < POOL_BLOCKS
   pub spare : IsUnnamed base h block
   pub apart : IsAmong block (laid_blocks xs) → ⊥
 

@@ -1,4 +1,5 @@
 //! A mask copied, and a block filled with its record.
+ghost use Rattle.block_codec.specs.declared.places.TheConstants.{BLOCK_WORDS};
 ghost use Rattle.std.specs.Prelude.{◌≡◌, ◌≢◌, ℕ, ◌<◌, ◌≤◌, length, None};
 ghost use Rattle.pin_store.specs.Layout.{block_words};
 ghost use Rattle.pin_store.specs.Sheets.{base_of, IsSameButCells};
@@ -41,7 +42,7 @@ pub(crate) fn fill_mask<L: Law>(
     mask: &StoredMask,
 )
     requires store { IsSeatOf store.now writer.old.place }
-    requires shape { (store.now.shape.words ≡ 40) × (at < store.now.shape.blocks) }
+    requires shape { (store.now.shape.words ≡ BLOCK_WORDS) × (at < store.now.shape.blocks) }
     requires storable { IsStorableMask mask.now }
     requires free { IsUnnamed (base_of (sheet_of writer.old.place)) (seen_by writer.old.place) at }
     ensures store { IsSeatOf store.now writer.new.place }

@@ -1,4 +1,5 @@
 //! Filters laid into blocks for a mask that no root names yet.
+ghost use Rattle.block_codec.specs.declared.places.TheConstants.{BLOCK_WORDS, POOL_BLOCKS};
 ghost use Rattle.std.specs.Prelude.{◌≡◌, ◌≢◌, ℕ, ◌<◌, ◌≤◌, ◌+◌, ◌*◌, ◌++◌, ◌∷◌, [], List, length, All};
 ghost use Rattle.store_history.specs.History.{root_of};
 ghost use Rattle.pin_store.specs.Layout.{block_words};
@@ -31,10 +32,10 @@ pub fn lay<L: Law>(
     age: u64,
 )
     requires store { IsSeatOf store.now writer.old.place }
-    requires shape { (store.now.shape.words ≡ 40) × (16384 ≤ store.now.shape.blocks) }
+    requires shape { (store.now.shape.words ≡ BLOCK_WORDS) × (POOL_BLOCKS ≤ store.now.shape.blocks) }
     requires mask { IsStorableMask mask.now }
     requires rows { AreFreeRows mirror.old mask.now.rows }
-    requires block { block < 16384 }
+    requires block { block < POOL_BLOCKS }
     requires storable { IsStorableFilter filter.now }
     requires free { IsUnnamed (base_of (sheet_of writer.old.place)) (seen_by writer.old.place) block }
     requires kept { IsKept mirror.old store.now.shape (sheet_of writer.old.place).cells (root_of (seen_by writer.old.place)) }
@@ -75,7 +76,7 @@ pub fn lay_all<L: Law>(
     edit: Point,
 )
     requires store { IsSeatOf store.now writer.old.place }
-    requires shape { (store.now.shape.words ≡ 40) × (16384 ≤ store.now.shape.blocks) }
+    requires shape { (store.now.shape.words ≡ BLOCK_WORDS) × (POOL_BLOCKS ≤ store.now.shape.blocks) }
     requires mask { IsStorableMask mask.now }
     requires rows { AreFreeRows mirror.old mask.now.rows }
     requires storable { All IsStorableFilter filters.now }

@@ -1,4 +1,5 @@
 //! The roots of a mask that come to name what was laid for it.
+ghost use Rattle.block_codec.specs.declared.places.TheConstants.{BLOCK_WORDS, MASK_SLOTS, POOL_BLOCKS, ROOTS};
 ghost use Rattle.std.specs.Prelude.{◌≡◌, ℕ, ◌<◌, ◌≤◌, ◌++◌, ◌∷◌, [], List, None};
 ghost use Rattle.pin_store.specs.Layout.{block_words};
 ghost use Rattle.pin_store.specs.Sheets.{base_of};
@@ -25,7 +26,7 @@ pub(crate) fn name_buckets<L: Law, E: EditName<L::Entry>>(
     stamp: Point,
 )
     requires store { IsSeatOf store.now writer.old.place }
-    requires shape { (store.now.shape.words ≡ 40) × (16384 ≤ store.now.shape.blocks) × (141315 ≤ store.now.shape.roots) }
+    requires shape { (store.now.shape.words ≡ BLOCK_WORDS) × (POOL_BLOCKS ≤ store.now.shape.blocks) × (ROOTS ≤ store.now.shape.roots) }
     requires mask { IsStorableMask mask.now }
     requires lawful { (xs : List Laid) × IsLaid mirror.now store.now.shape (sheet_of writer.old.place).cells mask.now xs
         × ((count : ℕ) → count ≤ mask.now.size → L.keeps (seen_by writer.old.place ++ bucket_commits mask.now (places xs) stamp count) (base_of (sheet_of writer.old.place))) }
@@ -51,9 +52,9 @@ pub(crate) fn name_mask<L: Law, E: EditName<L::Entry>>(
     stamp: Point,
 )
     requires store { IsSeatOf store.now writer.old.place }
-    requires shape { (store.now.shape.words ≡ 40) × (16384 ≤ store.now.shape.blocks) × (141315 ≤ store.now.shape.roots) }
-    requires slot { slot < 8192 }
-    requires block { block < 16384 }
+    requires shape { (store.now.shape.words ≡ BLOCK_WORDS) × (POOL_BLOCKS ≤ store.now.shape.blocks) × (ROOTS ≤ store.now.shape.roots) }
+    requires slot { slot < MASK_SLOTS }
+    requires block { block < POOL_BLOCKS }
     requires lawful { (mask : StoredMask) × IsMaskBlock (block_words store.now.shape (sheet_of writer.old.place).cells block) (mask, None)
         × L.keeps (seen_by writer.old.place ++ mask_commit slot mask block stamp ∷ []) (base_of (sheet_of writer.old.place)) }
     ensures store { IsSeatOf store.now writer.new.place }

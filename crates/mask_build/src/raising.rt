@@ -1,4 +1,5 @@
 //! A mask that comes to stand.
+ghost use Rattle.block_codec.specs.declared.places.TheConstants.{BLOCK_WORDS, MASK_SLOTS, POOL_BLOCKS, ROOTS};
 ghost use Rattle.std.specs.Prelude.{◌≡◌, ◌≢◌, ℕ, ◌+◌, ◌<◌, ◌≤◌, ◌++◌, List, take, slice_set, Some};
 ghost use Rattle.store_history.specs.History.{root_of};
 ghost use Rattle.pin_store.specs.Layout.{block_words};
@@ -36,8 +37,8 @@ pub fn raise<L: Law, E: EditName<L::Entry>>(
     stamp: Point,
 )
     requires store { IsSeatOf store.now writer.old.place }
-    requires shape { (store.now.shape.words ≡ 40) × (16384 ≤ store.now.shape.blocks) × (141315 ≤ store.now.shape.roots) }
-    requires slot { slot < 8192 }
+    requires shape { (store.now.shape.words ≡ BLOCK_WORDS) × (POOL_BLOCKS ≤ store.now.shape.blocks) × (ROOTS ≤ store.now.shape.roots) }
+    requires slot { slot < MASK_SLOTS }
     requires mask { IsStorableMask mask }
     requires rows { AreFreeRows mirror.old mask.rows }
     requires kept { IsKept mirror.old store.now.shape (sheet_of writer.old.place).cells (root_of (seen_by writer.old.place)) }

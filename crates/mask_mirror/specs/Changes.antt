@@ -1,4 +1,5 @@
 -- What the steps of an edit change of what is kept (this project's own).
+use Rattle.block_codec.specs.declared.places.TheConstants.{POOL_BLOCKS}
 use Rattle.std.specs.Prelude.{◌≡◌, ◌≢◌, ℕ, ◌<◌, ◌≤◌, List, slice_index, slice_index_or, slice_set, None}
 use Rattle.pin_store.specs.declared.shape.Shape.{Shape}
 use Rattle.pin_store.specs.Layout.{block_words}
@@ -6,7 +7,7 @@ use Rattle.mask_mirror.specs.declared.mirror.Mirror.{Mirror}
 
 -- a block was filled, and what is kept of it was written
 pub record IsFilled (mirror mirror2 : Mirror) (shape : Shape) (old new : List ℕ) (b : ℕ) : Type 0 where
-  pub wide : 16384 ≤ shape.blocks
+  pub wide : POOL_BLOCKS ≤ shape.blocks
   pub others : (other : ℕ) → other ≢ b → other < shape.blocks → block_words shape new other ≡ block_words shape old other
   pub slots : mirror2.slots.items ≡ mirror.slots.items
   pub first : mirror2.first.items ≡ mirror.first.items

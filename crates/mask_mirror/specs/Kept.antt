@@ -1,5 +1,6 @@
 -- What a writer of masks keeps of them, and that it is what the roots name (this project's own). `roots` tells what each root names at the
 -- end of all commits, `cells` are the words of all blocks.
+use Rattle.block_codec.specs.declared.places.TheConstants.{POOL_BLOCKS, MASK_SLOTS}
 use Rattle.std.specs.Prelude.{◌≡◌, ℕ, ◌+◌, ◌*◌, ◌/◌, ◌%◌, ◌<◌, List, [], ◌∷◌, slice_get, slice_index, slice_index_or, Option, Some, None}
 use Rattle.store_history.specs.declared.history.Link.{Link}
 use Rattle.store_history.specs.declared.history.Named.{Named}
@@ -24,11 +25,11 @@ Stands mirror slot kept = slice_index_or mirror.slots.items slot None ≡ Some k
 -- the blocks of the pool that are followed from a number on, which is the first one's number plus 1; the list has the next one's for each, and 0 is the end
 abbrev pub Spells : List ℕ → ℕ → List ℕ → Type 0
 Spells next number [] = number ≡ 0
-Spells next number (b ∷ blocks) = (number ≡ b + 1) × (b < 16384) × Spells next (slice_index next b) blocks
+Spells next number (b ∷ blocks) = (number ≡ b + 1) × (b < POOL_BLOCKS) × Spells next (slice_index next b) blocks
 
 -- a filter is kept for a block of the pool, and may be stored
 pub record HasFilter (filters : List (Option StoredFilter)) (b : ℕ) : Type 0 where
-  pub pool : b < 16384
+  pub pool : b < POOL_BLOCKS
   pub filter : StoredFilter
   pub kept : slice_index_or filters b None ≡ Some filter
   pub storable : IsStorableFilter filter
@@ -65,8 +66,8 @@ Names roots root b = (place : ℕ) × (l : Link) × (slice_get (roots root).chai
 
 -- the root of a mask names the record that is kept
 pub record KeepsMask (shape : Shape) (cells : List ℕ) (roots : ℕ → Named) (slot : ℕ) (kept : KeptMask) : Type 0 where
-  pub small : slot < 8192
-  pub low : kept.block < 16384
+  pub small : slot < MASK_SLOTS
+  pub low : kept.block < POOL_BLOCKS
   pub named : (roots (mask_root slot)).chain ≡ links_of shape cells (kept.block ∷ [])
   pub there : IsMaskBlock (block_words shape cells kept.block) (kept.mask, None)
 

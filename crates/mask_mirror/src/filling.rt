@@ -1,4 +1,5 @@
 //! A block filled with a filter, and the filter that is kept for a block.
+ghost use Rattle.block_codec.specs.declared.places.TheConstants.{BLOCK_WORDS};
 ghost use Rattle.std.specs.Prelude.{◌≡◌, ◌≢◌, ℕ, ◌<◌, slice_index_or, Some, None};
 ghost use Rattle.pin_store.specs.Layout.{block_words};
 ghost use Rattle.pin_store.specs.Sheets.{base_of, IsSameButCells};
@@ -21,7 +22,7 @@ pub(crate) fn fill_filter<L: Law>(
     link: Option<u32>,
 )
     requires store { IsSeatOf store.now writer.old.place }
-    requires shape { (store.now.shape.words ≡ 40) × (at < store.now.shape.blocks) }
+    requires shape { (store.now.shape.words ≡ BLOCK_WORDS) × (at < store.now.shape.blocks) }
     requires storable { IsStorableFilter filter.now }
     requires free { IsUnnamed (base_of (sheet_of writer.old.place)) (seen_by writer.old.place) at }
     ensures store { IsSeatOf store.now writer.new.place }

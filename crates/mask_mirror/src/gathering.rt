@@ -1,4 +1,5 @@
 //! The blocks of a chain, followed along the numbers that are kept.
+ghost use Rattle.block_codec.specs.declared.places.TheConstants.{MASK_SLOTS, POOL_BLOCKS};
 ghost use Rattle.std.specs.Prelude.{◌≡◌, ℕ, ◌+◌, ◌<◌, ◌≤◌, ◌++◌, ◌∷◌, [], List, length};
 ghost use Rattle.store_history.specs.declared.history.Named.{Named};
 ghost use Rattle.pin_store.specs.declared.shape.Shape.{Shape};
@@ -20,9 +21,9 @@ pub(crate) fn block_in(number: u32) -> Option<u32>
 
 /// Puts the blocks that are followed from a number on behind those that are there.
 pub fn gather(chain: &mut NumberRoom, next: &[u32], start: u32)
-    requires long { length next.now ≡ 16384 }
+    requires long { length next.now ≡ POOL_BLOCKS }
     requires spelled { (blocks : List ℕ) × Spells next.now start blocks }
-    requires few { (blocks : List ℕ) → Spells next.now start blocks → length chain.old + length blocks ≤ 16385 }
+    requires few { (blocks : List ℕ) → Spells next.now start blocks → length chain.old + length blocks ≤ POOL_BLOCKS + 1 }
     ensures { (blocks : List ℕ) → Spells next.now start blocks → chain.new ≡ chain.old ++ blocks }
 {
     let mut number = start;
@@ -49,7 +50,7 @@ fn gather_buckets(left: &mut NumberRoom, mirror: &Mirror, kept: &KeptMask)
 /// Puts all blocks and rows of the mask at a slot into the lists.
 pub fn gather_mask(left: &mut NumberRoom, rows: &mut NumberRoom, mirror: &Mirror, slot: u32)
     requires empty { (left.old ≡ []) × (rows.old ≡ []) }
-    requires slot { slot < 8192 }
+    requires slot { slot < MASK_SLOTS }
     requires stands { (kept : KeptMask) × Stands mirror.now slot kept }
     requires kept { (shape : Shape) × (cells : List ℕ) × (roots : ℕ → Named) × IsKept mirror.now shape cells roots }
     ensures blocks { (kept : KeptMask) (shape : Shape) (cells : List ℕ) (roots : ℕ → Named) → Stands mirror.now slot kept → IsKept mirror.now shape cells roots

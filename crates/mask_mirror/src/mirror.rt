@@ -1,4 +1,5 @@
 //! What a writer of masks keeps of what it committed.
+ghost use Rattle.block_codec.specs.declared.places.TheConstants.{BUCKETS, MASK_SLOTS, POOL_BLOCKS};
 ghost use Rattle.std.specs.Prelude.{◌≡◌, ℕ, length, slice_index_or, None, IfOk};
 
 use block_codec::places::{MASK_SLOTS, POOL_BLOCKS, ROW_BUCKETS, ROWS};
@@ -26,11 +27,11 @@ pub struct Mirror {
     pub filters: Vec<Option<StoredFilter>>,
     /// By block of the pool the age of its filter, which rises in the order of a mask's filters.
     pub ages: Vec<u64>,
-    pub ghost slots_long: { length slots.items ≡ 8192 },
-    pub ghost first_long: { length first.items ≡ 131072 },
-    pub ghost next_long: { length next.items ≡ 16384 },
-    pub ghost filters_long: { length filters.items ≡ 16384 },
-    pub ghost ages_long: { length ages.items ≡ 16384 },
+    pub ghost slots_long: { length slots.items ≡ MASK_SLOTS },
+    pub ghost first_long: { length first.items ≡ BUCKETS },
+    pub ghost next_long: { length next.items ≡ POOL_BLOCKS },
+    pub ghost filters_long: { length filters.items ≡ POOL_BLOCKS },
+    pub ghost ages_long: { length ages.items ≡ POOL_BLOCKS },
 }
 
 // So many places without anything.
@@ -46,6 +47,7 @@ fn empty_places<T: Drop>(alloc: Global, count: usize) -> Result<Vec<Option<T>>, 
 }
 
 impl Mirror {
+    ghost use Rattle.block_codec.specs.declared.places.TheConstants.{BUCKETS, MASK_SLOTS, POOL_BLOCKS};
     ghost use Rattle.std.specs.Prelude.{◌<◌, slice_set, Some};
 
     /// The mirror of a store without masks. No other call takes memory.
@@ -63,7 +65,7 @@ impl Mirror {
 
     /// Keeps a filter and its age in a block, which is linked to a chain that begins with the number.
     pub fn keep(&mut self, block: u32, filter: StoredFilter, age: u64, number: u32)
-        requires { block < 16384 }
+        requires { block < POOL_BLOCKS }
         ensures slots { self.new.slots.items ≡ self.old.slots.items }
         ensures first { self.new.first.items ≡ self.old.first.items }
         ensures next { self.new.next.items ≡ slice_set self.old.next.items block number }
@@ -77,7 +79,7 @@ impl Mirror {
 
     /// Keeps that the chain of the bucket at a place begins with the number.
     pub fn begin(&mut self, place: u32, number: u32)
-        requires { place < 131072 }
+        requires { place < BUCKETS }
         ensures slots { self.new.slots.items ≡ self.old.slots.items }
         ensures first { self.new.first.items ≡ slice_set self.old.first.items place number }
         ensures next { self.new.next.items ≡ self.old.next.items }
@@ -89,7 +91,7 @@ impl Mirror {
 
     /// Keeps a mask at a slot, or none.
     pub fn place(&mut self, slot: u32, mask: Option<KeptMask>)
-        requires { slot < 8192 }
+        requires { slot < MASK_SLOTS }
         ensures slots { self.new.slots.items ≡ slice_set self.old.slots.items slot mask }
         ensures first { self.new.first.items ≡ self.old.first.items }
         ensures next { self.new.next.items ≡ self.old.next.items }

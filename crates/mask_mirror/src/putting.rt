@@ -1,4 +1,5 @@
 //! A filter put in front of a chain that is kept.
+ghost use Rattle.block_codec.specs.declared.places.TheConstants.{BLOCK_WORDS, POOL_BLOCKS};
 ghost use Rattle.std.specs.Prelude.{◌≡◌, ◌≢◌, ℕ, ◌+◌, ◌<◌, ◌≤◌, ◌∷◌, List, slice_get, Some};
 ghost use Rattle.store_history.specs.History.{root_of};
 ghost use Rattle.pin_store.specs.Layout.{block_words, block_in};
@@ -30,8 +31,8 @@ pub fn put_in_front<L: Law>(
     number: u32,
 )
     requires store { IsSeatOf store.now writer.old.place }
-    requires shape { (store.now.shape.words ≡ 40) × (16384 ≤ store.now.shape.blocks) }
-    requires block { block < 16384 }
+    requires shape { (store.now.shape.words ≡ BLOCK_WORDS) × (POOL_BLOCKS ≤ store.now.shape.blocks) }
+    requires block { block < POOL_BLOCKS }
     requires storable { IsStorableFilter filter.now }
     requires free { IsUnnamed (base_of (sheet_of writer.old.place)) (seen_by writer.old.place) block }
     requires kept { IsKept mirror.old store.now.shape (sheet_of writer.old.place).cells (root_of (seen_by writer.old.place)) }

@@ -1,4 +1,5 @@
 //! The blocks of a mask, put in order by age.
+ghost use Rattle.block_codec.specs.declared.places.TheConstants.{POOL_BLOCKS};
 ghost use Rattle.std.specs.Prelude.{◌≡◌, ℕ, ◌<◌, List, map, All};
 ghost use Rattle.std.specs.List.Sorted.{IsPermutation};
 ghost use Rattle.store_history.specs.declared.history.Named.{Named};
@@ -17,7 +18,7 @@ pub fn in_order(room: &mut NumberRoom, mirror: &Mirror, slot: u32, blocks: &[u32
         × (blocks.now ≡ bucket_blocks roots kept.mask kept.mask.size) }
     ensures order { (last : ℕ) (fs : List StoredFilter) (has : HasFilters mirror.now slot last fs) → map (kept_in mirror.now) room.new ≡ map kept_as has.dated }
     ensures permutation { IsPermutation blocks.now room.new }
-    ensures pool { All (λ b. b < 16384) room.new }
+    ensures pool { All (λ b. b < POOL_BLOCKS) room.new }
 {
     room.clear();
     room.push_all(blocks);

@@ -1,4 +1,5 @@
 -- The buckets of a mask, and what a search of filters answers (this project's own).
+use Rattle.block_codec.specs.declared.places.TheConstants.{BUCKET_ROOTS, ROW_BUCKETS}
 use Rattle.std.specs.Prelude.{◌≡◌, ◌≢◌, ℕ, ◌+◌, ◌*◌, ◌/◌, ◌%◌, ◌==◌, Bool, true, false, List, [], ◌∷◌, ◌++◌, slice_get, slice_index, Some, if◌then◌else◌}
 use Rattle.flow_mask.specs.Hashes.{hash_of}
 use Rattle.flow_mask.specs.Masks.{each_and}
@@ -15,7 +16,7 @@ mask_root slot = 3 + slot
 
 -- sixteen buckets of a mask are a row
 abbrev pub bucket_root : StoredMask → ℕ → ℕ
-bucket_root mask bucket = 10243 + 16 * slice_index mask.rows (bucket / 16) + bucket % 16
+bucket_root mask bucket = BUCKET_ROOTS + ROW_BUCKETS * slice_index mask.rows (bucket / ROW_BUCKETS) + bucket % ROW_BUCKETS
 
 -- the bucket of a key, of so many
 abbrev pub bucket_for : ℕ → List ℕ → ℕ

@@ -1,4 +1,5 @@
 //! The look-up of a key in a mask.
+ghost use Rattle.block_codec.specs.declared.places.TheConstants.{MASK_SLOTS, ROOTS, ROWS};
 ghost use Rattle.std.specs.Prelude.{◌≡◌, ℕ, ◌+◌, ◌*◌, ◌-◌, ◌<◌, ◌≤◌, List, length, take, Some, All};
 ghost use mathlib.Core.List.{IsPrefix};
 ghost use Rattle.store_history.specs.History.{root_of};
@@ -91,7 +92,7 @@ fn search<L: Law, M: Ledger>(
 fn root_for(mask: &StoredMask, key: &Key<14>) -> u32
     requires size { 0 < mask.now.size }
     requires rows { mask.now.size ≡ 16 * length mask.now.rows }
-    requires small { All (λ row. row < 8192) mask.now.rows }
+    requires small { All (λ row. row < ROWS) mask.now.rows }
     ensures { result ≡ bucket_root mask.now (bucket_for mask.now.size key.now.words) }
 {
     let bucket = (hash(key) % u64::from(mask.size)) as u32;
@@ -122,8 +123,8 @@ pub fn lookup<L: MaskLaw, M: Ledger>(
     steps: &mut Steps<M>,
 ) -> (bool, Point)
     requires store { IsSeatOf store.now reader.old.place }
-    requires shape { (store.now.shape.words ≡ block_words) × (141315 ≤ store.now.shape.roots) }
-    requires slot { slot < 8192 }
+    requires shape { (store.now.shape.words ≡ block_words) × (ROOTS ≤ store.now.shape.roots) }
+    requires slot { slot < MASK_SLOTS }
     requires inside { IsInside reader.old.place }
     ensures store { IsSeatOf store.now reader.new.place }
     ensures same { IsSameReader reader.old.place reader.new.place }

@@ -1,4 +1,5 @@
 -- The two places of a hook's tables (this project's own).
+use Rattle.block_codec.specs.declared.places.TheConstants.{TABLES, HEAD_BLOCKS}
 use Rattle.std.specs.Prelude.{ℕ, ◌+◌, ◌-◌, ◌*◌, ◌==◌, List, [], ◌∷◌, Option, Some, None, if◌then◌else◌}
 use Rattle.tc_base.specs.declared.hook.Hook.{Hook}
 use Rattle.store_history.specs.declared.history.Link.{Link}
@@ -10,7 +11,7 @@ use Rattle.miniq_pair.specs.Heads.{hook_number, head_root}
 
 -- the first of the 256 blocks of a place of a hook
 abbrev pub first_block_of : Hook → ℕ → ℕ
-first_block_of hook place = 16384 + 256 * (2 * hook_number hook + place)
+first_block_of hook place = HEAD_BLOCKS + TABLES * (2 * hook_number hook + place)
 
 -- the place that isn't this one
 abbrev pub other_place : ℕ → ℕ

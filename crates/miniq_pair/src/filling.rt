@@ -1,4 +1,5 @@
 //! The blocks of a place, filled with tables.
+ghost use Rattle.block_codec.specs.declared.places.TheConstants.{BLOCK_WORDS, TABLES};
 ghost use Rattle.std.specs.Prelude.{◌≡◌, ◌≢◌, ℕ, ◌+◌, ◌<◌, ◌≤◌, ◌^◌, length, take, slice_get, Some, All};
 ghost use Rattle.std.specs.List.{range_with_len};
 ghost use Rattle.pin_store.specs.Layout.{block_words};
@@ -25,7 +26,7 @@ fn fill_table<L: Law>(
     link: Option<u32>,
 )
     requires store { IsSeatOf store.now writer.old.place }
-    requires shape { (store.now.shape.words ≡ 40) × (at < store.now.shape.blocks) }
+    requires shape { (store.now.shape.words ≡ BLOCK_WORDS) × (at < store.now.shape.blocks) }
     requires storable { IsStorableTable table.now }
     requires free { IsUnnamed (base_of (sheet_of writer.old.place)) (seen_by writer.old.place) at }
     ensures store { IsSeatOf store.now writer.new.place }
@@ -62,8 +63,8 @@ pub(crate) fn fill_tables<L: Law>(
     tables: &[StoredTable],
 )
     requires store { IsSeatOf store.now writer.old.place }
-    requires shape { (store.now.shape.words ≡ 40) × (first + length tables.now ≤ store.now.shape.blocks) }
-    requires few { length tables.now ≤ 256 }
+    requires shape { (store.now.shape.words ≡ BLOCK_WORDS) × (first + length tables.now ≤ store.now.shape.blocks) }
+    requires few { length tables.now ≤ TABLES }
     requires storable { All IsStorableTable tables.now }
     requires free { (place : ℕ) → place < length tables.now → IsUnnamed (base_of (sheet_of writer.old.place)) (seen_by writer.old.place) (first + place) }
     ensures store { IsSeatOf store.now writer.new.place }
@@ -84,8 +85,8 @@ pub(crate) fn fill_tables<L: Law>(
 
 // So many numbers of blocks, one after the other, in the front of the list.
 pub(crate) fn numbers_from(first: u32, count: usize) -> [u32; 256]
-    requires small { first + 256 < 2 ^ 32 }
-    requires few { count ≤ 256 }
+    requires small { first + TABLES < 2 ^ 32 }
+    requires few { count ≤ TABLES }
     ensures { take count result ≡ range_with_len first count }
 {
     let mut numbers = [0; 256];

@@ -6,6 +6,7 @@ use store_history::Law;
 ///
 /// It tells the tables of a hook after each number of the edits that commits carry. Whoever states it decides what these are.
 pub trait HeadLaw: Law {
+    ghost use Rattle.block_codec.specs.declared.places.TheConstants.{TABLES};
     ghost use Rattle.std.specs.Prelude.{◌≡◌, ℕ, List, length, take, ◌≤◌};
     ghost use Rattle.tc_base.specs.declared.hook.Hook.{Hook};
     ghost use Rattle.store_history.specs.declared.history.Commit.{Commit};
@@ -19,5 +20,5 @@ pub trait HeadLaw: Law {
         → TellsHead (λ k. heads h k hook) (root_of (take n h) (head_root hook)) (length (edits_of (take n h))) };
 
     // A hook has 256 tables at most. That a table has 16 masks at most is its block's own limit.
-    ghost few: { (h : List (Commit Self.Entry)) (b k : ℕ) (hook : Hook) → Self.keeps h b → b ≤ length h → length (heads h k hook) ≤ 256 };
+    ghost few: { (h : List (Commit Self.Entry)) (b k : ℕ) (hook : Hook) → Self.keeps h b → b ≤ length h → length (heads h k hook) ≤ TABLES };
 }

@@ -19,6 +19,7 @@ pub struct HeadPair {
 }
 
 impl HeadPair {
+    ghost use Rattle.block_codec.specs.declared.places.TheConstants.{BLOCKS, BLOCK_WORDS, TABLES};
     ghost use Rattle.std.specs.Prelude.{◌≢◌, ℕ, ◌+◌, ◌<◌, ◌∷◌, ◌++◌, [], length, All};
     ghost use Rattle.pin_store.specs.Layout.{block_words};
     ghost use Rattle.pin_store.specs.Sheets.{base_of, IsSameButCells};
@@ -52,16 +53,16 @@ impl HeadPair {
         edit: Point,
     )
         requires store { IsSeatOf store.now writer.old.place }
-        requires shape { (store.now.shape.words ≡ 40) × (17408 ≤ store.now.shape.blocks) × (3 ≤ store.now.shape.roots) }
-        requires few { length tables.now ≤ 256 }
+        requires shape { (store.now.shape.words ≡ BLOCK_WORDS) × (BLOCKS ≤ store.now.shape.blocks) × (3 ≤ store.now.shape.roots) }
+        requires few { length tables.now ≤ TABLES }
         requires storable { All IsStorableTable tables.now }
-        requires idle { (at : ℕ) → at < 256
+        requires idle { (at : ℕ) → at < TABLES
             → IsUnnamed (base_of (sheet_of writer.old.place)) (seen_by writer.old.place) (first_block_of self.old.hook (other_place self.old.active) + at) }
         requires lawful { L.keeps (seen_by writer.old.place ++ swap_commit self.old.hook (other_place self.old.active) tables.now edit E.edit ∷ []) (base_of (sheet_of writer.old.place)) }
         ensures store { IsSeatOf store.now writer.new.place }
         ensures seen { seen_by writer.new.place ≡ seen_by writer.old.place ++ swap_commit self.old.hook (other_place self.old.active) tables.now edit E.edit ∷ [] }
         ensures sheet { IsSameButCells (sheet_of writer.old.place) (sheet_of writer.new.place) }
-        ensures others { (other : ℕ) → ((at : ℕ) → at < 256 → other ≢ first_block_of self.old.hook (other_place self.old.active) + at) → other < store.now.shape.blocks
+        ensures others { (other : ℕ) → ((at : ℕ) → at < TABLES → other ≢ first_block_of self.old.hook (other_place self.old.active) + at) → other < store.now.shape.blocks
             → block_words store.now.shape (sheet_of writer.new.place).cells other ≡ block_words store.now.shape (sheet_of writer.old.place).cells other }
         ensures active { self.new.active ≡ other_place self.old.active }
         ensures hook { self.new.hook ≡ self.old.hook }

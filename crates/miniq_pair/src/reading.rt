@@ -1,4 +1,5 @@
 //! A reader's visit of a head.
+ghost use Rattle.block_codec.specs.declared.places.TheConstants.{TABLES};
 ghost use Rattle.std.specs.Prelude.{◌≡◌, ◌++◌, ◌∷◌, [], ◌+◌, ◌*◌, ◌<◌, ◌≤◌, length, option_map, Some};
 ghost use mathlib.Core.List.{IsPrefix};
 ghost use Rattle.pin_store.specs.Calls.{seen_by, floor_start, loads_of, IsInside, IsSeatOf, IsSameReader};
@@ -29,7 +30,7 @@ pub(crate) fn hook_number(hook: Hook) -> u32
 
 // Puts a table behind those that are there.
 fn push_table(into: &mut HeadRoom, table: &StoredTable)
-    requires { length into.old.tables < 256 }
+    requires { length into.old.tables < TABLES }
     ensures { into.new.tables ≡ into.old.tables ++ told_of table.now ∷ [] }
 {
     into.push(table.serial, table.chain, table.pref, table.protocol);

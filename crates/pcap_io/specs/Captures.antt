@@ -3,6 +3,7 @@
 -- LINKTYPE_ETHERNET = 1 of tcpdump.org/linktypes.html. The most bytes of a packet, 262,144, is libpcap's
 -- own most (MAXIMUM_SNAPLEN). Which fault comes first is this project's own: from left to right, and in a
 -- record its captured length before its bytes.
+use Rattle.pcap_io.specs.declared.layout.TheConstants.{PACKET_MAX}
 use Rattle.std.specs.Prelude.{◌≡◌, ◌≢◌, ◌⊎◌, ℕ, ◌+◌, ◌<◌, ◌≤◌, Bool, true, List, [], ◌∷◌, Some, None, length, take, drop, All}
 use Rattle.pcap_io.specs.declared.capture.Packet.{Packet}
 use Rattle.pcap_io.specs.declared.capture.Capture.{Capture}
@@ -14,7 +15,7 @@ use Rattle.pcap_io.specs.Layout.{number_in, Kind, kind_of}
 -- each, and then the captured bytes
 pub record IsPacketAt (big : Bool) (bytes : List ℕ) (at : ℕ) (packet : Packet) : Type 0 where
   pub whole : at + 16 + length packet.bytes ≤ length bytes
-  pub within : length packet.bytes ≤ 262144
+  pub within : length packet.bytes ≤ PACKET_MAX
   pub seconds : packet.seconds ≡ number_in big 4 (drop at bytes)
   pub fraction : packet.fraction ≡ number_in big 4 (drop (at + 4) bytes)
   pub captured : length packet.bytes ≡ number_in big 4 (drop (at + 8) bytes)
@@ -45,9 +46,9 @@ pub record IsCapture (bytes : List ℕ) (capture : Capture) : Type 0 where
 -- is above 262,144, or fewer bytes are left than it says
 abbrev pub PacketFails : Bool → List ℕ → ℕ → CaptureFault → Type 0
 PacketFails big bytes at (faults.CutRecord offset) = (offset ≡ at) × (at < length bytes)
-    × ((length bytes < at + 16) ⊎ ((number_in big 4 (drop (at + 8) bytes) ≤ 262144) × (length bytes < at + 16 + number_in big 4 (drop (at + 8) bytes))))
+    × ((length bytes < at + 16) ⊎ ((number_in big 4 (drop (at + 8) bytes) ≤ PACKET_MAX) × (length bytes < at + 16 + number_in big 4 (drop (at + 8) bytes))))
 PacketFails big bytes at (faults.TooLong offset len) = (offset ≡ at) × (at + 16 ≤ length bytes)
-    × (len ≡ number_in big 4 (drop (at + 8) bytes)) × (262144 < len)
+    × (len ≡ number_in big 4 (drop (at + 8) bytes)) × (PACKET_MAX < len)
 PacketFails big bytes at fault = ⊥
 
 -- a packet fails behind packets that stand from the header on
@@ -79,7 +80,7 @@ HasFault bytes fault = (kind : Kind) × IsHeader bytes kind.big kind.nanos × Fa
 
 -- each packet has at most 262,144 bytes
 abbrev pub AreShort : List Packet → Type 0
-AreShort packets = All (λ p. length p.bytes ≤ 262144) packets
+AreShort packets = All (λ p. length p.bytes ≤ PACKET_MAX) packets
 
 -- the same without want of memory
 abbrev pub IsFault : List ℕ → CaptureFault → Type 0

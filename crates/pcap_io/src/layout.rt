@@ -4,5 +4,8 @@ pub const HEADER: usize = 24;
 // The bytes before those of a packet: seconds, fraction, captured length and original length.
 pub const RECORD: usize = 16;
 
-// The most bytes of one packet. It is also the snap length that is written.
-pub const MOST: u32 = 262_144;
+/// The bytes of one packet at most (this project's own).
+pub const PACKET_MAX: u32 = 262_144;
+
+/// The snap length that is written (pcap-savefile(5)): no packet is longer.
+pub const SNAP_LENGTH: u32 = PACKET_MAX;

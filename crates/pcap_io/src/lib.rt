@@ -30,6 +30,7 @@ mod writing;
 pub use capture::{Capture, Packet, PacketView};
 pub use fault::CaptureFault;
 pub use law::one_reading;
+pub use layout::{PACKET_MAX, SNAP_LENGTH};
 pub use packet_iter::PacketIter;
 pub use packets::Packets;
 pub use reading::read;

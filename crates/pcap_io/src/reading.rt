@@ -4,7 +4,7 @@ ghost use Rattle.pcap_io.specs.Layout.{number_in, kind_of};
 ghost use Rattle.pcap_io.specs.Places.{packet_of};
 ghost use Rattle.pcap_io.specs.Captures.{IsCapture, IsHeader, IsPacketAt, StandFrom, PacketFault, FaultBehind, HasFault, AreShort};
 
-use crate::layout::{HEADER, MOST, RECORD};
+use crate::layout::{HEADER, PACKET_MAX, RECORD};
 use crate::{Capture, CaptureFault, PacketView, Packets};
 use byteorder::{BigEndian, ByteOrder, LittleEndian};
 use std::alloc::Global;
@@ -85,7 +85,7 @@ fn packet_at(big: bool, bytes: &[u8], at: usize) -> Result<PacketView<'_>, Captu
         return Err(cut);
     }
     let length = u32_at(big, bytes, at + 8);
-    if length > MOST {
+    if length > PACKET_MAX {
         return Err(CaptureFault::TooLong {
             offset: at as u64,
             length,

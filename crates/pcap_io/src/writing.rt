@@ -1,10 +1,11 @@
+ghost use Rattle.pcap_io.specs.declared.layout.TheConstants.{PACKET_MAX};
 ghost use Rattle.std.specs.Prelude.{◌≡◌, ◌++◌, ◌≤◌, length, OnOk, IfOk};
 ghost use Rattle.pcap_io.specs.Layout.{bytes_in};
 ghost use Rattle.pcap_io.specs.Places.{packet_of};
 ghost use Rattle.pcap_io.specs.Written.{magic_of, header_bytes, record_bytes, packet_bytes, capture_bytes};
 ghost use Rattle.pcap_io.specs.Captures.{AreShort, IsCapture, IsPacketAt};
 
-use crate::layout::{HEADER, MOST, RECORD};
+use crate::layout::{HEADER, RECORD, SNAP_LENGTH};
 use crate::{Capture, PacketView};
 use byteorder::{BigEndian, ByteOrder, LittleEndian};
 use std::alloc::{AllocError, Global};
@@ -48,14 +49,14 @@ fn put_header(out: &mut Vec<u8>, big: bool, nanos: bool) -> Result<(), AllocErro
     put_u16(out, big, 4)?;
     put_u32(out, big, 0)?;
     put_u32(out, big, 0)?;
-    put_u32(out, big, MOST)?;
+    put_u32(out, big, SNAP_LENGTH)?;
     put_u32(out, big, 1)
 }
 
 // The four numbers before a packet's bytes, in one piece so that they are appended at once.
 #[inline]
 fn record_of(big: bool, packet: PacketView<'_>) -> [u8; RECORD]
-    requires { length packet.bytes.now ≤ 262144 }
+    requires { length packet.bytes.now ≤ PACKET_MAX }
     ensures { result ≡ record_bytes big (packet_of packet.entry) }
 {
     let numbers = [
@@ -75,7 +76,7 @@ fn record_of(big: bool, packet: PacketView<'_>) -> [u8; RECORD]
 
 #[inline]
 fn put_packet(out: &mut Vec<u8>, big: bool, packet: PacketView<'_>) -> Result<(), AllocError>
-    requires { length packet.bytes.now ≤ 262144 }
+    requires { length packet.bytes.now ≤ PACKET_MAX }
     ensures bytes { OnOk result (out.new.items ≡ out.old.items ++ packet_bytes big (packet_of packet.entry)) }
     ensures stands { OnOk result (IsPacketAt big out.new.items (length out.old.items) (packet_of packet.entry)) }
 {

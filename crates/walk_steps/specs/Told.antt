@@ -1,4 +1,5 @@
 -- What a walk is told, without the slots.
+use Rattle.frame_edit.specs.declared.limits.TheConstants.{FRAME_MAX}
 use Rattle.walk_rules.specs.declared.limits.TheConstants.{VISITS_MAX}
 use Rattle.std.specs.Prelude.{ℕ, ◌≤◌, Bool, true, false, List, length, map}
 use Rattle.filter_state.specs.Sound.{Each}
@@ -35,4 +36,4 @@ execution pair = record { serial = pair.0; length = pair.1 }
 
 -- what one walk can run: 65,536 actions, each on a frame of 262,144 bytes at most
 abbrev pub IsShortRun : List (ℕ × ℕ) → Type 0
-IsShortRun executed = (length executed ≤ VISITS_MAX) × Each (λ (run : ℕ × ℕ). run.1 ≤ 262144) executed
+IsShortRun executed = (length executed ≤ VISITS_MAX) × Each (λ (run : ℕ × ℕ). run.1 ≤ FRAME_MAX) executed

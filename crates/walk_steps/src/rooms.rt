@@ -78,6 +78,7 @@ impl Model for ExecutionRoom {
 }
 
 impl ExecutionRoom {
+    ghost use Rattle.frame_edit.specs.declared.limits.TheConstants.{FRAME_MAX};
     ghost use Rattle.walk_rules.specs.declared.limits.TheConstants.{VISITS_MAX};
     ghost use Rattle.std.specs.Prelude.{◌≡◌, ◌<◌, ◌≤◌, ◌++◌, ◌∷◌, [], length, IfOk};
     ghost use Rattle.walk_steps.specs.Told.{IsShortRun};
@@ -98,7 +99,7 @@ impl ExecutionRoom {
 
     pub(crate) fn push(&mut self, serial: u32, frame_length: u32)
         requires room { length self.old < VISITS_MAX }
-        requires short { frame_length ≤ 262144 }
+        requires short { frame_length ≤ FRAME_MAX }
         ensures { self.new ≡ self.old ++ ((serial, frame_length) ∷ []) }
     {
         match self.executed.push((serial, frame_length)) {

@@ -43,6 +43,7 @@ impl Model for Walk {
 }
 
 impl Walk {
+    ghost use Rattle.frame_edit.specs.declared.limits.TheConstants.{FRAME_MAX};
     ghost use Rattle.std.specs.Prelude.{◌≡◌, ◌≤◌, [], length, map, Some, IfOk, IfSome};
     ghost use Rattle.walk_rules.specs.Walks.{outcome_of, outcome_with};
     ghost use Rattle.walk_steps.specs.Told.{execution, IsShortRun};
@@ -76,7 +77,7 @@ impl Walk {
 
     /// Begins the walk of a frame of at most 262,144 bytes at a hook.
     pub fn begin(&mut self, hook: Hook, bytes: &[u8])
-        requires { length bytes.now ≤ 262144 }
+        requires { length bytes.now ≤ FRAME_MAX }
         ensures { IsBegun hook bytes.now self.new }
     {
         let course = &mut self.course;
