@@ -28,8 +28,8 @@ impl Model for HeadRoom {
     ghost Value = { Heads };
 
     ghost view = { λ r. record {
-        tables = if r.is_clear then [] else r.heads.items;
-        spare = if r.is_clear then r.heads.items else []
+      tables = if r.is_clear then [] else r.heads.items;
+      spare = if r.is_clear then r.heads.items else [];
     } };
 
     ghost invariant = { λ r. 256 ≤ vec_capacity r.heads };
