@@ -15,7 +15,7 @@ use Rattle.run_report.specs.declared.outcomes.Outcome.{Outcome}
 use Rattle.run_report.specs.declared.rounds.RoundRecord.{RoundRecord}
 use Rattle.lawful_runs.specs.declared.loaded.LoadedJob.{LoadedJob}
 use Rattle.lawful_runs.specs.Given.{GivenBatch, GivenRound, given_rounds}
-use Rattle.lawful_runs.specs.Events.{IsLineOf, IsResult, AreResults}
+use Rattle.lawful_runs.specs.Events.{IsResult, AreResults}
 use Rattle.lawful_runs.specs.Lawful.{AreRounds}
 use Rattle.lawful_runs.proofs.GivenCommands.{AreGiven, all_given, one_words}
 
