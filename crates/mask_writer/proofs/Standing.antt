@@ -1,4 +1,5 @@
--- What follows from the words for what stands at a writer: a slot has one mask, and what roots name is read as the mask and its filters.
+-- What follows from the words for what stands at a writer: a slot has one mask, and what roots name is read
+-- as the mask and its filters.
 use Rattle.std.proofs.Common.{◌≡◌, ℕ, ◌<◌, List, length, Some, refl, sym, ◌∙◌}
 use Rattle.std.specs.List.{All}
 use Rattle.store_history.specs.declared.history.Named.{Named}

@@ -1,5 +1,5 @@
--- What stands at a writer of masks (this project's own): the words in which its calls speak. Nobody but the writer has to know how it keeps the
--- masks and their filters.
+-- What stands at a writer of masks (this project's own): the words in which its calls speak. Nobody but the
+-- writer has to know how it keeps the masks and their filters.
 use Rattle.std.specs.Prelude.{◌≡◌, ℕ, List, slice_index_or, Option, Some, None}
 use Rattle.store_history.specs.declared.history.Named.{Named}
 use Rattle.pin_store.specs.declared.shape.Shape.{Shape}
@@ -22,12 +22,13 @@ StandsAt writer slot kept = slice_index_or (masks_of writer) slot None ≡ Some 
 abbrev pub IsEmptyAt : MaskWriter → ℕ → Type 0
 IsEmptyAt writer slot = slice_index_or (masks_of writer) slot None ≡ None
 
--- the mask at the slot has these filters, in the order in which they came, and no edit after `last` has brought one of them
+-- the mask at the slot has these filters, in the order in which they came, and no edit after `last` has
+-- brought one of them
 abbrev pub Holds : MaskWriter → ℕ → ℕ → List StoredFilter → Type 0
 Holds writer slot last filters = HasFilters writer.mirror slot last filters
 
--- THE ROOTS NAME WHAT STANDS: each standing mask has its record and its buckets' chains, with their filters, no two buckets share a root, and no
--- block is in the chains of two buckets
+-- THE ROOTS NAME WHAT STANDS: each standing mask has its record and its buckets' chains, with their filters,
+-- no two buckets share a root, and no block is in the chains of two buckets
 abbrev pub AreNamed : MaskWriter → Shape → List ℕ → (ℕ → Named) → Type 0
 AreNamed writer shape cells roots = IsKept writer.mirror shape cells roots
 
