@@ -9,10 +9,17 @@
 //! `mask_bucket_edits`; what makes a whole mask in `mask_build`. `MaskWriter` is these in the order that an edit asks for. All room is taken
 //! by `with_room`. No other call takes memory.
 //!
-//! # What is kept of a mask
+//! # What is said of a writer
 //!
-//! `IsKept`: for each mask that stands, the mirror has what its roots name after all commits. Every call that commits asks for it and leaves it
-//! so. `HasFilters`: the mask at a slot has these filters, in this order. Each call's clause `list` says what becomes of that list.
+//! The clauses speak in words of their own (`specs/Standing.antt`), so that nobody but the writer has to know
+//! how it keeps masks. `masks_of` tells by slot which mask stands, and the block of its record; `Holds`,
+//! which filters the mask at a slot has, in which order. `AreNamed` says that the roots name all that after
+//! all commits: every call that commits asks for it and leaves it so. Each call's clause `masks` or `gone`
+//! says what becomes of the slots, `list` and `lists` what becomes of the filters, and `blocks_left` and
+//! `rows_left` what left with it.
+//!
+//! The words are short names for what the mirror keeps. `proofs/Standing.antt` has what follows from them: a
+//! slot has one mask, its root is read as the record, and each bucket's root as the filters of that bucket.
 //!
 //! # Who may call what
 //!

@@ -1,8 +1,7 @@
 //! The writer of all masks of a store.
-ghost use Rattle.std.specs.Prelude.{◌≡◌, ◌≤◌, ℕ, slice_index_or, None, IfOk};
+ghost use Rattle.std.specs.Prelude.{◌≡◌, ◌≤◌, ℕ, None, IfOk};
 ghost use Rattle.mask_mirror.specs.Lists.{age_of};
 ghost use Rattle.mask_mirror.specs.declared.mirror.KeptMask.{KeptMask};
-ghost use Rattle.mask_mirror.specs.Kept.{Stands};
 
 use crate::blocks::Blocks;
 use block_codec::StoredFilter;
@@ -30,27 +29,25 @@ fn first_age(edit: Point) -> u64
 }
 
 impl MaskWriter {
-    ghost use Rattle.std.specs.Prelude.{◌≢◌, ◌<◌, ◌+◌, ◌++◌, ◌∷◌, List, [], length, slice_index, slice_set, Some};
+    ghost use Rattle.std.specs.Prelude.{◌≢◌, ◌<◌, ◌+◌, ◌++◌, ◌∷◌, List, [], length, slice_index, slice_set};
     ghost use Rattle.store_history.specs.declared.history.Named.{Named};
     ghost use Rattle.store_history.specs.History.{root_of};
     ghost use Rattle.pin_store.specs.declared.shape.Shape.{Shape};
-    ghost use Rattle.pin_store.specs.Layout.{block_words, commit_of};
+    ghost use Rattle.pin_store.specs.Layout.{block_words};
     ghost use Rattle.pin_store.specs.Sheets.{base_of, IsSameButCells};
     ghost use Rattle.pin_store.specs.Calls.{seen_by, sheet_of, IsSeatOf, IsUnnamed};
     ghost use Rattle.block_codec.specs.Filters.{IsStorableFilter};
-    ghost use Rattle.mask_mirror.specs.Kept.{Spells, HoldsChain, BucketAt, IsKept, AreOwn};
-    ghost use Rattle.mask_mirror.specs.Lists.{HasFilters};
-    ghost use Rattle.mask_mirror.specs.Changes.{IsRenamed};
     ghost use Rattle.block_codec.specs.declared.filter.StoredFilter.{StoredFilter};
     ghost use Rattle.mask_mirror.specs.Changing.{root_for, insert_at};
     ghost use Rattle.mask_mirror.specs.Forgetting.{bucket_blocks};
+    ghost use Rattle.mask_writer.specs.Standing.{masks_of, StandsAt, IsEmptyAt, Holds, AreNamed, blocks_left, rows_left};
 
     /// Takes the room for the masks of a store of this shape. No mask stands. No other call takes memory.
     pub fn with_room(alloc: Global, _shape: Shape) -> Result<MaskWriter, NoMemory>
         requires { (_shape.words ≡ 40) × (16384 ≤ _shape.blocks) × (141315 ≤ _shape.roots) }
-        ensures empty { IfOk result (λ made. (slot : ℕ) → slice_index_or made.mirror.slots.items slot None ≡ None) }
-        ensures kept { IfOk result (λ made. (shape : Shape) (cells : List ℕ) (roots : ℕ → Named) → IsKept made.mirror shape cells roots) }
-        ensures left { IfOk result (λ made. (made.left_blocks ≡ []) × (made.left_rows ≡ [])) }
+        ensures empty { IfOk result (λ made. (slot : ℕ) → IsEmptyAt made slot) }
+        ensures kept { IfOk result (λ made. (shape : Shape) (cells : List ℕ) (roots : ℕ → Named) → AreNamed made shape cells roots) }
+        ensures left { IfOk result (λ made. (blocks_left made ≡ []) × (rows_left made ≡ [])) }
     {
         Ok(MaskWriter {
             mirror: Mirror::with_room(alloc)?,
@@ -76,26 +73,26 @@ impl MaskWriter {
         requires store { IsSeatOf store.now writer.old.place }
         requires shape { (store.now.shape.words ≡ 40) × (16384 ≤ store.now.shape.blocks) × (141315 ≤ store.now.shape.roots) }
         requires slot { slot < 8192 }
-        requires stands { (kept : KeptMask) × Stands self.old.mirror slot kept }
+        requires stands { (kept : KeptMask) × StandsAt self.old slot kept }
         requires storable { IsStorableFilter filter.now }
         requires given { (length given.now.blocks ≡ 1) × (slice_index given.now.blocks 0 < 16384) }
         requires free { IsUnnamed (base_of (sheet_of writer.old.place)) (seen_by writer.old.place) (slice_index given.now.blocks 0) }
-        requires kept { IsKept self.old.mirror store.now.shape (sheet_of writer.old.place).cells (root_of (seen_by writer.old.place)) }
-        requires lawful { (kept : KeptMask) → Stands self.old.mirror slot kept → L.keeps
+        requires kept { AreNamed self.old store.now.shape (sheet_of writer.old.place).cells (root_of (seen_by writer.old.place)) }
+        requires lawful { (kept : KeptMask) → StandsAt self.old slot kept → L.keeps
             (seen_by writer.old.place ++ insert_at (seen_by writer.old.place) (root_for kept.mask filter.now) (slice_index given.now.blocks 0) filter.now edit E.edit ∷ [])
             (base_of (sheet_of writer.old.place)) }
         ensures store { IsSeatOf store.now writer.new.place }
-        ensures seen { (kept : KeptMask) → Stands self.old.mirror slot kept → seen_by writer.new.place
+        ensures seen { (kept : KeptMask) → StandsAt self.old slot kept → seen_by writer.new.place
             ≡ seen_by writer.old.place ++ insert_at (seen_by writer.old.place) (root_for kept.mask filter.now) (slice_index given.now.blocks 0) filter.now edit E.edit ∷ [] }
         ensures sheet { IsSameButCells (sheet_of writer.old.place) (sheet_of writer.new.place) }
         ensures others { (other : ℕ) → other ≢ slice_index given.now.blocks 0 → other < store.now.shape.blocks
             → block_words store.now.shape (sheet_of writer.new.place).cells other ≡ block_words store.now.shape (sheet_of writer.old.place).cells other }
-        ensures kept { IsKept self.new.mirror store.now.shape (sheet_of writer.new.place).cells (root_of (seen_by writer.new.place)) }
-        ensures masks { self.new.mirror.slots.items ≡ self.old.mirror.slots.items }
+        ensures kept { AreNamed self.new store.now.shape (sheet_of writer.new.place).cells (root_of (seen_by writer.new.place)) }
+        ensures masks { masks_of self.new ≡ masks_of self.old }
         // the mask has one filter more, the last, where no edit of this number or a later one brought one of them
-        ensures list { (last : ℕ) (fs : List StoredFilter) → HasFilters self.old.mirror slot last fs → last < edit → HasFilters self.new.mirror slot edit (fs ++ filter.now ∷ []) }
-        ensures lists { (other last : ℕ) (fs : List StoredFilter) → other ≢ slot → HasFilters self.old.mirror other last fs → HasFilters self.new.mirror other last fs }
-        ensures left { (self.new.left_blocks ≡ []) × (self.new.left_rows ≡ []) }
+        ensures list { (last : ℕ) (fs : List StoredFilter) → Holds self.old slot last fs → last < edit → Holds self.new slot edit (fs ++ filter.now ∷ []) }
+        ensures lists { (other last : ℕ) (fs : List StoredFilter) → other ≢ slot → Holds self.old other last fs → Holds self.new other last fs }
+        ensures left { (blocks_left self.new ≡ []) × (rows_left self.new ≡ []) }
     {
         let block = given.blocks.as_slice()[0];
         let place = place_in(&self.mirror, slot, &filter.key);
@@ -125,14 +122,14 @@ impl MaskWriter {
     /// Takes the mask at a slot out of the writer. It makes no commit: the caller sees to it that no head names the slot any more.
     pub fn forget(&mut self, slot: u32)
         requires slot { slot < 8192 }
-        requires stands { (kept : KeptMask) × Stands self.old.mirror slot kept }
-        requires kept { (shape : Shape) × (cells : List ℕ) × (roots : ℕ → Named) × IsKept self.old.mirror shape cells roots }
-        ensures gone { self.new.mirror.slots.items ≡ slice_set self.old.mirror.slots.items slot None }
-        ensures kept { (shape : Shape) (cells : List ℕ) (roots : ℕ → Named) → IsKept self.old.mirror shape cells roots → IsKept self.new.mirror shape cells roots }
-        ensures lists { (other last : ℕ) (fs : List StoredFilter) → other ≢ slot → HasFilters self.old.mirror other last fs → HasFilters self.new.mirror other last fs }
-        ensures blocks { (kept : KeptMask) (shape : Shape) (cells : List ℕ) (roots : ℕ → Named) → Stands self.old.mirror slot kept → IsKept self.old.mirror shape cells roots
-            → self.new.left_blocks ≡ kept.block ∷ bucket_blocks roots kept.mask kept.mask.size }
-        ensures rows { (kept : KeptMask) → Stands self.old.mirror slot kept → self.new.left_rows ≡ kept.mask.rows }
+        requires stands { (kept : KeptMask) × StandsAt self.old slot kept }
+        requires kept { (shape : Shape) × (cells : List ℕ) × (roots : ℕ → Named) × AreNamed self.old shape cells roots }
+        ensures gone { masks_of self.new ≡ slice_set (masks_of self.old) slot None }
+        ensures kept { (shape : Shape) (cells : List ℕ) (roots : ℕ → Named) → AreNamed self.old shape cells roots → AreNamed self.new shape cells roots }
+        ensures lists { (other last : ℕ) (fs : List StoredFilter) → other ≢ slot → Holds self.old other last fs → Holds self.new other last fs }
+        ensures blocks { (kept : KeptMask) (shape : Shape) (cells : List ℕ) (roots : ℕ → Named) → StandsAt self.old slot kept → AreNamed self.old shape cells roots
+            → blocks_left self.new ≡ kept.block ∷ bucket_blocks roots kept.mask kept.mask.size }
+        ensures rows { (kept : KeptMask) → StandsAt self.old slot kept → rows_left self.new ≡ kept.mask.rows }
     {
         self.left_blocks.clear();
         self.left_rows.clear();
@@ -147,14 +144,14 @@ impl MaskWriter {
 
     /// The blocks that the last changing call took out of the masks.
     pub fn left_blocks(&self) -> &[u32]
-        ensures { result.now ≡ self.now.left_blocks }
+        ensures { result.now ≡ blocks_left self.now }
     {
         self.left_blocks.as_slice()
     }
 
     /// The rows that the last changing call took out of the masks.
     pub fn left_rows(&self) -> &[u32]
-        ensures { result.now ≡ self.now.left_rows }
+        ensures { result.now ≡ rows_left self.now }
     {
         self.left_rows.as_slice()
     }

@@ -1,5 +1,5 @@
 //! Masks that come to stand.
-ghost use Rattle.std.specs.Prelude.{◌≡◌, ◌≢◌, ℕ, ◌+◌, ◌<◌, ◌≤◌, ◌++◌, ◌∷◌, List, [], length, take, slice_index, slice_index_or, slice_set, Some, None, All};
+ghost use Rattle.std.specs.Prelude.{◌≡◌, ◌≢◌, ℕ, ◌+◌, ◌<◌, ◌≤◌, ◌++◌, ◌∷◌, List, [], length, take, slice_index, slice_set, Some, All};
 ghost use Rattle.store_history.specs.History.{root_of};
 ghost use Rattle.pin_store.specs.Layout.{block_words};
 ghost use Rattle.pin_store.specs.Sheets.{base_of, IsSameButCells};
@@ -8,10 +8,9 @@ ghost use Rattle.block_codec.specs.declared.filter.StoredFilter.{StoredFilter};
 ghost use Rattle.block_codec.specs.Filters.{IsStorableFilter};
 ghost use Rattle.block_codec.specs.Masks.{IsStorableMask};
 ghost use Rattle.mask_table.specs.Buckets.{IsAmong};
-ghost use Rattle.mask_mirror.specs.Kept.{IsKept};
-ghost use Rattle.mask_mirror.specs.Given.{AreGiven, AreFreeRows};
-ghost use Rattle.mask_mirror.specs.Lists.{HasFilters};
+ghost use Rattle.mask_mirror.specs.Given.{AreGiven};
 ghost use Rattle.mask_mirror.specs.Linked.{placed, raise_commits};
+ghost use Rattle.mask_writer.specs.Standing.{masks_of, IsEmptyAt, Holds, AreNamed, AreFree, blocks_left, rows_left};
 
 use crate::blocks::Blocks;
 use crate::mask_writer::MaskWriter;
@@ -42,13 +41,13 @@ impl MaskWriter {
         requires store { IsSeatOf store.now writer.old.place }
         requires shape { (store.now.shape.words ≡ 40) × (16384 ≤ store.now.shape.blocks) × (141315 ≤ store.now.shape.roots) }
         requires slot { slot < 8192 }
-        requires empty { slice_index_or self.old.mirror.slots.items slot None ≡ None }
+        requires empty { IsEmptyAt self.old slot }
         requires mask { IsStorableMask mask.now }
-        requires rows { AreFreeRows self.old.mirror mask.now.rows }
+        requires rows { AreFree self.old mask.now.rows }
         requires storable { IsStorableFilter filter.now }
         requires many { length given.now.blocks ≡ 2 }
         requires given { AreGiven (base_of (sheet_of writer.old.place)) (seen_by writer.old.place) given.now.blocks }
-        requires kept { IsKept self.old.mirror store.now.shape (sheet_of writer.old.place).cells (root_of (seen_by writer.old.place)) }
+        requires kept { AreNamed self.old store.now.shape (sheet_of writer.old.place).cells (root_of (seen_by writer.old.place)) }
         requires lawful { (n : ℕ) → L.keeps (seen_by writer.old.place ++ take n (raise_commits slot mask.now (slice_index given.now.blocks 1) (placed given.now.blocks (filter.now ∷ [])) edit))
             (base_of (sheet_of writer.old.place)) }
         ensures store { IsSeatOf store.now writer.new.place }
@@ -56,11 +55,11 @@ impl MaskWriter {
         ensures sheet { IsSameButCells (sheet_of writer.old.place) (sheet_of writer.new.place) }
         ensures others { (other : ℕ) → (IsAmong other given.now.blocks → ⊥) → other < store.now.shape.blocks
             → block_words store.now.shape (sheet_of writer.new.place).cells other ≡ block_words store.now.shape (sheet_of writer.old.place).cells other }
-        ensures kept { IsKept self.new.mirror store.now.shape (sheet_of writer.new.place).cells (root_of (seen_by writer.new.place)) }
-        ensures masks { self.new.mirror.slots.items ≡ slice_set self.old.mirror.slots.items slot (Some (record { block = slice_index given.now.blocks 1; mask = mask.now })) }
-        ensures list { HasFilters self.new.mirror slot edit (filter.now ∷ []) }
-        ensures lists { (other last : ℕ) (fs : List StoredFilter) → other ≢ slot → HasFilters self.old.mirror other last fs → HasFilters self.new.mirror other last fs }
-        ensures left { (self.new.left_blocks ≡ []) × (self.new.left_rows ≡ []) }
+        ensures kept { AreNamed self.new store.now.shape (sheet_of writer.new.place).cells (root_of (seen_by writer.new.place)) }
+        ensures masks { masks_of self.new ≡ slice_set (masks_of self.old) slot (Some (record { block = slice_index given.now.blocks 1; mask = mask.now })) }
+        ensures list { Holds self.new slot edit (filter.now ∷ []) }
+        ensures lists { (other last : ℕ) (fs : List StoredFilter) → other ≢ slot → Holds self.old other last fs → Holds self.new other last fs }
+        ensures left { (blocks_left self.new ≡ []) × (rows_left self.new ≡ []) }
     {
         let one = slice::from_ref(filter);
         make_mask::<L, E>(
@@ -93,13 +92,13 @@ impl MaskWriter {
         requires store { IsSeatOf store.now writer.old.place }
         requires shape { (store.now.shape.words ≡ 40) × (16384 ≤ store.now.shape.blocks) × (141315 ≤ store.now.shape.roots) }
         requires slot { slot < 8192 }
-        requires empty { slice_index_or self.old.mirror.slots.items slot None ≡ None }
+        requires empty { IsEmptyAt self.old slot }
         requires mask { IsStorableMask mask.now }
-        requires rows { AreFreeRows self.old.mirror mask.now.rows }
+        requires rows { AreFree self.old mask.now.rows }
         requires storable { All IsStorableFilter filters.now }
         requires many { length given.now.blocks ≡ length filters.now + 1 }
         requires given { AreGiven (base_of (sheet_of writer.old.place)) (seen_by writer.old.place) given.now.blocks }
-        requires kept { IsKept self.old.mirror store.now.shape (sheet_of writer.old.place).cells (root_of (seen_by writer.old.place)) }
+        requires kept { AreNamed self.old store.now.shape (sheet_of writer.old.place).cells (root_of (seen_by writer.old.place)) }
         requires lawful { (n : ℕ) → L.keeps (seen_by writer.old.place ++ take n (raise_commits slot mask.now (slice_index given.now.blocks (length filters.now)) (placed given.now.blocks filters.now) edit))
             (base_of (sheet_of writer.old.place)) }
         ensures store { IsSeatOf store.now writer.new.place }
@@ -107,11 +106,11 @@ impl MaskWriter {
         ensures sheet { IsSameButCells (sheet_of writer.old.place) (sheet_of writer.new.place) }
         ensures others { (other : ℕ) → (IsAmong other given.now.blocks → ⊥) → other < store.now.shape.blocks
             → block_words store.now.shape (sheet_of writer.new.place).cells other ≡ block_words store.now.shape (sheet_of writer.old.place).cells other }
-        ensures kept { IsKept self.new.mirror store.now.shape (sheet_of writer.new.place).cells (root_of (seen_by writer.new.place)) }
-        ensures masks { self.new.mirror.slots.items ≡ slice_set self.old.mirror.slots.items slot (Some (record { block = slice_index given.now.blocks (length filters.now); mask = mask.now })) }
-        ensures list { HasFilters self.new.mirror slot edit filters.now }
-        ensures lists { (other last : ℕ) (fs : List StoredFilter) → other ≢ slot → HasFilters self.old.mirror other last fs → HasFilters self.new.mirror other last fs }
-        ensures left { (self.new.left_blocks ≡ []) × (self.new.left_rows ≡ []) }
+        ensures kept { AreNamed self.new store.now.shape (sheet_of writer.new.place).cells (root_of (seen_by writer.new.place)) }
+        ensures masks { masks_of self.new ≡ slice_set (masks_of self.old) slot (Some (record { block = slice_index given.now.blocks (length filters.now); mask = mask.now })) }
+        ensures list { Holds self.new slot edit filters.now }
+        ensures lists { (other last : ℕ) (fs : List StoredFilter) → other ≢ slot → Holds self.old other last fs → Holds self.new other last fs }
+        ensures left { (blocks_left self.new ≡ []) × (rows_left self.new ≡ []) }
     {
         let all = filters.as_slice();
         make_mask::<L, E>(

@@ -21,20 +21,19 @@ impl MaskWriter {
     ghost use Rattle.block_codec.specs.Filters.{IsStorableFilter};
     ghost use Rattle.mask_table.specs.Buckets.{IsAmong};
     ghost use Rattle.mask_mirror.specs.declared.mirror.KeptMask.{KeptMask};
-    ghost use Rattle.mask_mirror.specs.Kept.{Stands, IsKept};
-    ghost use Rattle.mask_mirror.specs.Lists.{HasFilters};
     ghost use Rattle.mask_mirror.specs.Given.{AreGiven};
     ghost use Rattle.mask_mirror.specs.Changing.{FilterAt, root_for, remove_at, replace_at, HasNone};
+    ghost use Rattle.mask_writer.specs.Standing.{masks_of, StandsAt, Holds, AreNamed, blocks_left, rows_left, KeepTheSame};
 
     /// How many filters stand in front of the one with a handle in its bucket of the mask at a slot, which has such a filter: so many blocks are
     /// to be given to the removal of that filter. Nothing else is changed, and no commit is made.
     pub fn later_than(&mut self, slot: u32, handle: u32) -> u32
         requires slot { slot < 8192 }
         requires there { (kept : KeptMask) × (shape : Shape) × (cells : List ℕ) × (roots : ℕ → Named) × (root : ℕ) × (front : List StoredFilter) × (filter : StoredFilter)
-            × Stands self.old.mirror slot kept × IsKept self.old.mirror shape cells roots × FilterAt roots kept.mask handle root front filter }
-        ensures count { (kept : KeptMask) (shape : Shape) (cells : List ℕ) (roots : ℕ → Named) → Stands self.old.mirror slot kept → IsKept self.old.mirror shape cells roots
+            × StandsAt self.old slot kept × AreNamed self.old shape cells roots × FilterAt roots kept.mask handle root front filter }
+        ensures count { (kept : KeptMask) (shape : Shape) (cells : List ℕ) (roots : ℕ → Named) → StandsAt self.old slot kept → AreNamed self.old shape cells roots
             → (root : ℕ) × (front : List StoredFilter) × (filter : StoredFilter) × FilterAt roots kept.mask handle root front filter × (result ≡ length front) }
-        ensures same { (self.new.mirror ≡ self.old.mirror) × (self.new.left_blocks ≡ self.old.left_blocks) × (self.new.left_rows ≡ self.old.left_rows) }
+        ensures same { (KeepTheSame self.new self.old) × (blocks_left self.new ≡ blocks_left self.old) × (rows_left self.new ≡ rows_left self.old) }
     {
         let found = find(&mut self.chain, &self.mirror, slot, handle);
         found.front as u32
@@ -58,30 +57,30 @@ impl MaskWriter {
         requires shape { (store.now.shape.words ≡ 40) × (16384 ≤ store.now.shape.blocks) × (141315 ≤ store.now.shape.roots) }
         requires slot { slot < 8192 }
         requires there { (kept : KeptMask) × (root : ℕ) × (front : List StoredFilter) × (filter : StoredFilter)
-            × Stands self.old.mirror slot kept × FilterAt (root_of (seen_by writer.old.place)) kept.mask handle root front filter }
-        requires many { (kept : KeptMask) (root : ℕ) (front : List StoredFilter) (filter : StoredFilter) → Stands self.old.mirror slot kept
+            × StandsAt self.old slot kept × FilterAt (root_of (seen_by writer.old.place)) kept.mask handle root front filter }
+        requires many { (kept : KeptMask) (root : ℕ) (front : List StoredFilter) (filter : StoredFilter) → StandsAt self.old slot kept
             → FilterAt (root_of (seen_by writer.old.place)) kept.mask handle root front filter → length given.now.blocks ≡ length front }
         requires given { AreGiven (base_of (sheet_of writer.old.place)) (seen_by writer.old.place) given.now.blocks }
-        requires kept { IsKept self.old.mirror store.now.shape (sheet_of writer.old.place).cells (root_of (seen_by writer.old.place)) }
-        requires lawful { (kept : KeptMask) (root : ℕ) (front : List StoredFilter) (filter : StoredFilter) → Stands self.old.mirror slot kept
+        requires kept { AreNamed self.old store.now.shape (sheet_of writer.old.place).cells (root_of (seen_by writer.old.place)) }
+        requires lawful { (kept : KeptMask) (root : ℕ) (front : List StoredFilter) (filter : StoredFilter) → StandsAt self.old slot kept
             → FilterAt (root_of (seen_by writer.old.place)) kept.mask handle root front filter
             → L.keeps (seen_by writer.old.place ++ remove_at (seen_by writer.old.place) root given.now.blocks front edit E.edit ∷ []) (base_of (sheet_of writer.old.place)) }
         ensures store { IsSeatOf store.now writer.new.place }
-        ensures done { (kept : KeptMask) → Stands self.old.mirror slot kept → (root : ℕ) × (front : List StoredFilter) × (filter : StoredFilter)
+        ensures done { (kept : KeptMask) → StandsAt self.old slot kept → (root : ℕ) × (front : List StoredFilter) × (filter : StoredFilter)
             × FilterAt (root_of (seen_by writer.old.place)) kept.mask handle root front filter
             × (seen_by writer.new.place ≡ seen_by writer.old.place ++ remove_at (seen_by writer.old.place) root given.now.blocks front edit E.edit ∷ [])
-            × (self.new.left_blocks ≡ map (λ (l : Link). l.block) (take (length front + 1) (root_of (seen_by writer.old.place) root).chain)) }
+            × (blocks_left self.new ≡ map (λ (l : Link). l.block) (take (length front + 1) (root_of (seen_by writer.old.place) root).chain)) }
         ensures sheet { IsSameButCells (sheet_of writer.old.place) (sheet_of writer.new.place) }
         ensures others { (other : ℕ) → (IsAmong other given.now.blocks → ⊥) → other < store.now.shape.blocks
             → block_words store.now.shape (sheet_of writer.new.place).cells other ≡ block_words store.now.shape (sheet_of writer.old.place).cells other }
-        ensures kept { IsKept self.new.mirror store.now.shape (sheet_of writer.new.place).cells (root_of (seen_by writer.new.place)) }
-        ensures masks { self.new.mirror.slots.items ≡ self.old.mirror.slots.items }
+        ensures kept { AreNamed self.new store.now.shape (sheet_of writer.new.place).cells (root_of (seen_by writer.new.place)) }
+        ensures masks { masks_of self.new ≡ masks_of self.old }
         // the mask goes on without the filter, where no other has its handle
         ensures list { (last : ℕ) (earlier : List StoredFilter) (filter : StoredFilter) (later : List StoredFilter)
-            → HasFilters self.old.mirror slot last (earlier ++ filter ∷ later) → filter.handle ≡ handle → HasNone handle (earlier ++ later)
-            → HasFilters self.new.mirror slot last (earlier ++ later) }
-        ensures lists { (other last : ℕ) (fs : List StoredFilter) → other ≢ slot → HasFilters self.old.mirror other last fs → HasFilters self.new.mirror other last fs }
-        ensures left_rows { self.new.left_rows ≡ [] }
+            → Holds self.old slot last (earlier ++ filter ∷ later) → filter.handle ≡ handle → HasNone handle (earlier ++ later)
+            → Holds self.new slot last (earlier ++ later) }
+        ensures lists { (other last : ℕ) (fs : List StoredFilter) → other ≢ slot → Holds self.old other last fs → Holds self.new other last fs }
+        ensures left_rows { rows_left self.new ≡ [] }
     {
         take_out::<L, E>(
             &mut self.chain,
@@ -116,30 +115,30 @@ impl MaskWriter {
         requires slot { slot < 8192 }
         requires storable { IsStorableFilter filter.now }
         requires there { (kept : KeptMask) × (front : List StoredFilter) × (old : StoredFilter)
-            × Stands self.old.mirror slot kept × FilterAt (root_of (seen_by writer.old.place)) kept.mask filter.now.handle (root_for kept.mask filter.now) front old }
-        requires many { (kept : KeptMask) (front : List StoredFilter) (old : StoredFilter) → Stands self.old.mirror slot kept
+            × StandsAt self.old slot kept × FilterAt (root_of (seen_by writer.old.place)) kept.mask filter.now.handle (root_for kept.mask filter.now) front old }
+        requires many { (kept : KeptMask) (front : List StoredFilter) (old : StoredFilter) → StandsAt self.old slot kept
             → FilterAt (root_of (seen_by writer.old.place)) kept.mask filter.now.handle (root_for kept.mask filter.now) front old → length given.now.blocks ≡ length front + 1 }
         requires given { AreGiven (base_of (sheet_of writer.old.place)) (seen_by writer.old.place) given.now.blocks }
-        requires kept { IsKept self.old.mirror store.now.shape (sheet_of writer.old.place).cells (root_of (seen_by writer.old.place)) }
-        requires lawful { (kept : KeptMask) (front : List StoredFilter) (old : StoredFilter) → Stands self.old.mirror slot kept
+        requires kept { AreNamed self.old store.now.shape (sheet_of writer.old.place).cells (root_of (seen_by writer.old.place)) }
+        requires lawful { (kept : KeptMask) (front : List StoredFilter) (old : StoredFilter) → StandsAt self.old slot kept
             → FilterAt (root_of (seen_by writer.old.place)) kept.mask filter.now.handle (root_for kept.mask filter.now) front old
             → L.keeps (seen_by writer.old.place ++ replace_at (seen_by writer.old.place) (root_for kept.mask filter.now) given.now.blocks front filter.now edit E.edit ∷ []) (base_of (sheet_of writer.old.place)) }
         ensures store { IsSeatOf store.now writer.new.place }
-        ensures done { (kept : KeptMask) → Stands self.old.mirror slot kept → (front : List StoredFilter) × (old : StoredFilter)
+        ensures done { (kept : KeptMask) → StandsAt self.old slot kept → (front : List StoredFilter) × (old : StoredFilter)
             × FilterAt (root_of (seen_by writer.old.place)) kept.mask filter.now.handle (root_for kept.mask filter.now) front old
             × (seen_by writer.new.place ≡ seen_by writer.old.place ++ replace_at (seen_by writer.old.place) (root_for kept.mask filter.now) given.now.blocks front filter.now edit E.edit ∷ [])
-            × (self.new.left_blocks ≡ map (λ (l : Link). l.block) (take (length front + 1) (root_of (seen_by writer.old.place) (root_for kept.mask filter.now)).chain)) }
+            × (blocks_left self.new ≡ map (λ (l : Link). l.block) (take (length front + 1) (root_of (seen_by writer.old.place) (root_for kept.mask filter.now)).chain)) }
         ensures sheet { IsSameButCells (sheet_of writer.old.place) (sheet_of writer.new.place) }
         ensures others { (other : ℕ) → (IsAmong other given.now.blocks → ⊥) → other < store.now.shape.blocks
             → block_words store.now.shape (sheet_of writer.new.place).cells other ≡ block_words store.now.shape (sheet_of writer.old.place).cells other }
-        ensures kept { IsKept self.new.mirror store.now.shape (sheet_of writer.new.place).cells (root_of (seen_by writer.new.place)) }
-        ensures masks { self.new.mirror.slots.items ≡ self.old.mirror.slots.items }
+        ensures kept { AreNamed self.new store.now.shape (sheet_of writer.new.place).cells (root_of (seen_by writer.new.place)) }
+        ensures masks { masks_of self.new ≡ masks_of self.old }
         // the filter stands where the old one stood, where no other has its handle
         ensures list { (last : ℕ) (earlier : List StoredFilter) (old : StoredFilter) (later : List StoredFilter)
-            → HasFilters self.old.mirror slot last (earlier ++ old ∷ later) → old.handle ≡ filter.now.handle → old.key.words ≡ filter.now.key.words
-            → HasNone filter.now.handle (earlier ++ later) → HasFilters self.new.mirror slot last (earlier ++ filter.now ∷ later) }
-        ensures lists { (other last : ℕ) (fs : List StoredFilter) → other ≢ slot → HasFilters self.old.mirror other last fs → HasFilters self.new.mirror other last fs }
-        ensures left_rows { self.new.left_rows ≡ [] }
+            → Holds self.old slot last (earlier ++ old ∷ later) → old.handle ≡ filter.now.handle → old.key.words ≡ filter.now.key.words
+            → HasNone filter.now.handle (earlier ++ later) → Holds self.new slot last (earlier ++ filter.now ∷ later) }
+        ensures lists { (other last : ℕ) (fs : List StoredFilter) → other ≢ slot → Holds self.old other last fs → Holds self.new other last fs }
+        ensures left_rows { rows_left self.new ≡ [] }
     {
         exchange::<L, E>(
             &mut self.chain,

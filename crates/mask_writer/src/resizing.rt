@@ -57,6 +57,7 @@ impl MaskWriter {
     ghost use Rattle.mask_mirror.specs.Linked.{placed, raise_commits};
     ghost use Rattle.mask_mirror.specs.Forgetting.{bucket_blocks};
     ghost use Rattle.mask_build.specs.Laid.{laid_in, IsLaid};
+    ghost use Rattle.mask_writer.specs.Standing.{masks_of, StandsAt, Holds, AreNamed, AreFree, blocks_left, rows_left};
 
     // Lays the filters of the mask at a slot once more, in order, into given blocks, for a mask whose rows are free, and answers how many
     // they are. The blocks and rows that the mask at the slot has are told as those that leave.
@@ -126,28 +127,28 @@ impl MaskWriter {
         requires shape { (store.now.shape.words ≡ 40) × (16384 ≤ store.now.shape.blocks) × (141315 ≤ store.now.shape.roots) }
         requires slot { slot < 8192 }
         requires size { IsTrue (is_size size) × (size ≡ 16 * length given.now.rows) }
-        requires rows { AreFreeRows self.old.mirror given.now.rows }
-        requires there { (kept : KeptMask) × (last : ℕ) × (fs : List StoredFilter) × Stands self.old.mirror slot kept × HasFilters self.old.mirror slot last fs }
-        requires many { (last : ℕ) (fs : List StoredFilter) → HasFilters self.old.mirror slot last fs → length given.now.blocks ≡ length fs + 1 }
+        requires rows { AreFree self.old given.now.rows }
+        requires there { (kept : KeptMask) × (last : ℕ) × (fs : List StoredFilter) × StandsAt self.old slot kept × Holds self.old slot last fs }
+        requires many { (last : ℕ) (fs : List StoredFilter) → Holds self.old slot last fs → length given.now.blocks ≡ length fs + 1 }
         requires given { AreGiven (base_of (sheet_of writer.old.place)) (seen_by writer.old.place) given.now.blocks }
-        requires kept { IsKept self.old.mirror store.now.shape (sheet_of writer.old.place).cells (root_of (seen_by writer.old.place)) }
-        requires lawful { (kept : KeptMask) (last : ℕ) (fs : List StoredFilter) (n : ℕ) → Stands self.old.mirror slot kept → HasFilters self.old.mirror slot last fs
+        requires kept { AreNamed self.old store.now.shape (sheet_of writer.old.place).cells (root_of (seen_by writer.old.place)) }
+        requires lawful { (kept : KeptMask) (last : ℕ) (fs : List StoredFilter) (n : ℕ) → StandsAt self.old slot kept → Holds self.old slot last fs
             → L.keeps (seen_by writer.old.place ++ take n (raise_commits slot (resized kept.mask size given.now.rows) (slice_index given.now.blocks (length fs)) (placed given.now.blocks fs) stamp))
             (base_of (sheet_of writer.old.place)) }
         ensures store { IsSeatOf store.now writer.new.place }
-        ensures seen { (kept : KeptMask) (last : ℕ) (fs : List StoredFilter) → Stands self.old.mirror slot kept → HasFilters self.old.mirror slot last fs
+        ensures seen { (kept : KeptMask) (last : ℕ) (fs : List StoredFilter) → StandsAt self.old slot kept → Holds self.old slot last fs
             → seen_by writer.new.place ≡ seen_by writer.old.place
             ++ raise_commits slot (resized kept.mask size given.now.rows) (slice_index given.now.blocks (length fs)) (placed given.now.blocks fs) stamp }
         ensures sheet { IsSameButCells (sheet_of writer.old.place) (sheet_of writer.new.place) }
         ensures others { (other : ℕ) → (IsAmong other given.now.blocks → ⊥) → other < store.now.shape.blocks
             → block_words store.now.shape (sheet_of writer.new.place).cells other ≡ block_words store.now.shape (sheet_of writer.old.place).cells other }
-        ensures kept { IsKept self.new.mirror store.now.shape (sheet_of writer.new.place).cells (root_of (seen_by writer.new.place)) }
-        ensures masks { (kept : KeptMask) (last : ℕ) (fs : List StoredFilter) → Stands self.old.mirror slot kept → HasFilters self.old.mirror slot last fs
-            → self.new.mirror.slots.items ≡ slice_set self.old.mirror.slots.items slot (Some (record { block = slice_index given.now.blocks (length fs); mask = resized kept.mask size given.now.rows })) }
-        ensures list { (last : ℕ) (fs : List StoredFilter) → HasFilters self.old.mirror slot last fs → HasFilters self.new.mirror slot last fs }
-        ensures lists { (other last : ℕ) (fs : List StoredFilter) → other ≢ slot → HasFilters self.old.mirror other last fs → HasFilters self.new.mirror other last fs }
-        ensures left { (kept : KeptMask) → Stands self.old.mirror slot kept → (self.new.left_blocks ≡ kept.block ∷ bucket_blocks (root_of (seen_by writer.old.place)) kept.mask kept.mask.size)
-            × (self.new.left_rows ≡ kept.mask.rows) }
+        ensures kept { AreNamed self.new store.now.shape (sheet_of writer.new.place).cells (root_of (seen_by writer.new.place)) }
+        ensures masks { (kept : KeptMask) (last : ℕ) (fs : List StoredFilter) → StandsAt self.old slot kept → Holds self.old slot last fs
+            → masks_of self.new ≡ slice_set (masks_of self.old) slot (Some (record { block = slice_index given.now.blocks (length fs); mask = resized kept.mask size given.now.rows })) }
+        ensures list { (last : ℕ) (fs : List StoredFilter) → Holds self.old slot last fs → Holds self.new slot last fs }
+        ensures lists { (other last : ℕ) (fs : List StoredFilter) → other ≢ slot → Holds self.old other last fs → Holds self.new other last fs }
+        ensures left { (kept : KeptMask) → StandsAt self.old slot kept → (blocks_left self.new ≡ kept.block ∷ bucket_blocks (root_of (seen_by writer.old.place)) kept.mask kept.mask.size)
+            × (rows_left self.new ≡ kept.mask.rows) }
     {
         let mask = resized_mask(&self.mirror, slot, size, given.rows.as_slice());
         let blocks = given.blocks.as_slice();

@@ -9,8 +9,7 @@ use Rattle.flow_mask.specs.Sizes.{is_size}
 use Rattle.block_codec.specs.declared.mask.StoredMask.{StoredMask}
 use Rattle.block_codec.specs.Masks.{IsStorableMask}
 use Rattle.mask_table.specs.Buckets.{bucket_root}
-use Rattle.mask_mirror.specs.declared.mirror.Mirror.{Mirror}
-use Rattle.mask_mirror.specs.Given.{AreFreeRows}
+use Rattle.mask_writer.specs.declared.mask_writer.MaskWriter.{MaskWriter}
 use Rattle.mask_mirror.specs.Linked.{placed, raise_commits}
 use Rattle.mask_order.specs.Fitting.{FitsBlock, FitInto}
 use Rattle.lone_mask.specs.declared.change.Change.{Change}
@@ -29,8 +28,7 @@ use Rattle.pin_store.specs.declared.view.View.{View}
 use Rattle.pin_store.specs.Sheets.{base_of, IsSameButCells}
 use Rattle.pin_store.specs.Calls.{seen_by, sheet_of}
 use Rattle.mask_mirror.specs.declared.mirror.KeptMask.{KeptMask}
-use Rattle.mask_mirror.specs.Kept.{IsKept}
-use Rattle.mask_mirror.specs.Lists.{HasFilters}
+use Rattle.mask_writer.specs.Standing.{masks_of, Holds, AreNamed, AreFree}
 use Rattle.lone_mask.specs.Lone.{now, point_of}
 use Rattle.lone_commits.specs.Ledger.{RowsBelow}
 use Rattle.trial_mask.specs.Trial.{TriedWith}
@@ -46,8 +44,8 @@ first_storable = record { size = refl; rows = refl; each_row = All-cons (λ (row
 pub first_fits : FitsBlock first_filter
 first_fits = record { storable = record { handle = (omega arith, omega arith); actions = All-nil _ }; key = refl; few = omega arith }
 
-pub first_rows : (mirror : Mirror) → ((slot : ℕ) → get_or mirror.slots.items slot None ≡ None) → AreFreeRows mirror (0 ∷ [])
-first_rows mirror empty = record {
+pub first_rows : (writer : MaskWriter) → ((slot : ℕ) → get_or (masks_of writer) slot None ≡ None) → AreFree writer (0 ∷ [])
+first_rows writer empty = record {
   different = range_distinct 0 1;
   pool = All-cons (λ (row : ℕ). row < 8192) 0 [] (omega arith) (All-nil (λ (row : ℕ). row < 8192));
   free = λ slot row kept stands own other. cc (stands, empty slot);
@@ -66,16 +64,16 @@ first_lawful_with h mask given filter b n new is blocks first =
 pub none_below : AreBelow [] 0
 none_below l named = absurd (nothing_named 0 l named)
 
-pub first_tried : (mirror mirror2 : Mirror) (shape : Shape) (p p2 : Seat (Unit {0}) (View Change)) (mask : StoredMask) (given : List ℕ) (filter : StoredFilter)
-    → seen_by p ≡ [] → base_of (sheet_of p) ≡ 0 → mask ≡ first_mask → given ≡ range_with_len 0 2 → filter ≡ first_filter → ((slot : ℕ) → get_or mirror.slots.items slot None ≡ None)
-    → seen_by p2 ≡ seen_by p ++ raise_commits 0 mask (get_or given 1 0) (placed given (filter ∷ [])) 0 → IsSameButCells (sheet_of p) (sheet_of p2) → IsKept mirror2 shape (sheet_of p2).cells (root_of (seen_by p2))
-    → mirror2.slots.items ≡ set mirror.slots.items 0 (Some (record { block = get_or given 1 0; mask = mask })) → HasFilters mirror2 0 0 (filter ∷ [])
-    → TriedWith mirror2 (filter ∷ []) 2 1 16 0 shape p2
-first_tried mirror mirror2 shape p p2 mask given filter new base is blocks first empty seen sheet kept masks has =
+pub first_tried : (writer writer2 : MaskWriter) (shape : Shape) (p p2 : Seat (Unit {0}) (View Change)) (mask : StoredMask) (given : List ℕ) (filter : StoredFilter)
+    → seen_by p ≡ [] → base_of (sheet_of p) ≡ 0 → mask ≡ first_mask → given ≡ range_with_len 0 2 → filter ≡ first_filter → ((slot : ℕ) → get_or (masks_of writer) slot None ≡ None)
+    → seen_by p2 ≡ seen_by p ++ raise_commits 0 mask (get_or given 1 0) (placed given (filter ∷ [])) 0 → IsSameButCells (sheet_of p) (sheet_of p2) → AreNamed writer2 shape (sheet_of p2).cells (root_of (seen_by p2))
+    → masks_of writer2 ≡ set (masks_of writer) 0 (Some (record { block = get_or given 1 0; mask = mask })) → Holds writer2 0 0 (filter ∷ [])
+    → TriedWith writer2 (filter ∷ []) 2 1 16 0 shape p2
+first_tried writer writer2 shape p p2 mask given filter new base is blocks first empty seen sheet kept masks has =
     let h = seen_by p in let cs : List (Commit Change) = raise_commits 0 mask (get_or given 1 0) (placed given (filter ∷ [])) 0 in
     let b : get_or given 1 0 ≡ 1 = ap (λ (l : List ℕ). get_or l 1 0) blocks in
-    subst (λ (size : ℕ). TriedWith mirror2 (filter ∷ []) 2 1 size 0 shape p2) (ap (λ (m : StoredMask). m.size) is)
-    (raised_tried mirror mirror2 (filter ∷ []) 2 1 0 shape p p2 mask (get_or given 1 0) given
+    subst (λ (size : ℕ). TriedWith writer2 (filter ∷ []) 2 1 size 0 shape p2) (ap (λ (m : StoredMask). m.size) is)
+    (raised_tried writer writer2 (filter ∷ []) 2 1 0 shape p p2 mask (get_or given 1 0) given
     (subst (λ (k : List (Commit Change)). Keeps (h ++ k) 0) (take_all (length cs) cs (omega arith)) (first_lawful_with h mask given filter (get_or given 1 0) (length cs) new is blocks first))
     base seen sheet kept masks (λ slot more e. cc (e, empty slot)) has (ap (λ (m : StoredMask). m.mask.words) is) (subst IsStorableMask (sym is) first_storable)
     (let serial = ap (λ (m : StoredMask). m.serial) is in omega arith)

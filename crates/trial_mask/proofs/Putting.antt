@@ -13,10 +13,9 @@ use Rattle.pin_store.specs.Calls.{seen_by, sheet_of, IsUnnamed}
 use Rattle.flow_mask.specs.Sizes.{size_of}
 use Rattle.block_codec.specs.declared.filter.StoredFilter.{StoredFilter}
 use Rattle.mask_table.specs.Buckets.{bucket_for}
-use Rattle.mask_mirror.specs.declared.mirror.Mirror.{Mirror}
+use Rattle.mask_writer.specs.declared.mask_writer.MaskWriter.{MaskWriter}
 use Rattle.mask_mirror.specs.declared.mirror.KeptMask.{KeptMask}
-use Rattle.mask_mirror.specs.Kept.{Stands, IsKept}
-use Rattle.mask_mirror.specs.Lists.{HasFilters}
+use Rattle.mask_writer.specs.Standing.{masks_of, StandsAt, Holds, AreNamed}
 use Rattle.mask_mirror.specs.Changing.{root_for, insert_at}
 use Rattle.mask_mirror.proofs.Keeping.{same_base}
 use Rattle.mask_order.specs.Fitting.{FitsBlock}
@@ -73,20 +72,20 @@ pub own_handles : (fs : List StoredFilter) (filter : StoredFilter) → HaveOwnHa
 own_handles fs filter own all = own_more (λ (f : StoredFilter). f.handle) fs filter own (λ place f e. (other_at fs filter all place f e).0)
 
 -- ---- the commit, and the trial after it
-module _ (mirror : Mirror) (fs : List StoredFilter) (blocks rows size point : ℕ) (shape : Shape) (p : Seat (Unit {0}) (View Change))
-    (tried : TriedWith mirror fs blocks rows size point shape p) (rest : size ≡ size_of (length fs)) (filter : StoredFilter) (fit : FitsBlock filter) (all : All (IsOther filter) fs)
+module _ (writer : MaskWriter) (fs : List StoredFilter) (blocks rows size point : ℕ) (shape : Shape) (p : Seat (Unit {0}) (View Change))
+    (tried : TriedWith writer fs blocks rows size point shape p) (rest : size ≡ size_of (length fs)) (filter : StoredFilter) (fit : FitsBlock filter) (all : All (IsOther filter) fs)
     (b : ℕ) (at : b ≡ blocks) where
   abbrev h : List (Commit Change)
   h = seen_by p
 
-  put_follows : (kept : KeptMask) → Stands mirror 0 kept → Follows h (insert_at h (root_for kept.mask filter) b filter (point + 1) (changes.Put filter))
+  put_follows : (kept : KeptMask) → StandsAt writer 0 kept → Follows h (insert_at h (root_for kept.mask filter) b filter (point + 1) (changes.Put filter))
   put_follows kept stands =
       let same : kept ≡ tried.mask = some_same (sym stands ∙ tried.stands) in
-      let has = subst (HasFilters mirror 0 point) (sym tried.changes) tried.has in
+      let has = subst (Holds writer 0 point) (sym tried.changes) tried.has in
       let fits : kept.mask.size ≡ size_of (length (now h)) = ap (λ (k : KeptMask). k.mask.size) same ∙ (tried.sized ∙ (rest ∙ ap (λ (l : List StoredFilter). size_of (length l)) (sym tried.changes))) in
       let own = subst (λ (l : List StoredFilter). HaveOwnKeys (l ++ filter ∷ [])) (sym tried.changes) (own_keys fs filter tried.keys all) in
       subst (λ (k : ℕ). Follows h (insert_at h (root_for kept.mask filter) b filter (k + 1) (changes.Put filter))) tried.edits
-      (insertion_follows h mirror shape (sheet_of p).cells kept point tried.kept stands has fits filter b fit own)
+      (insertion_follows h writer.mirror shape (sheet_of p).cells kept point tried.kept stands has fits filter b fit own)
     where
       some_same : Some kept ≡ Some tried.mask → kept ≡ tried.mask
       some_same e = cc e
@@ -96,14 +95,14 @@ module _ (mirror : Mirror) (fs : List StoredFilter) (blocks rows size point : �
   put_free l named same = let less = tried.blocks_below l (subst (λ (k : ℕ). IsNamed k h l) tried.base named) in absurd (omega (arith, same))
 
   -- the law goes on
-  pub put_lawful : (kept : KeptMask) → Stands mirror 0 kept → Keeps (h ++ insert_at h (root_for kept.mask filter) b filter (point + 1) (changes.Put filter) ∷ []) 0
+  pub put_lawful : (kept : KeptMask) → StandsAt writer 0 kept → Keeps (h ++ insert_at h (root_for kept.mask filter) b filter (point + 1) (changes.Put filter) ∷ []) 0
   put_lawful kept stands = keeps_more h 0 (insert_at h (root_for kept.mask filter) b filter (point + 1) (changes.Put filter)) tried.lawful (put_follows kept stands)
 
-  pub put_tried : (mirror2 : Mirror) (p2 : Seat (Unit {0}) (View Change)) → blocks < 16384
+  pub put_tried : (writer2 : MaskWriter) (p2 : Seat (Unit {0}) (View Change)) → blocks < 16384
       → seen_by p2 ≡ h ++ insert_at h (root_for tried.mask.mask filter) b filter (point + 1) (changes.Put filter) ∷ []
-      → IsSameButCells (sheet_of p) (sheet_of p2) → IsKept mirror2 shape (sheet_of p2).cells (root_of (seen_by p2)) → mirror2.slots.items ≡ mirror.slots.items
-      → HasFilters mirror2 0 (point + 1) (fs ++ filter ∷ []) → TriedWith mirror2 (fs ++ filter ∷ []) (blocks + 1) rows size (point + 1) shape p2
-  put_tried mirror2 p2 low seen sheet kept masks has =
+      → IsSameButCells (sheet_of p) (sheet_of p2) → AreNamed writer2 shape (sheet_of p2).cells (root_of (seen_by p2)) → masks_of writer2 ≡ masks_of writer
+      → Holds writer2 0 (point + 1) (fs ++ filter ∷ []) → TriedWith writer2 (fs ++ filter ∷ []) (blocks + 1) rows size (point + 1) shape p2
+  put_tried writer2 p2 low seen sheet kept masks has =
       let mask = tried.mask.mask in let c : Commit Change = insert_at h (root_for mask filter) b filter (point + 1) (changes.Put filter) in
       let below : AreBelow (h ++ c ∷ []) (blocks + 1) = below_more (blocks + 1) h c (λ l named. let less = tried.blocks_below l named in omega arith)
       (insertion_below (blocks + 1) h (root_for mask filter) b (point + 1) filter (changes.Put filter) (λ l named. let less = tried.blocks_below l named in omega arith) (omega arith)) in

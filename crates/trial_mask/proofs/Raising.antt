@@ -12,10 +12,10 @@ use Rattle.pin_store.specs.Calls.{seen_by, sheet_of}
 use Rattle.block_codec.specs.declared.filter.StoredFilter.{StoredFilter}
 use Rattle.block_codec.specs.declared.mask.StoredMask.{StoredMask}
 use Rattle.block_codec.specs.Masks.{IsStorableMask}
-use Rattle.mask_mirror.specs.declared.mirror.Mirror.{Mirror}
+use Rattle.mask_writer.specs.declared.mask_writer.MaskWriter.{MaskWriter}
 use Rattle.mask_mirror.specs.declared.mirror.KeptMask.{KeptMask}
-use Rattle.mask_mirror.specs.Kept.{Stands, IsKept}
-use Rattle.mask_mirror.specs.Lists.{HasFilters}
+use Rattle.mask_writer.proofs.Standing.{slots_count}
+use Rattle.mask_writer.specs.Standing.{masks_of, Holds, AreNamed}
 use Rattle.mask_mirror.specs.Linked.{placed, raise_commits}
 use Rattle.mask_mirror.proofs.Keeping.{same_base}
 use Rattle.mask_order.specs.Fitting.{FitsBlock}
@@ -36,7 +36,7 @@ alone_at slots kept slot other only e = pick (eqb slot 0) refl
     pick true is = eqb-true slot 0 is
     pick false is = only slot other (sym (get_or-set_other slots 0 slot (Some kept) None (eqb-false slot 0 is)) ∙ e)
 
-module _ (mirror mirror2 : Mirror) (fs : List StoredFilter) (blocks rows point : ℕ) (shape : Shape) (p p2 : Seat (Unit {0}) (View Change)) (mask : StoredMask) (b : ℕ) (given : List ℕ) where
+module _ (writer writer2 : MaskWriter) (fs : List StoredFilter) (blocks rows point : ℕ) (shape : Shape) (p p2 : Seat (Unit {0}) (View Change)) (mask : StoredMask) (b : ℕ) (given : List ℕ) where
   abbrev h : List (Commit Change)
   h = seen_by p
 
@@ -44,14 +44,14 @@ module _ (mirror mirror2 : Mirror) (fs : List StoredFilter) (blocks rows point :
   cs = raise_commits 0 mask b (placed given fs) point
 
   pub raised_tried : Keeps (h ++ cs) 0 → base_of (sheet_of p) ≡ 0
-      → seen_by p2 ≡ h ++ cs → IsSameButCells (sheet_of p) (sheet_of p2) → IsKept mirror2 shape (sheet_of p2).cells (root_of (seen_by p2))
-      → mirror2.slots.items ≡ set mirror.slots.items 0 (Some (record { block = b; mask = mask })) → ((k : ℕ) (more : KeptMask) → get_or mirror.slots.items k None ≡ Some more → k ≡ 0)
-      → HasFilters mirror2 0 point fs → mask.mask.words ≡ lone_words → IsStorableMask mask → mask.serial < 4294967296 → All (λ (row : ℕ). row < rows) mask.rows
+      → seen_by p2 ≡ h ++ cs → IsSameButCells (sheet_of p) (sheet_of p2) → AreNamed writer2 shape (sheet_of p2).cells (root_of (seen_by p2))
+      → masks_of writer2 ≡ set (masks_of writer) 0 (Some (record { block = b; mask = mask })) → ((k : ℕ) (more : KeptMask) → get_or (masks_of writer) k None ≡ Some more → k ≡ 0)
+      → Holds writer2 0 point fs → mask.mask.words ≡ lone_words → IsStorableMask mask → mask.serial < 4294967296 → All (λ (row : ℕ). row < rows) mask.rows
       → now h ≡ fs → point_of h ≡ point → AreBelow h blocks → ((place other : ℕ) → slice_get given place ≡ Some other → other < blocks) → b < blocks → blocks ≤ 16384
       → RowsBelow h rows → rows ≤ 8192 → HaveOwnKeys fs → HaveOwnHandles fs → All FitsBlock fs
-      → TriedWith mirror2 fs blocks rows mask.size point shape p2
+      → TriedWith writer2 fs blocks rows mask.size point shape p2
   raised_tried lawful base seen sheet kept masks only has words is serial all changes edits below low own few unused few_rows keys handles fit =
-      let long = mirror.slots_long in let some : 0 < length mirror.slots.items = omega arith in
+      let long = slots_count writer in let some : 0 < length (masks_of writer) = omega arith in
       let named : AreBelow (h ++ cs) blocks = along_all (λ x. AreBelow x blocks) (ChainBelow blocks) (below_more blocks) h cs below (mask_below blocks 0 mask b point given fs low own) in
       let used : RowsBelow (h ++ cs) rows = along_all (λ x. RowsBelow x rows) (SpendsBelow rows) (rows_more rows) h cs unused (mask_spends rows mask b (placed given fs) point is serial (ap length words) all) in
       record {
@@ -59,8 +59,8 @@ module _ (mirror mirror2 : Mirror) (fs : List StoredFilter) (blocks rows point :
         base = same_base (sheet_of p) (sheet_of p2) sheet ∙ base;
         kept = kept;
         mask = record { block = b; mask = mask };
-        stands = ap (λ (slots : List (Option KeptMask)). get_or slots 0 None) masks ∙ get_or-set_same mirror.slots.items 0 (Some (record { block = b; mask = mask })) None some;
-        alone = λ slot other s. alone_at mirror.slots.items (record { block = b; mask = mask }) slot other only (sym (ap (λ (slots : List (Option KeptMask)). get_or slots slot None) masks) ∙ s);
+        stands = ap (λ (slots : List (Option KeptMask)). get_or slots 0 None) masks ∙ get_or-set_same (masks_of writer) 0 (Some (record { block = b; mask = mask })) None some;
+        alone = λ slot other s. alone_at (masks_of writer) (record { block = b; mask = mask }) slot other only (sym (ap (λ (slots : List (Option KeptMask)). get_or slots slot None) masks) ∙ s);
         words = words;
         sized = refl;
         old_rows = all;

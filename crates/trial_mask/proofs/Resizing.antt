@@ -19,18 +19,15 @@ use Rattle.block_codec.specs.declared.filter.StoredFilter.{StoredFilter}
 use Rattle.block_codec.specs.declared.mask.StoredMask.{StoredMask}
 use Rattle.block_codec.specs.Masks.{IsStorableMask}
 use Rattle.mask_table.specs.Buckets.{IsAmong}
-use Rattle.mask_mirror.specs.declared.mirror.Mirror.{Mirror}
+use Rattle.mask_writer.specs.declared.mask_writer.MaskWriter.{MaskWriter}
 use Rattle.mask_mirror.specs.declared.mirror.KeptMask.{KeptMask}
-use Rattle.mask_mirror.specs.Kept.{Stands, IsKept}
-use Rattle.mask_mirror.specs.Lists.{HasFilters}
-use Rattle.mask_mirror.specs.Given.{AreFreeRows}
+use Rattle.mask_writer.specs.Standing.{masks_of, StandsAt, Holds, AreNamed, AreFree}
 use Rattle.mask_mirror.specs.Linked.{placed, resized, raise_commits}
-use Rattle.mask_mirror.proofs.Keeping.{same_kept}
+use Rattle.mask_writer.proofs.Standing.{one_mask, record_read}
 use Rattle.mask_order.specs.Fitting.{FitsBlock, FitInto}
 use Rattle.lone_mask.specs.declared.change.Change.{Change}
 use Rattle.hook_law.proofs.Growing.{some_is}
 use Rattle.lone_mask.specs.Lone.{lone_words, point_of, now, IsRecord, Keeps}
-use Rattle.mask_order.proofs.Records.{stored_record}
 use Rattle.lone_commits.proofs.Spending.{mask_fresh}
 use Rattle.lone_commits.proofs.WholeMask.{mask_follows, buckets_apart}
 use Rattle.trial_mask.specs.Trial.{TriedWith}
@@ -46,26 +43,26 @@ range_all P a n each = All-from_get_or P (range_with_len a n) 0
 sixteens : (size : ℕ) → IsTrue (is_size size) → size ≡ 16 * (size / 16)
 sixteens size is = grind (arith, nat_tests)
 
-module _ (mirror : Mirror) (fs : List StoredFilter) (blocks rows size point : ℕ) (shape : Shape) (p : Seat (Unit {0}) (View Change)) (tried : TriedWith mirror fs blocks rows size point shape p) where
+module _ (writer : MaskWriter) (fs : List StoredFilter) (blocks rows size point : ℕ) (shape : Shape) (p : Seat (Unit {0}) (View Change)) (tried : TriedWith writer fs blocks rows size point shape p) where
   abbrev h : List (Commit Change)
   h = seen_by p
 
-  pub rows_free : (count : ℕ) (given : List ℕ) → rows + count ≤ 8192 → given ≡ range_with_len rows count → AreFreeRows mirror given
-  rows_free count given low is = subst (AreFreeRows mirror) (sym is) (record {
+  pub rows_free : (count : ℕ) (given : List ℕ) → rows + count ≤ 8192 → given ≡ range_with_len rows count → AreFree writer given
+  rows_free count given low is = subst (AreFree writer) (sym is) (record {
     different = range_distinct rows count;
     pool = range_all (λ (row : ℕ). row < 8192) rows count (λ b above below. omega arith);
     free = λ slot r kept stands old new.
-        let same = same_kept mirror slot 0 kept tried.mask (tried.alone slot kept stands) stands tried.stands in
+        let same = one_mask writer 0 kept tried.mask (subst (λ (k : ℕ). StandsAt writer k kept) (tried.alone slot kept stands) stands) tried.stands in
         let among = subst (λ (k : KeptMask). IsAmong r k.mask.rows) same old in let has = tried.mask.mask.rows in
         let less = subst (λ (k : ℕ). k < rows) (get_or_from_slice_get has among.0 r 0 among.1) (All-get_or (λ (k : ℕ). k < rows) has among.0 0 (slice_get_within has among.0 r among.1) tried.old_rows) in
         let there = range_within rows count new.0 r new.1 in absurd (omega (arith, less, there));
   })
 
-  same_list : (last : ℕ) (gs : List StoredFilter) → HasFilters mirror 0 last gs → fs ≡ gs
-  same_list last gs has = one_list mirror shape (sheet_of p).cells (root_of h) tried.kept 0 point last fs gs tried.has has
+  same_list : (last : ℕ) (gs : List StoredFilter) → Holds writer 0 last gs → fs ≡ gs
+  same_list last gs has = one_list writer.mirror shape (sheet_of p).cells (root_of h) tried.kept 0 point last fs gs tried.has has
 
   module _ (given : List ℕ) (fresh : given ≡ range_with_len blocks (length fs + 1)) where
-    pub many_given : (last : ℕ) (gs : List StoredFilter) → HasFilters mirror 0 last gs → length given ≡ length gs + 1
+    pub many_given : (last : ℕ) (gs : List StoredFilter) → Holds writer 0 last gs → length given ≡ length gs + 1
     many_given last gs has = ap length fresh ∙ (length-range_with_len blocks (length fs + 1) ∙ ap (λ (l : List StoredFilter). length l + 1) (same_list last gs has))
 
     module _ (room : blocks + length fs + 1 ≤ 16384) (size2 : ℕ) (fits : size2 ≡ size_of (length fs)) (is_one : IsTrue (is_size size2) × (size2 ≤ 1024)) (rows2 : List ℕ) (fresh_rows : rows2 ≡ range_with_len rows (size2 / 16))
@@ -81,13 +78,13 @@ module _ (mirror : Mirror) (fs : List StoredFilter) (blocks rows size point : �
       given_low place b e = (range_within blocks (length fs + 1) place b (subst (λ (g : List ℕ). slice_get g place ≡ Some b) fresh e)).1
 
       -- the law goes on
-      pub resize_lawful : (kept : KeptMask) (last : ℕ) (gs : List StoredFilter) (n : ℕ) → Stands mirror 0 kept → HasFilters mirror 0 last gs
+      pub resize_lawful : (kept : KeptMask) (last : ℕ) (gs : List StoredFilter) (n : ℕ) → StandsAt writer 0 kept → Holds writer 0 last gs
           → Keeps (h ++ take n (raise_commits 0 (resized kept.mask size2 rows2) (get_or given (length gs) 0) (placed given gs) point)) 0
       resize_lawful kept last gs n stands has =
-          let mask = resized kept.mask size2 rows2 in let same = same_kept mirror 0 0 kept tried.mask refl stands tried.stands in
+          let mask = resized kept.mask size2 rows2 in let same = one_mask writer 0 kept tried.mask stands tried.stands in
           let is = storable kept.mask in let serial = (tried.kept.masks 0 kept stands).there.serial in
           let same_serial : (old : StoredMask) → IsRecord h old → mask.serial ≡ old.serial = λ old was.
-          ap (λ (m : StoredMask). m.serial) (some_is kept.mask old (sym (stored_record mirror shape (sheet_of p).cells (root_of h) 0 kept tried.kept stands) ∙ was)) in
+          ap (λ (m : StoredMask). m.serial) (some_is kept.mask old (sym (record_read writer shape (sheet_of p).cells (root_of h) tried.kept 0 kept stands) ∙ was)) in
           let above = subst (All (λ (row : ℕ). rows ≤ row)) (sym fresh_rows) (range_all (λ (row : ℕ). rows ≤ row) rows (size2 / 16) (λ b up down. up)) in
           let distinct = subst (λ (l : List ℕ). IsDistinct eqb l) (sym fresh_rows) (range_distinct rows (size2 / 16)) in
           let long = many_given point fs tried.has in
@@ -97,16 +94,16 @@ module _ (mirror : Mirror) (fs : List StoredFilter) (blocks rows size point : �
           (mask_follows h mask given tried.lawful (mask_fresh h mask rows tried.rows_below is above) (buckets_apart mask is distinct) (get_or given (length gs) 0)
           (fits ∙ ap (λ (l : List StoredFilter). size_of (length l)) (sym tried.changes)) (ap (λ (k : KeptMask). k.mask.mask.words) same ∙ tried.words) is serial same_serial into n))
 
-      pub resized_tried : (mirror2 : Mirror) (p2 : Seat (Unit {0}) (View Change))
+      pub resized_tried : (writer2 : MaskWriter) (p2 : Seat (Unit {0}) (View Change))
           → seen_by p2 ≡ h ++ raise_commits 0 (resized tried.mask.mask size2 rows2) (get_or given (length fs) 0) (placed given fs) point
-          → IsSameButCells (sheet_of p) (sheet_of p2) → IsKept mirror2 shape (sheet_of p2).cells (root_of (seen_by p2))
-          → mirror2.slots.items ≡ set mirror.slots.items 0 (Some (record { block = get_or given (length fs) 0; mask = resized tried.mask.mask size2 rows2 }))
-          → HasFilters mirror2 0 point fs → TriedWith mirror2 fs (blocks + (length fs + 1)) (rows + size2 / 16) size2 point shape p2
-      resized_tried mirror2 p2 seen sheet kept masks has =
+          → IsSameButCells (sheet_of p) (sheet_of p2) → AreNamed writer2 shape (sheet_of p2).cells (root_of (seen_by p2))
+          → masks_of writer2 ≡ set (masks_of writer) 0 (Some (record { block = get_or given (length fs) 0; mask = resized tried.mask.mask size2 rows2 }))
+          → Holds writer2 0 point fs → TriedWith writer2 fs (blocks + (length fs + 1)) (rows + size2 / 16) size2 point shape p2
+      resized_tried writer2 p2 seen sheet kept masks has =
           let mask = resized tried.mask.mask size2 rows2 in let b = get_or given (length fs) 0 in
           let cs : List (Commit Change) = raise_commits 0 mask b (placed given fs) point in let long = many_given point fs tried.has in
           let own = given_low (length fs) b (slice_get-get_or given (length fs) 0 (omega (arith, long))) in
-          raised_tried mirror mirror2 fs (blocks + (length fs + 1)) (rows + size2 / 16) point shape p p2 mask b given
+          raised_tried writer writer2 fs (blocks + (length fs + 1)) (rows + size2 / 16) point shape p p2 mask b given
           (subst (λ (k : List (Commit Change)). Keeps (h ++ k) 0) (take_all (length cs) cs (omega arith)) (resize_lawful tried.mask point fs (length cs) tried.stands tried.has))
           tried.base seen sheet kept masks tried.alone has tried.words (storable tried.mask.mask) (tried.kept.masks 0 tried.mask tried.stands).there.serial
           (subst (All (λ (row : ℕ). row < rows + size2 / 16)) (sym fresh_rows) (range_all (λ (row : ℕ). row < rows + size2 / 16) rows (size2 / 16) (λ k up down. down)))

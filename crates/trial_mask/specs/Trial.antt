@@ -8,10 +8,9 @@ use Rattle.pin_store.specs.Sheets.{base_of}
 use Rattle.pin_store.specs.Calls.{seen_by, sheet_of}
 use Rattle.flow_mask.specs.Sizes.{size_of}
 use Rattle.block_codec.specs.declared.filter.StoredFilter.{StoredFilter}
-use Rattle.mask_mirror.specs.declared.mirror.Mirror.{Mirror}
+use Rattle.mask_writer.specs.declared.mask_writer.MaskWriter.{MaskWriter}
 use Rattle.mask_mirror.specs.declared.mirror.KeptMask.{KeptMask}
-use Rattle.mask_mirror.specs.Kept.{Stands, IsKept}
-use Rattle.mask_mirror.specs.Lists.{HasFilters}
+use Rattle.mask_writer.specs.Standing.{StandsAt, Holds, AreNamed}
 use Rattle.mask_order.specs.Fitting.{FitsBlock}
 use Rattle.lone_mask.specs.declared.change.Change.{Change}
 use Rattle.lone_mask.specs.Lone.{lone_words, point_of, now, Keeps, HaveOwnKeys}
@@ -21,18 +20,18 @@ use Rattle.trial_mask.specs.declared.trial.Trial.{Trial}
 
 -- THE TRIAL IS THE STORE'S, given part by part: the commits keep the law, one mask stands, at slot 0, and its filters are those of all changes
 -- so far. Blocks and rows from the two numbers on were never used.
-pub record TriedWith (mirror : Mirror) (filters : List StoredFilter) (blocks rows size point : ℕ) (shape : Shape) (p : Seat (Unit {0}) (View Change)) : Type 0 where
+pub record TriedWith (writer : MaskWriter) (filters : List StoredFilter) (blocks rows size point : ℕ) (shape : Shape) (p : Seat (Unit {0}) (View Change)) : Type 0 where
   pub lawful : Keeps (seen_by p) 0
   pub base : base_of (sheet_of p) ≡ 0
-  pub kept : IsKept mirror shape (sheet_of p).cells (root_of (seen_by p))
+  pub kept : AreNamed writer shape (sheet_of p).cells (root_of (seen_by p))
   pub mask : KeptMask
-  pub stands : Stands mirror 0 mask
-  pub alone : (slot : ℕ) (other : KeptMask) → Stands mirror slot other → slot ≡ 0
+  pub stands : StandsAt writer 0 mask
+  pub alone : (slot : ℕ) (other : KeptMask) → StandsAt writer slot other → slot ≡ 0
   pub words : mask.mask.mask.words ≡ lone_words
   pub sized : mask.mask.size ≡ size
   pub old_rows : All (λ row. row < rows) mask.mask.rows
   pub changes : now (seen_by p) ≡ filters
-  pub has : HasFilters mirror 0 point filters
+  pub has : Holds writer 0 point filters
   pub edits : point_of (seen_by p) ≡ point
   pub blocks_below : AreBelow (seen_by p) blocks
   pub few_blocks : blocks ≤ 16384
@@ -43,7 +42,7 @@ pub record TriedWith (mirror : Mirror) (filters : List StoredFilter) (blocks row
   pub fit : All FitsBlock filters
 
 abbrev pub IsTried : Trial → Shape → Seat (Unit {0}) (View Change) → Type 0
-IsTried t shape p = TriedWith t.masks.mirror t.filters.items t.blocks t.rows t.size t.point shape p
+IsTried t shape p = TriedWith t.masks t.filters.items t.blocks t.rows t.size t.point shape p
 
 -- the mask has the size for its filters
 abbrev pub IsAtRest : Trial → Type 0

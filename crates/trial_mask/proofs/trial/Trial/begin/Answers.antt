@@ -3,7 +3,7 @@ use Rattle.store_history.specs.declared.history.Commit.{Commit}
 use Rattle.block_codec.specs.declared.filter.StoredFilter.{StoredFilter}
 use Rattle.trial_mask.specs.Trial.{TriedWith}
 use Rattle.block_codec.specs.declared.mask.StoredMask.{StoredMask}
-use Rattle.mask_mirror.specs.Given.{AreFreeRows}
+use Rattle.mask_writer.specs.Standing.{AreFree}
 use Rattle.lone_mask.specs.declared.change.Change.{Change}
 use Rattle.lone_commits.specs.Ledger.{AreBelow}
 use Rattle.pin_store.specs.Sheets.{base_of}
@@ -13,7 +13,7 @@ use Rattle.trial_mask.proofs.Fresh.{fresh_given}
 use Rattle.trial_mask.proofs.trial.Trial.begin.Goals as goal
 
 pub create-requires-clause-rows : goal.create-requires-clause-rows
-create-requires-clause-rows c = subst (λ (m : StoredMask). AreFreeRows c.in_ok-masks.masks.mirror m.rows) (sym c.first_mask.ensures) (first_rows c.in_ok-masks.masks.mirror c.in_ok-masks.ensures.empty)
+create-requires-clause-rows c = subst (λ (m : StoredMask). AreFree c.in_ok-masks.masks m.rows) (sym c.first_mask.ensures) (first_rows c.in_ok-masks.masks c.in_ok-masks.ensures.empty)
 
 pub create-requires-clause-given : goal.create-requires-clause-given
 create-requires-clause-given c = let h = seen_by c.args.writer.now.place in
@@ -28,6 +28,6 @@ pub returns-clause-tried : goal.returns-clause-tried
 returns-clause-tried c = let f = c.first_filter-2.result in let shape = c.args.store.now.shape in let done = c.create.ensures in
     let same : c.first_filter.result ≡ f = c.first_filter.ensures ∙ sym c.first_filter-2.ensures in
     let all : c.push.new.self.items ≡ f ∷ [] = c.in_ok-push.ensures.items ∙ (λ i. c.in_ok-filters.ensures.items i ++ same i ∷ []) in
-    subst (λ (l : List StoredFilter). TriedWith c.create.new.self.mirror l 2 1 16 0 shape c.create.new.writer.place) (sym all)
-    (first_tried c.in_ok-masks.masks.mirror c.create.new.self.mirror shape c.args.writer.now.place c.create.new.writer.place c.first_mask.result c.in_ok-numbers_from.field-0 f
+    subst (λ (l : List StoredFilter). TriedWith c.create.new.self l 2 1 16 0 shape c.create.new.writer.place) (sym all)
+    (first_tried c.in_ok-masks.masks c.create.new.self shape c.args.writer.now.place c.create.new.writer.place c.first_mask.result c.in_ok-numbers_from.field-0 f
     c.requires.new.0 c.requires.new.1 c.first_mask.ensures c.in_ok-numbers_from.ensures c.first_filter-2.ensures c.in_ok-masks.ensures.empty done.seen done.sheet done.kept done.masks done.list)

@@ -10,11 +10,11 @@ use Rattle.trial_mask.proofs.trial.Trial.resize_to.Goals as goal
 
 pub resize-requires-clause-rows : goal.resize-requires-clause-rows
 resize-requires-clause-rows c = let t = c.args.self.now in let room = c.requires.room in let size = c.requires.size in let low : t.rows + c.args.size / 16 ≤ 8192 = omega arith in
-    rows_free t.masks.mirror t.filters.items t.blocks t.rows t.size t.point c.args.store.now.shape c.args.writer.now.place c.requires.tried (c.args.size / 16) c.in_ok-numbers_from-2.field-0 low c.in_ok-numbers_from-2.ensures
+    rows_free t.masks t.filters.items t.blocks t.rows t.size t.point c.args.store.now.shape c.args.writer.now.place c.requires.tried (c.args.size / 16) c.in_ok-numbers_from-2.field-0 low c.in_ok-numbers_from-2.ensures
 
 pub resize-requires-clause-many : goal.resize-requires-clause-many
 resize-requires-clause-many c = λ last fs has. let t = c.args.self.now in let long : c.len.result ≡ length t.filters.items = omega arith in
-    many_given t.masks.mirror t.filters.items t.blocks t.rows t.size t.point c.args.store.now.shape c.args.writer.now.place c.requires.tried c.in_ok-numbers_from.field-0
+    many_given t.masks t.filters.items t.blocks t.rows t.size t.point c.args.store.now.shape c.args.writer.now.place c.requires.tried c.in_ok-numbers_from.field-0
     (c.in_ok-numbers_from.ensures ∙ ap (λ (k : ℕ). range_with_len t.blocks (k + 1)) long) last fs has
 
 pub resize-requires-clause-given : goal.resize-requires-clause-given
@@ -26,13 +26,13 @@ resize-requires-clause-given c = let t = c.args.self.now in let room = c.require
 pub resize-requires-clause-lawful : goal.resize-requires-clause-lawful
 resize-requires-clause-lawful c = λ kept last fs n stands has. let t = c.args.self.now in let long : c.len.result ≡ length t.filters.items = omega arith in
     let room = c.requires.room in let size = c.requires.size in let low : t.rows + c.args.size / 16 ≤ 8192 = omega arith in
-    resize_lawful t.masks.mirror t.filters.items t.blocks t.rows t.size t.point c.args.store.now.shape c.args.writer.now.place c.requires.tried c.in_ok-numbers_from.field-0
+    resize_lawful t.masks t.filters.items t.blocks t.rows t.size t.point c.args.store.now.shape c.args.writer.now.place c.requires.tried c.in_ok-numbers_from.field-0
     (c.in_ok-numbers_from.ensures ∙ ap (λ (k : ℕ). range_with_len t.blocks (k + 1)) long) room.0 c.args.size c.requires.size.0 (c.requires.size.1, c.requires.size.2) c.in_ok-numbers_from-2.field-0 c.in_ok-numbers_from-2.ensures low kept last fs n stands has
 
 pub returns-clause-tried : goal.returns-clause-tried
 returns-clause-tried c = let t = c.args.self.now in let fs = t.filters.items in let long : c.len.result ≡ length fs = omega arith in let shape = c.args.store.now.shape in
     let room = c.requires.room in let size = c.requires.size in let low : t.rows + c.args.size / 16 ≤ 8192 = omega arith in let tried = c.requires.tried in let done = c.resize.ensures in
-    subst (λ (k : ℕ). TriedWith c.resize.new.self.mirror fs (t.blocks + (k + 1)) (t.rows + c.args.size / 16) c.args.size t.point shape c.resize.new.writer.place) (sym long)
-    (resized_tried t.masks.mirror fs t.blocks t.rows t.size t.point shape c.args.writer.now.place tried c.in_ok-numbers_from.field-0
+    subst (λ (k : ℕ). TriedWith c.resize.new.self fs (t.blocks + (k + 1)) (t.rows + c.args.size / 16) c.args.size t.point shape c.resize.new.writer.place) (sym long)
+    (resized_tried t.masks fs t.blocks t.rows t.size t.point shape c.args.writer.now.place tried c.in_ok-numbers_from.field-0
     (c.in_ok-numbers_from.ensures ∙ ap (λ (k : ℕ). range_with_len t.blocks (k + 1)) long) room.0 c.args.size size.0 (size.1, size.2) c.in_ok-numbers_from-2.field-0 c.in_ok-numbers_from-2.ensures low
-    c.resize.new.self.mirror c.resize.new.writer.place (done.seen tried.mask t.point fs tried.stands tried.has) done.sheet done.kept (done.masks tried.mask t.point fs tried.stands tried.has) (done.list t.point fs tried.has))
+    c.resize.new.self c.resize.new.writer.place (done.seen tried.mask t.point fs tried.stands tried.has) done.sheet done.kept (done.masks tried.mask t.point fs tried.stands tried.has) (done.list t.point fs tried.has))

@@ -11,12 +11,12 @@ use Rattle.trial_mask.proofs.trial.Trial.take_one.Goals as goal
 pub remove-requires-clause-there : goal.remove-requires-clause-there
 remove-requires-clause-there c = let t = c.args.self.now in let fs = t.filters.items in let f = c.index.result.now in
     let is : slice_get fs c.args.place ≡ Some f = slice_get-get_or fs c.args.place f c.requires.there ∙ ap Some (sym c.index.ensures) in
-    take_there t.masks.mirror fs t.blocks t.rows t.size t.point c.args.store.now.shape c.args.writer.now.place c.requires.tried c.args.place f is
+    take_there t.masks fs t.blocks t.rows t.size t.point c.args.store.now.shape c.args.writer.now.place c.requires.tried c.args.place f is
 
 pub remove-requires-clause-many : goal.remove-requires-clause-many
 remove-requires-clause-many c = λ kept root front filter stands at. let t = c.args.self.now in let fs = t.filters.items in let f = c.index.result.now in
     let is : slice_get fs c.args.place ≡ Some f = slice_get-get_or fs c.args.place f c.requires.there ∙ ap Some (sym c.index.ensures) in
-    take_many t.masks.mirror fs t.blocks t.rows t.size t.point c.args.store.now.shape c.args.writer.now.place c.requires.tried c.args.place f is
+    take_many t.masks fs t.blocks t.rows t.size t.point c.args.store.now.shape c.args.writer.now.place c.requires.tried c.args.place f is
     c.args.count (c.requires.count f is) c.in_ok-numbers_from.field-0 c.in_ok-numbers_from.ensures kept root front filter stands at
 
 pub remove-requires-clause-given : goal.remove-requires-clause-given
@@ -27,14 +27,14 @@ remove-requires-clause-given c = let t = c.args.self.now in let room = c.require
 pub remove-requires-clause-lawful : goal.remove-requires-clause-lawful
 remove-requires-clause-lawful c = λ kept root front filter stands at. let t = c.args.self.now in let fs = t.filters.items in let f = c.index.result.now in
     let is : slice_get fs c.args.place ≡ Some f = slice_get-get_or fs c.args.place f c.requires.there ∙ ap Some (sym c.index.ensures) in
-    take_lawful t.masks.mirror fs t.blocks t.rows t.size t.point c.args.store.now.shape c.args.writer.now.place c.requires.tried c.args.place f is
+    take_lawful t.masks fs t.blocks t.rows t.size t.point c.args.store.now.shape c.args.writer.now.place c.requires.tried c.args.place f is
     c.args.count (c.requires.count f is) c.in_ok-numbers_from.field-0 c.in_ok-numbers_from.ensures kept root front filter stands at c.requires.rest c.requires.room.0
 
 pub returns-clause-tried : goal.returns-clause-tried
 returns-clause-tried c = let t = c.args.self.now in let fs = t.filters.items in let f = c.index.result.now in let shape = c.args.store.now.shape in
     let is : slice_get fs c.args.place ≡ Some f = slice_get-get_or fs c.args.place f c.requires.there ∙ ap Some (sym c.index.ensures) in
     let done = c.remove.ensures in let r = done.done c.requires.tried.mask c.requires.tried.stands in
-    subst (λ (l : List StoredFilter). TriedWith c.remove.new.self.mirror l (t.blocks + c.args.count) t.rows t.size (t.point + 1) shape c.remove.new.writer.place) (sym c.remove-2.ensures.items)
-    (take_tried t.masks.mirror fs t.blocks t.rows t.size t.point shape c.args.writer.now.place c.requires.tried c.args.place f is
+    subst (λ (l : List StoredFilter). TriedWith c.remove.new.self l (t.blocks + c.args.count) t.rows t.size (t.point + 1) shape c.remove.new.writer.place) (sym c.remove-2.ensures.items)
+    (take_tried t.masks fs t.blocks t.rows t.size t.point shape c.args.writer.now.place c.requires.tried c.args.place f is
     c.args.count (c.requires.count f is) c.in_ok-numbers_from.field-0 c.in_ok-numbers_from.ensures c.requires.tried.mask r.0 r.1 r.2 c.requires.tried.stands r.3 c.requires.rest c.requires.room.0
-    c.remove.new.self.mirror c.remove.new.writer.place r.4 done.sheet done.kept done.masks done.list)
+    c.remove.new.self c.remove.new.writer.place r.4 done.sheet done.kept done.masks done.list)
