@@ -29,6 +29,7 @@ fn first_age(edit: Point) -> u64
 }
 
 impl MaskWriter {
+    ghost use Rattle.block_codec.specs.declared.places.TheConstants.{BLOCK_WORDS, MASK_SLOTS, POOL_BLOCKS, ROOTS};
     ghost use Rattle.std.specs.Prelude.{◌≢◌, ◌<◌, ◌+◌, ◌++◌, ◌∷◌, List, [], length, slice_index, slice_set};
     ghost use Rattle.store_history.specs.declared.history.Named.{Named};
     ghost use Rattle.store_history.specs.History.{root_of};
@@ -44,7 +45,7 @@ impl MaskWriter {
 
     /// Takes the room for the masks of a store of this shape. No mask stands. No other call takes memory.
     pub fn with_room(alloc: Global, _shape: Shape) -> Result<MaskWriter, NoMemory>
-        requires { (_shape.words ≡ 40) × (16384 ≤ _shape.blocks) × (141315 ≤ _shape.roots) }
+        requires { (_shape.words ≡ BLOCK_WORDS) × (POOL_BLOCKS ≤ _shape.blocks) × (ROOTS ≤ _shape.roots) }
         ensures empty { IfOk result (λ made. (slot : ℕ) → IsEmptyAt made slot) }
         ensures kept { IfOk result (λ made. (shape : Shape) (cells : List ℕ) (roots : ℕ → Named) → AreNamed made shape cells roots) }
         ensures left { IfOk result (λ made. (blocks_left made ≡ []) × (rows_left made ≡ [])) }
@@ -71,11 +72,11 @@ impl MaskWriter {
         edit: Point,
     )
         requires store { IsSeatOf store.now writer.old.place }
-        requires shape { (store.now.shape.words ≡ 40) × (16384 ≤ store.now.shape.blocks) × (141315 ≤ store.now.shape.roots) }
-        requires slot { slot < 8192 }
+        requires shape { (store.now.shape.words ≡ BLOCK_WORDS) × (POOL_BLOCKS ≤ store.now.shape.blocks) × (ROOTS ≤ store.now.shape.roots) }
+        requires slot { slot < MASK_SLOTS }
         requires stands { (kept : KeptMask) × StandsAt self.old slot kept }
         requires storable { IsStorableFilter filter.now }
-        requires given { (length given.now.blocks ≡ 1) × (slice_index given.now.blocks 0 < 16384) }
+        requires given { (length given.now.blocks ≡ 1) × (slice_index given.now.blocks 0 < POOL_BLOCKS) }
         requires free { IsUnnamed (base_of (sheet_of writer.old.place)) (seen_by writer.old.place) (slice_index given.now.blocks 0) }
         requires kept { AreNamed self.old store.now.shape (sheet_of writer.old.place).cells (root_of (seen_by writer.old.place)) }
         requires lawful { (kept : KeptMask) → StandsAt self.old slot kept → L.keeps
@@ -121,7 +122,7 @@ impl MaskWriter {
 
     /// Takes the mask at a slot out of the writer. It makes no commit: the caller sees to it that no head names the slot any more.
     pub fn forget(&mut self, slot: u32)
-        requires slot { slot < 8192 }
+        requires slot { slot < MASK_SLOTS }
         requires stands { (kept : KeptMask) × StandsAt self.old slot kept }
         requires kept { (shape : Shape) × (cells : List ℕ) × (roots : ℕ → Named) × AreNamed self.old shape cells roots }
         ensures gone { masks_of self.new ≡ slice_set (masks_of self.old) slot None }

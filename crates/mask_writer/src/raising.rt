@@ -1,4 +1,5 @@
 //! Masks that come to stand.
+ghost use Rattle.block_codec.specs.declared.places.TheConstants.{BLOCK_WORDS, MASK_SLOTS, POOL_BLOCKS, ROOTS};
 ghost use Rattle.std.specs.Prelude.{◌≡◌, ◌≢◌, ℕ, ◌+◌, ◌<◌, ◌≤◌, ◌++◌, ◌∷◌, List, [], length, take, slice_index, slice_set, Some, All};
 ghost use Rattle.store_history.specs.History.{root_of};
 ghost use Rattle.pin_store.specs.Layout.{block_words};
@@ -39,8 +40,8 @@ impl MaskWriter {
         edit: Point,
     )
         requires store { IsSeatOf store.now writer.old.place }
-        requires shape { (store.now.shape.words ≡ 40) × (16384 ≤ store.now.shape.blocks) × (141315 ≤ store.now.shape.roots) }
-        requires slot { slot < 8192 }
+        requires shape { (store.now.shape.words ≡ BLOCK_WORDS) × (POOL_BLOCKS ≤ store.now.shape.blocks) × (ROOTS ≤ store.now.shape.roots) }
+        requires slot { slot < MASK_SLOTS }
         requires empty { IsEmptyAt self.old slot }
         requires mask { IsStorableMask mask.now }
         requires rows { AreFree self.old mask.now.rows }
@@ -90,8 +91,8 @@ impl MaskWriter {
         edit: Point,
     )
         requires store { IsSeatOf store.now writer.old.place }
-        requires shape { (store.now.shape.words ≡ 40) × (16384 ≤ store.now.shape.blocks) × (141315 ≤ store.now.shape.roots) }
-        requires slot { slot < 8192 }
+        requires shape { (store.now.shape.words ≡ BLOCK_WORDS) × (POOL_BLOCKS ≤ store.now.shape.blocks) × (ROOTS ≤ store.now.shape.roots) }
+        requires slot { slot < MASK_SLOTS }
         requires empty { IsEmptyAt self.old slot }
         requires mask { IsStorableMask mask.now }
         requires rows { AreFree self.old mask.now.rows }

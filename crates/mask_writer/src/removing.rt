@@ -9,6 +9,7 @@ use store_history::{EditName, Law};
 use tc_base::Point;
 
 impl MaskWriter {
+    ghost use Rattle.block_codec.specs.declared.places.TheConstants.{BLOCK_WORDS, MASK_SLOTS, POOL_BLOCKS, ROOTS};
     ghost use Rattle.std.specs.Prelude.{◌≡◌, ◌≢◌, ℕ, ◌+◌, ◌<◌, ◌≤◌, ◌++◌, ◌∷◌, [], List, length, map, take};
     ghost use Rattle.store_history.specs.declared.history.Link.{Link};
     ghost use Rattle.store_history.specs.declared.history.Named.{Named};
@@ -28,7 +29,7 @@ impl MaskWriter {
     /// How many filters stand in front of the one with a handle in its bucket of the mask at a slot, which has such a filter: so many blocks are
     /// to be given to the removal of that filter. Nothing else is changed, and no commit is made.
     pub fn later_than(&mut self, slot: u32, handle: u32) -> u32
-        requires slot { slot < 8192 }
+        requires slot { slot < MASK_SLOTS }
         requires there { (kept : KeptMask) × (shape : Shape) × (cells : List ℕ) × (roots : ℕ → Named) × (root : ℕ) × (front : List StoredFilter) × (filter : StoredFilter)
             × StandsAt self.old slot kept × AreNamed self.old shape cells roots × FilterAt roots kept.mask handle root front filter }
         ensures count { (kept : KeptMask) (shape : Shape) (cells : List ℕ) (roots : ℕ → Named) → StandsAt self.old slot kept → AreNamed self.old shape cells roots
@@ -54,8 +55,8 @@ impl MaskWriter {
         edit: Point,
     )
         requires store { IsSeatOf store.now writer.old.place }
-        requires shape { (store.now.shape.words ≡ 40) × (16384 ≤ store.now.shape.blocks) × (141315 ≤ store.now.shape.roots) }
-        requires slot { slot < 8192 }
+        requires shape { (store.now.shape.words ≡ BLOCK_WORDS) × (POOL_BLOCKS ≤ store.now.shape.blocks) × (ROOTS ≤ store.now.shape.roots) }
+        requires slot { slot < MASK_SLOTS }
         requires there { (kept : KeptMask) × (root : ℕ) × (front : List StoredFilter) × (filter : StoredFilter)
             × StandsAt self.old slot kept × FilterAt (root_of (seen_by writer.old.place)) kept.mask handle root front filter }
         requires many { (kept : KeptMask) (root : ℕ) (front : List StoredFilter) (filter : StoredFilter) → StandsAt self.old slot kept
@@ -111,8 +112,8 @@ impl MaskWriter {
         edit: Point,
     )
         requires store { IsSeatOf store.now writer.old.place }
-        requires shape { (store.now.shape.words ≡ 40) × (16384 ≤ store.now.shape.blocks) × (141315 ≤ store.now.shape.roots) }
-        requires slot { slot < 8192 }
+        requires shape { (store.now.shape.words ≡ BLOCK_WORDS) × (POOL_BLOCKS ≤ store.now.shape.blocks) × (ROOTS ≤ store.now.shape.roots) }
+        requires slot { slot < MASK_SLOTS }
         requires storable { IsStorableFilter filter.now }
         requires there { (kept : KeptMask) × (front : List StoredFilter) × (old : StoredFilter)
             × StandsAt self.old slot kept × FilterAt (root_of (seen_by writer.old.place)) kept.mask filter.now.handle (root_for kept.mask filter.now) front old }

@@ -1,4 +1,5 @@
 //! Masks that get another number of buckets.
+ghost use Rattle.block_codec.specs.declared.places.TheConstants.{MASK_SLOTS};
 ghost use Rattle.std.specs.Prelude.{◌≡◌, ◌<◌, ◌≤◌, ℕ, length, drop};
 ghost use Rattle.block_codec.specs.declared.mask.StoredMask.{StoredMask};
 ghost use Rattle.mask_mirror.specs.declared.mirror.KeptMask.{KeptMask};
@@ -17,7 +18,7 @@ use tc_base::Point;
 
 // The mask at a slot with another number of buckets, in these rows.
 fn resized_mask(mirror: &Mirror, slot: u32, size: u32, rows: &[u32]) -> StoredMask
-    requires slot { slot < 8192 }
+    requires slot { slot < MASK_SLOTS }
     requires stands { (kept : KeptMask) × Stands mirror.now slot kept }
     requires few { length rows.now ≤ 64 }
     ensures { (kept : KeptMask) → Stands mirror.now slot kept → result ≡ resized kept.mask size rows.now }
@@ -42,6 +43,7 @@ fn behind_first(blocks: &[u32]) -> &[u32]
 }
 
 impl MaskWriter {
+    ghost use Rattle.block_codec.specs.declared.places.TheConstants.{BLOCK_WORDS, MASK_SLOTS, POOL_BLOCKS, ROOTS};
     ghost use Rattle.std.specs.Prelude.{◌≢◌, ◌+◌, ◌*◌, ◌++◌, ◌∷◌, List, take, slice_index, slice_set, Some, IsTrue};
     ghost use Rattle.store_history.specs.History.{root_of};
     ghost use Rattle.pin_store.specs.Layout.{block_words};
@@ -70,8 +72,8 @@ impl MaskWriter {
         blocks: &[u32],
     ) -> usize
         requires store { IsSeatOf store.now writer.old.place }
-        requires shape { (store.now.shape.words ≡ 40) × (16384 ≤ store.now.shape.blocks) }
-        requires slot { slot < 8192 }
+        requires shape { (store.now.shape.words ≡ BLOCK_WORDS) × (POOL_BLOCKS ≤ store.now.shape.blocks) }
+        requires slot { slot < MASK_SLOTS }
         requires mask { IsStorableMask mask.now }
         requires rows { AreFreeRows self.old.mirror mask.now.rows }
         requires there { (kept : KeptMask) × (last : ℕ) × (fs : List StoredFilter) × Stands self.old.mirror slot kept × HasFilters self.old.mirror slot last fs }
@@ -124,8 +126,8 @@ impl MaskWriter {
         stamp: Point,
     )
         requires store { IsSeatOf store.now writer.old.place }
-        requires shape { (store.now.shape.words ≡ 40) × (16384 ≤ store.now.shape.blocks) × (141315 ≤ store.now.shape.roots) }
-        requires slot { slot < 8192 }
+        requires shape { (store.now.shape.words ≡ BLOCK_WORDS) × (POOL_BLOCKS ≤ store.now.shape.blocks) × (ROOTS ≤ store.now.shape.roots) }
+        requires slot { slot < MASK_SLOTS }
         requires size { IsTrue (is_size size) × (size ≡ 16 * length given.now.rows) }
         requires rows { AreFree self.old given.now.rows }
         requires there { (kept : KeptMask) × (last : ℕ) × (fs : List StoredFilter) × StandsAt self.old slot kept × Holds self.old slot last fs }

@@ -1,19 +1,18 @@
 -- The first mask, before any commit.
-use Rattle.std.proofs.Common.{◌≡◌, ◌∙◌, ℕ, ◌<◌, eqb, List, [], ◌∷◌, ◌++◌, length, get_or, take, Option, Some, None, refl, sym, ap, subst, arith, set, slice_get}
+use Rattle.std.proofs.Common.{◌≡◌, ◌∙◌, ℕ, ◌<◌, List, [], ◌∷◌, ◌++◌, length, get_or, take, Some, None, refl, sym, ap, subst, arith, set, slice_get}
 use Rattle.std.specs.Prelude.{All}
 use Rattle.std.specs.List.{range_with_len}
 use Rattle.block_codec.specs.declared.filter.StoredFilter.{StoredFilter}
 use Rattle.std.proofs.lemmas.List.Elements.{All-cons, All-nil}
 use Rattle.store_history.specs.declared.history.Commit.{Commit}
-use Rattle.flow_mask.specs.Sizes.{is_size}
 use Rattle.block_codec.specs.declared.mask.StoredMask.{StoredMask}
 use Rattle.block_codec.specs.Masks.{IsStorableMask}
 use Rattle.mask_table.specs.Buckets.{bucket_root}
 use Rattle.mask_writer.specs.declared.mask_writer.MaskWriter.{MaskWriter}
 use Rattle.mask_mirror.specs.Linked.{placed, raise_commits}
-use Rattle.mask_order.specs.Fitting.{FitsBlock, FitInto}
+use Rattle.mask_order.specs.Fitting.{FitsBlock}
 use Rattle.lone_mask.specs.declared.change.Change.{Change}
-use Rattle.lone_mask.specs.Lone.{lone_words, first_filter, start, Keeps, WasUsed}
+use Rattle.lone_mask.specs.Lone.{lone_words, first_filter, start, Keeps}
 use Rattle.store_history.proofs.Histories.{nothing_named}
 use Rattle.lone_commits.specs.Ledger.{AreBelow}
 use Rattle.lone_mask.proofs.Asked.{nothing_kept}
@@ -27,7 +26,6 @@ use Rattle.pin_store.specs.declared.shape.Shape.{Shape}
 use Rattle.pin_store.specs.declared.view.View.{View}
 use Rattle.pin_store.specs.Sheets.{base_of, IsSameButCells}
 use Rattle.pin_store.specs.Calls.{seen_by, sheet_of}
-use Rattle.mask_mirror.specs.declared.mirror.KeptMask.{KeptMask}
 use Rattle.mask_writer.specs.Standing.{masks_of, Holds, AreNamed, AreFree}
 use Rattle.lone_mask.specs.Lone.{now, point_of}
 use Rattle.lone_commits.specs.Ledger.{RowsBelow}

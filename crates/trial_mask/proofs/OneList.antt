@@ -1,5 +1,5 @@
 -- A mask has its filters in one order alone.
-use Rattle.std.proofs.Common.{◌≡◌, ◌∙◌, ℕ, zero, suc, ◌+◌, ◌<◌, ◌≤◌, ◌⊎◌, inl, inr, Bool, true, false, cond, eqb, List, [], ◌∷◌, ◌++◌, length, map, get_or, slice_get, Option, Some, refl, sym, ap, subst, arith, eq-eqb}
+use Rattle.std.proofs.Common.{◌≡◌, ◌∙◌, ℕ, zero, suc, ◌+◌, ◌<◌, ◌≤◌, ◌⊎◌, inl, inr, Bool, true, false, cond, eqb, List, [], ◌∷◌, length, map, get_or, slice_get, Option, Some, refl, sym, ap, subst, arith, eq-eqb}
 use Rattle.std.proofs.lemmas.Option.{slice_get_within}
 use Rattle.store_history.specs.declared.history.Named.{Named}
 use Rattle.pin_store.specs.declared.shape.Shape.{Shape}
@@ -13,8 +13,6 @@ use Rattle.mask_mirror.proofs.Keeping.{same_kept, some_buckets}
 use Rattle.hook_law.proofs.Growing.{get_before, get_behind, get_parts, some_is}
 use Rattle.std.proofs.lemmas.Nat.{mod_below}
 use Rattle.flow_mask.specs.Hashes.{hash_of}
-use Rattle.block_codec.specs.declared.mask.StoredMask.{StoredMask}
-use Rattle.block_codec.specs.Masks.{IsStorableMask}
 
 -- ---- what is kept of a bucket has each of its filters with its age, and no other
 module _ (size b : ℕ) where

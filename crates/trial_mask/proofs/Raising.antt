@@ -1,5 +1,5 @@
 -- A trial after the commits of a whole mask.
-use Rattle.std.proofs.Common.{◌≡◌, ◌∙◌, ℕ, ◌<◌, ◌≤◌, Bool, true, false, eqb, List, [], ◌∷◌, ◌++◌, length, get_or, set, slice_get, Option, Some, None, refl, sym, ap, subst, arith, eqb-true, get_or-set_other, get_or-set_same}
+use Rattle.std.proofs.Common.{◌≡◌, ◌∙◌, ℕ, ◌<◌, ◌≤◌, Bool, true, false, eqb, List, ◌++◌, length, get_or, set, slice_get, Option, Some, None, refl, sym, ap, subst, arith, eqb-true, get_or-set_other, get_or-set_same}
 use Rattle.std.specs.Prelude.{All}
 use Rattle.std.proofs.lemmas.Bool.{eqb-false}
 use Rattle.atomic_table.specs.declared.shared.Seat.{Seat}

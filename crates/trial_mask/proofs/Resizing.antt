@@ -1,5 +1,5 @@
 -- A trial whose mask gets another number of buckets.
-use Rattle.std.proofs.Common.{◌≡◌, ◌∙◌, ℕ, ◌+◌, ◌*◌, ◌/◌, ◌<◌, ◌≤◌, IsTrue, List, [], ◌∷◌, ◌++◌, eqb, length, get_or, set, take, slice_get, Some, refl, sym, ap, subst, arith}
+use Rattle.std.proofs.Common.{◌≡◌, ◌∙◌, ℕ, ◌+◌, ◌*◌, ◌/◌, ◌<◌, ◌≤◌, IsTrue, List, ◌++◌, eqb, length, get_or, set, take, slice_get, Some, sym, ap, subst, arith}
 use Rattle.std.specs.Prelude.{All}
 use Rattle.std.specs.List.{range_with_len, IsDistinct}
 use Rattle.std.proofs.lemmas.Bool.Decides.{nat_tests}
@@ -24,10 +24,10 @@ use Rattle.mask_mirror.specs.declared.mirror.KeptMask.{KeptMask}
 use Rattle.mask_writer.specs.Standing.{masks_of, StandsAt, Holds, AreNamed, AreFree}
 use Rattle.mask_mirror.specs.Linked.{placed, resized, raise_commits}
 use Rattle.mask_writer.proofs.Standing.{one_mask, record_read}
-use Rattle.mask_order.specs.Fitting.{FitsBlock, FitInto}
+use Rattle.mask_order.specs.Fitting.{FitInto}
 use Rattle.lone_mask.specs.declared.change.Change.{Change}
 use Rattle.hook_law.proofs.Growing.{some_is}
-use Rattle.lone_mask.specs.Lone.{lone_words, point_of, now, IsRecord, Keeps}
+use Rattle.lone_mask.specs.Lone.{now, IsRecord, Keeps}
 use Rattle.lone_commits.proofs.Spending.{mask_fresh}
 use Rattle.lone_commits.proofs.WholeMask.{mask_follows, buckets_apart}
 use Rattle.trial_mask.specs.Trial.{TriedWith}

@@ -1,4 +1,5 @@
 -- What holds of a trial between its calls (this project's own). `p` is the seat of the store's writer.
+use Rattle.block_codec.specs.declared.places.TheConstants.{POOL_BLOCKS, ROWS}
 use Rattle.std.specs.Prelude.{◌≡◌, ◌≢◌, ℕ, ◌+◌, ◌<◌, ◌≤◌, List, length, All}
 use Rattle.atomic_table.specs.declared.shared.Seat.{Seat}
 use Rattle.store_history.specs.History.{root_of}
@@ -34,9 +35,9 @@ pub record TriedWith (writer : MaskWriter) (filters : List StoredFilter) (blocks
   pub has : Holds writer 0 point filters
   pub edits : point_of (seen_by p) ≡ point
   pub blocks_below : AreBelow (seen_by p) blocks
-  pub few_blocks : blocks ≤ 16384
+  pub few_blocks : blocks ≤ POOL_BLOCKS
   pub rows_below : RowsBelow (seen_by p) rows
-  pub few_rows : rows ≤ 8192
+  pub few_rows : rows ≤ ROWS
   pub keys : HaveOwnKeys filters
   pub handles : HaveOwnHandles filters
   pub fit : All FitsBlock filters
@@ -58,4 +59,4 @@ IsNew t filter = All (IsOther filter) t.filters.items
 
 -- so many blocks are left, those that another size would want, and the rows of any size
 abbrev pub HasRoom : Trial → ℕ → Type 0
-HasRoom t more = (t.blocks + more + length t.filters.items + 2 ≤ 16384) × (t.rows + 64 ≤ 8192) × (t.point + 1 < 4294967296)
+HasRoom t more = (t.blocks + more + length t.filters.items + 2 ≤ POOL_BLOCKS) × (t.rows + 64 ≤ ROWS) × (t.point + 1 < 4294967296)

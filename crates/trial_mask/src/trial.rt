@@ -27,6 +27,7 @@ pub struct Trial {
 }
 
 impl Trial {
+    ghost use Rattle.block_codec.specs.declared.places.TheConstants.{BLOCK_WORDS, POOL_BLOCKS, ROOTS, ROWS};
     ghost use Rattle.std.specs.Prelude.{◌≢◌, ◌≤◌, ◌↔◌, ◌++◌, ℕ, Some, None, IfSome, All, slice_get, drop, Ok, true, false, IsTrue};
     ghost use Rattle.std.specs.List.{remove};
     ghost use Rattle.pin_store.specs.Sheets.{base_of};
@@ -45,7 +46,7 @@ impl Trial {
         store: &Store<LoneLaw>,
     ) -> Result<Trial, NoMemory>
         requires store { IsSeatOf store.now writer.old.place }
-        requires shape { (store.now.shape.words ≡ 40) × (16384 ≤ store.now.shape.blocks) × (141315 ≤ store.now.shape.roots) }
+        requires shape { (store.now.shape.words ≡ BLOCK_WORDS) × (POOL_BLOCKS ≤ store.now.shape.blocks) × (ROOTS ≤ store.now.shape.roots) }
         requires new { (seen_by writer.old.place ≡ []) × (base_of (sheet_of writer.old.place) ≡ 0) }
         ensures store { IsSeatOf store.now writer.new.place }
         ensures tried { IfOk result (λ t. IsTried t store.now.shape writer.new.place) }
@@ -79,10 +80,10 @@ impl Trial {
         filter: StoredFilter,
     ) -> Result<(), NoMemory>
         requires store { IsSeatOf store.now writer.old.place }
-        requires shape { (store.now.shape.words ≡ 40) × (16384 ≤ store.now.shape.blocks) × (141315 ≤ store.now.shape.roots) }
+        requires shape { (store.now.shape.words ≡ BLOCK_WORDS) × (POOL_BLOCKS ≤ store.now.shape.blocks) × (ROOTS ≤ store.now.shape.roots) }
         requires tried { IsTried self.old store.now.shape writer.old.place }
         requires rest { IsAtRest self.old }
-        requires room { (self.old.blocks < 16384) × (self.old.point + 1 < 2 ^ 32) }
+        requires room { (self.old.blocks < POOL_BLOCKS) × (self.old.point + 1 < 2 ^ 32) }
         requires fits { FitsBlock filter }
         requires new { IsNew self.old filter }
         ensures store { IsSeatOf store.now writer.new.place }
@@ -113,9 +114,9 @@ impl Trial {
         size: u32,
     ) -> Result<(), NoMemory>
         requires store { IsSeatOf store.now writer.old.place }
-        requires shape { (store.now.shape.words ≡ 40) × (16384 ≤ store.now.shape.blocks) × (141315 ≤ store.now.shape.roots) }
+        requires shape { (store.now.shape.words ≡ BLOCK_WORDS) × (POOL_BLOCKS ≤ store.now.shape.blocks) × (ROOTS ≤ store.now.shape.roots) }
         requires tried { IsTried self.old store.now.shape writer.old.place }
-        requires room { (self.old.blocks + length self.old.filters.items + 1 ≤ 16384) × (self.old.rows + 64 ≤ 8192) }
+        requires room { (self.old.blocks + length self.old.filters.items + 1 ≤ POOL_BLOCKS) × (self.old.rows + 64 ≤ ROWS) }
         requires size { (size ≡ size_of (length self.old.filters.items)) × IsTrue (is_size size) × (size ≤ 1024) }
         ensures store { IsSeatOf store.now writer.new.place }
         ensures tried { IsTried self.new store.now.shape writer.new.place }
@@ -143,9 +144,9 @@ impl Trial {
         store: &Store<LoneLaw>,
     ) -> Result<(), NoMemory>
         requires store { IsSeatOf store.now writer.old.place }
-        requires shape { (store.now.shape.words ≡ 40) × (16384 ≤ store.now.shape.blocks) × (141315 ≤ store.now.shape.roots) }
+        requires shape { (store.now.shape.words ≡ BLOCK_WORDS) × (POOL_BLOCKS ≤ store.now.shape.blocks) × (ROOTS ≤ store.now.shape.roots) }
         requires tried { IsTried self.old store.now.shape writer.old.place }
-        requires room { (self.old.blocks + length self.old.filters.items + 1 ≤ 16384) × (self.old.rows + 64 ≤ 8192) }
+        requires room { (self.old.blocks + length self.old.filters.items + 1 ≤ POOL_BLOCKS) × (self.old.rows + 64 ≤ ROWS) }
         ensures store { IsSeatOf store.now writer.new.place }
         ensures tried { IsTried self.new store.now.shape writer.new.place }
         ensures rest { IfOk result (λ _. IsAtRest self.new) }
@@ -190,7 +191,7 @@ impl Trial {
         filter: StoredFilter,
     ) -> Result<bool, NoMemory>
         requires store { IsSeatOf store.now writer.old.place }
-        requires shape { (store.now.shape.words ≡ 40) × (16384 ≤ store.now.shape.blocks) × (141315 ≤ store.now.shape.roots) }
+        requires shape { (store.now.shape.words ≡ BLOCK_WORDS) × (POOL_BLOCKS ≤ store.now.shape.blocks) × (ROOTS ≤ store.now.shape.roots) }
         requires tried { IsTried self.old store.now.shape writer.old.place }
         requires rest { IsAtRest self.old }
         requires fits { FitsBlock filter }
@@ -227,10 +228,10 @@ impl Trial {
         count: u32,
     ) -> Result<(), NoMemory>
         requires store { IsSeatOf store.now writer.old.place }
-        requires shape { (store.now.shape.words ≡ 40) × (16384 ≤ store.now.shape.blocks) × (141315 ≤ store.now.shape.roots) }
+        requires shape { (store.now.shape.words ≡ BLOCK_WORDS) × (POOL_BLOCKS ≤ store.now.shape.blocks) × (ROOTS ≤ store.now.shape.roots) }
         requires tried { IsTried self.old store.now.shape writer.old.place }
         requires rest { IsAtRest self.old }
-        requires room { (self.old.blocks + count ≤ 16384) × (self.old.point + 1 < 2 ^ 32) }
+        requires room { (self.old.blocks + count ≤ POOL_BLOCKS) × (self.old.point + 1 < 2 ^ 32) }
         requires there { place < length self.old.filters.items }
         requires count { (f : StoredFilter) → slice_get self.old.filters.items place ≡ Some f
             → count ≡ length (bucket_of self.old.size (bucket_for self.old.size f.key.words) (drop (place + 1) self.old.filters.items)) }
@@ -278,7 +279,7 @@ impl Trial {
         handle: u32,
     ) -> Result<bool, NoMemory>
         requires store { IsSeatOf store.now writer.old.place }
-        requires shape { (store.now.shape.words ≡ 40) × (16384 ≤ store.now.shape.blocks) × (141315 ≤ store.now.shape.roots) }
+        requires shape { (store.now.shape.words ≡ BLOCK_WORDS) × (POOL_BLOCKS ≤ store.now.shape.blocks) × (ROOTS ≤ store.now.shape.roots) }
         requires tried { IsTried self.old store.now.shape writer.old.place }
         requires rest { IsAtRest self.old }
         ensures store { IsSeatOf store.now writer.new.place }

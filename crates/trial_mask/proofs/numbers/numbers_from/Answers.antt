@@ -1,4 +1,4 @@
-use Rattle.std.proofs.Common.{◌≡◌, ◌∙◌, ℕ, suc, ◌+◌, ◌-◌, ◌≤◌, List, [], ◌∷◌, ◌++◌, refl, sym, ap, arith}
+use Rattle.std.proofs.Common.{◌≡◌, ◌∙◌, ℕ, suc, ◌+◌, ◌-◌, ◌≤◌, [], ◌∷◌, ◌++◌, sym, ap, arith}
 use Rattle.std.specs.List.{range_with_len}
 use Rattle.trial_mask.proofs.Fresh.{range_more}
 use Rattle.trial_mask.proofs.numbers.numbers_from.Goals as goal

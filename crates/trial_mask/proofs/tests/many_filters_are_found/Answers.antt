@@ -1,9 +1,8 @@
-use Rattle.std.proofs.Common.{◌≡◌, arith, ap, subst}
+use Rattle.std.proofs.Common.{arith, ap, subst}
 use Rattle.std.specs.Prelude.{All}
 use Rattle.std.proofs.lemmas.List.Elements.{All-head}
-use Rattle.pin_store.specs.declared.view.Sheet.{Sheet}
 use Rattle.pin_store.specs.Sheets.{base_of}
-use Rattle.pin_store.specs.Calls.{IsNewReader, pin_of}
+use Rattle.pin_store.specs.Calls.{IsNewReader}
 use Rattle.trial_mask.proofs.tests.many_filters_are_found.Goals as goal
 
 pub fill_and_look-requires-clause-store : goal.fill_and_look-requires-clause-store

@@ -1,4 +1,4 @@
-use Rattle.std.proofs.Common.{rules, ◌+◌, ◌<◌, sym, arith}
+use Rattle.std.proofs.Common.{rules, ◌+◌, ◌<◌, sym}
 use Rattle.mask_bucket_edits.proofs.Chains.{short}
 use Rattle.mask_writer.proofs.mask_writer.MaskWriter.later_than.Goals as goal
 

@@ -1,7 +1,6 @@
-use Rattle.std.proofs.Common.{◌≡◌, ◌∙◌, ℕ, ◌+◌, ◌*◌, ◌/◌, ◌<◌, ◌≤◌, List, length, sym, ap, subst, arith}
+use Rattle.std.proofs.Common.{◌≡◌, ◌∙◌, ℕ, ◌+◌, ◌/◌, ◌≤◌, length, sym, ap, subst, arith}
 use Rattle.std.specs.List.{range_with_len}
 use Rattle.trial_mask.specs.Trial.{TriedWith}
-use Rattle.block_codec.specs.declared.filter.StoredFilter.{StoredFilter}
 use Rattle.pin_store.specs.Sheets.{base_of}
 use Rattle.pin_store.specs.Calls.{seen_by, sheet_of}
 use Rattle.trial_mask.proofs.Fresh.{fresh_given}
