@@ -41,8 +41,8 @@ fn push_table(into: &mut HeadRoom, table: &StoredTable)
 
 /// Puts the tables of a hook into the room, in their order, with the slots of their masks, and answers the point from which on they are the hook's.
 ///
-/// They are the tables that the hook's root names at the end of what the reader has then seen, which is every commit so far, and the point is
-/// that root's stamp. Each table costs the loads of a block, and the root one; the reader's seat counts them, and `steps` counts the same.
+/// They are the tables that the hook's root names at the end of what the reader has then seen, and the point is that root's
+/// stamp. Each table costs the loads of a block, and the root one; the reader's seat counts them, and `steps` counts the same.
 pub fn head<L: HeadLaw, M: Ledger>(
     reader: &mut Reader<L>,
     store: &Store<L>,

@@ -30,8 +30,9 @@
 //!
 //! `make_store` makes the store, its one writer and its readers. The `Store` is shared by `&` between all threads. The `Writer` and each
 //! `Reader` may be sent to any thread, and are used by one at a time, by `&mut`. A reader loads between `enter` and `leave` alone. Its
-//! seat counts the loads, where they happen, so no body above can hide one; a `Steps`, which takes no bytes, counts them for the caller. What one thread has seen reaches another by a `Receipt` (`receipt`, then
-//! `learn`), and the writer learns that a reader has seen nothing but its commits by `meet`.
+//! seat counts the loads of roots and of blocks' words where they happen, so no body above can hide one; a `Steps`, which takes no
+//! bytes, counts them for the caller. What one thread has seen reaches another by a `Receipt` (`receipt`, then `learn`), and the writer
+//! learns that a reader has seen nothing but its commits by `meet`.
 //!
 //! Only `make_store` takes memory. No call waits, and each returns.
 //!
@@ -41,7 +42,8 @@
 //! each kind of step keeps it is `steps_keep_the_rule`; that a block which may be filled is in no chain that a reader inside may load is
 //! `filled_blocks_are_free`.
 //!
-//! Not promised: that a reader ever leaves, so that an epoch ever becomes quiet; any order in time between threads that told each other
+//! Not promised: that what a load has seen is every commit that was made by then (no clause can speak of the time of a load in another
+//! thread); that a reader ever leaves, so that an epoch ever becomes quiet; any order in time between threads that told each other
 //! nothing; and that there is memory for a store.
 #![tactic(auto)]
 

@@ -96,8 +96,8 @@ impl<L: Law> Reader<L> {
         *pin = raised;
     }
 
-    /// What the root names at the end of what the reader has then seen, which is every commit so far. The law holds of these, with the
-    /// start of the reader's floor as its base. Counts one load.
+    /// What the root names at the end of what the reader has then seen. The law holds of these commits, with the start of the reader's
+    /// floor as its base. Counts one load.
     pub fn load_root<M: Ledger>(
         &mut self,
         store: &Store<L>,
