@@ -1,4 +1,5 @@
 -- A stored action (this project's own).
+use Rattle.act_registry.specs.declared.limits.TheConstants.{MADE_MAX}
 use Rattle.std.specs.Prelude.{◌≡◌, ℕ, ◌≤◌, List, ◌∷◌, Option}
 use Rattle.block_codec.specs.declared.action.StoredAction.{StoredAction}
 use Rattle.block_codec.specs.Blocks.{both, block, IsLink}
@@ -10,7 +11,7 @@ action_words stored = 4 ∷ both stored.serial stored.index ∷ params_words sto
 
 -- the limits of an action's numbers
 pub record IsStorableAction (stored : StoredAction) : Type 0 where
-  pub serial : (1 ≤ stored.serial) × (stored.serial ≤ 16384)
+  pub serial : (1 ≤ stored.serial) × (stored.serial ≤ MADE_MAX)
   pub index : (1 ≤ stored.index) × (stored.index ≤ 4294967295)
   pub params : AreStorable stored.params
 

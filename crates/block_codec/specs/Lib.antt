@@ -7,3 +7,4 @@ pub mod Parameters
 pub mod Actions
 pub mod Reading
 pub mod ReadingParameters
+pub mod Shapes

@@ -1,5 +1,6 @@
 -- The names of actions and masks in a word, and the limits of their numbers (this project's own).
-use Rattle.block_codec.specs.declared.places.TheConstants.{MASK_SLOTS}
+use Rattle.act_registry.specs.declared.limits.TheConstants.{MADE_MAX}
+use Rattle.block_codec.specs.declared.places.TheConstants.{ACTION_SLOTS, MASK_SLOTS}
 use Rattle.std.specs.Prelude.{ℕ, ◌%◌, ◌/◌, ◌^◌, ◌<◌, ◌≤◌}
 use Rattle.visit_room.specs.declared.names.ActionName.{ActionName}
 use Rattle.visit_room.specs.declared.names.MaskName.{MaskName}
@@ -14,8 +15,8 @@ action_in word = record { serial = word % 2 ^ 32; slot = word / 2 ^ 32 }
 
 -- a run makes at most 16,384 actions, counted from 1, and 2,048 places have one at a time
 pub record IsActionName (name : ActionName) : Type 0 where
-  pub serial : (1 ≤ name.serial) × (name.serial ≤ 16384)
-  pub slot : name.slot < 2048
+  pub serial : (1 ≤ name.serial) × (name.serial ≤ MADE_MAX)
+  pub slot : name.slot < ACTION_SLOTS
 
 abbrev pub mask_word : MaskName → ℕ
 mask_word name = both name.serial name.slot

@@ -1,4 +1,5 @@
 -- What is looked at before words are read, and the things that they then are (this project's own).
+use Rattle.act_registry.specs.declared.limits.TheConstants.{MADE_MAX}
 use Rattle.block_codec.specs.declared.places.TheConstants.{ROWS}
 use Rattle.std.specs.Prelude.{◌≡◌, ℕ, ◌+◌, ◌*◌, ◌/◌, ◌%◌, ◌^◌, ◌<◌, ◌≤◌, ◌==◌, List, map, take, slice_index, slice_range, if◌then◌else◌, All, IsTrue}
 use Rattle.std.specs.List.{range_with_len}
@@ -82,7 +83,7 @@ table_read words = record {
 -- the words beside the parameters are those of an action: its kind, its numbers within their limits, zeros, and a link
 pub record HasAction (words : List ℕ) : Type 0 where
   pub kind : slice_index words 0 ≡ 4
-  pub serial : (1 ≤ slice_index words 1 % 2 ^ 32) × (slice_index words 1 % 2 ^ 32 ≤ 16384)
+  pub serial : (1 ≤ slice_index words 1 % 2 ^ 32) × (slice_index words 1 % 2 ^ 32 ≤ MADE_MAX)
   pub index : 1 ≤ slice_index words 1 / 2 ^ 32
   pub rest : IsBlankFrom 7 words
   pub link : slice_index words 39 ≤ 2 ^ 32

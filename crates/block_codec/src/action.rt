@@ -5,9 +5,9 @@ ghost use Rattle.block_codec.specs.Actions.{IsStorableAction, IsActionBlock};
 ghost use Rattle.block_codec.specs.Reading.{HasAction};
 
 use crate::block::{LINK, Named, both_halves, high_half, is_blank_from, low_half, number_before};
-use crate::names::SERIAL_MAX;
 use crate::parameters::{params_words, read_params};
 use act_kinds::Params;
+use act_registry::MADE_MAX;
 
 // The kind of block.
 const ACTION: u64 = 4;
@@ -25,7 +25,7 @@ pub struct StoredAction {
     pub params: Params,
 }
 
-/// Writes an action whose serial is from 1 to 16,384, whose index isn't 0, and whose control goes to a chain or a place of
+/// Writes an action whose serial is from 1 to `MADE_MAX`, whose index isn't 0, and whose control goes to a chain or a place of
 /// 268,435,455 at most.
 pub fn write_action(stored: &StoredAction, link: Option<u32>, words: &mut [u64; 40])
     requires { IsStorableAction stored.now }
@@ -43,7 +43,7 @@ fn has_action(words: &[u64; 40]) -> bool
 {
     words[0] == ACTION
         && 1 <= low_half(words[1])
-        && low_half(words[1]) <= SERIAL_MAX
+        && low_half(words[1]) <= MADE_MAX
         && 1 <= high_half(words[1])
         && is_blank_from(words, BEHIND_PARAMS)
         && words[LINK] <= 1 << 32

@@ -4,10 +4,8 @@ ghost use Rattle.block_codec.specs.Names.{action_word, mask_word, action_in, mas
 
 use crate::block::{both_halves, high_half, low_half};
 use crate::places::{ACTION_SLOTS, MASK_SLOTS};
+use act_registry::MADE_MAX;
 use visit_room::{ActionName, MaskName};
-
-// The actions that a run makes at most. Serials count from 1.
-pub(crate) const SERIAL_MAX: u32 = 16_384;
 
 pub(crate) fn action_word(name: ActionName) -> u64
     ensures { result ≡ action_word name }
@@ -29,7 +27,7 @@ pub(crate) fn action_in(word: u64) -> ActionName
 pub(crate) fn is_action(name: ActionName) -> bool
     ensures { IsTrue result ↔ IsActionName name }
 {
-    1 <= name.serial && name.serial <= SERIAL_MAX && name.slot < ACTION_SLOTS
+    1 <= name.serial && name.serial <= MADE_MAX && name.slot < ACTION_SLOTS
 }
 
 pub(crate) fn mask_word(name: MaskName) -> u64

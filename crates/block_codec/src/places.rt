@@ -1,5 +1,7 @@
 //! Where roots and blocks of a hook's store stand. Slots, rows, places and buckets are numbered from 0.
 
+use visit_room::HEAD_TABLES;
+
 /// The words of a block. The last one is the link.
 pub const BLOCK_WORDS: u32 = 40;
 
@@ -19,7 +21,7 @@ pub const ROW_BUCKETS: u32 = 16;
 pub const BUCKETS: u32 = ROWS * ROW_BUCKETS;
 
 /// The tables of a hook.
-pub const TABLES: u32 = 256;
+pub const TABLES: u32 = HEAD_TABLES as u32;
 
 /// The readers of a hook's store.
 pub const READERS: u32 = 8;

@@ -1,4 +1,6 @@
 -- How the forty words of a block read (this project's own): as the one thing whose words they are, or as nothing.
+use Rattle.act_registry.specs.declared.limits.TheConstants.{MADE_MAX}
+use Rattle.block_codec.specs.declared.places.TheConstants.{ACTION_SLOTS, MASK_SLOTS, ROWS}
 use Rattle.std.specs.Prelude.{ℕ, zero, suc, ◌+◌, ◌/◌, ◌%◌, ◌^◌, ◌==◌, ◌&&◌, Bool, true, nat_lt, nat_le, List, take, slice_index, slice_range, Option, Some, None, if◌then◌else◌}
 use Rattle.std.specs.List.{list_all}
 use Rattle.std.specs.Option.{option_map}
@@ -38,7 +40,7 @@ is_blank_from at words = list_all is_zero (slice_range words at 39)
 
 -- ---- a filter
 abbrev pub is_action_word : ℕ → Bool
-is_action_word word = nat_le 1 (action_in word).serial && (nat_le (action_in word).serial 16384 && nat_lt (action_in word).slot 2048)
+is_action_word word = nat_le 1 (action_in word).serial && (nat_le (action_in word).serial MADE_MAX && nat_lt (action_in word).slot ACTION_SLOTS)
 
 abbrev pub is_filter : List ℕ → Bool
 is_filter words =
@@ -53,7 +55,7 @@ filter_in words = if is_filter words then Some (filter_read words) else None
 
 -- ---- a mask
 abbrev pub is_row : ℕ → Bool
-is_row number = nat_lt number 8192
+is_row number = nat_lt number ROWS
 
 abbrev pub is_mask : List ℕ → Bool
 is_mask words =
@@ -69,7 +71,7 @@ mask_of_words words = if is_mask words then Some (mask_read words) else None
 
 -- ---- a table
 abbrev pub is_mask_word : ℕ → Bool
-is_mask_word word = nat_lt (mask_in word).serial (2 ^ 32) && nat_lt (mask_in word).slot 8192
+is_mask_word word = nat_lt (mask_in word).serial (2 ^ 32) && nat_lt (mask_in word).slot MASK_SLOTS
 
 abbrev pub is_table : List ℕ → Bool
 is_table words =
@@ -107,7 +109,7 @@ params_of_words words = checked words (params_in words)
 abbrev pub is_action : List ℕ → Bool
 is_action words =
     slice_index words 0 == 4
-    && (nat_le 1 (slice_index words 1 % 2 ^ 32) && (nat_le (slice_index words 1 % 2 ^ 32) 16384
+    && (nat_le 1 (slice_index words 1 % 2 ^ 32) && (nat_le (slice_index words 1 % 2 ^ 32) MADE_MAX
     && (nat_le 1 (slice_index words 1 / 2 ^ 32)
     && (is_blank_from 7 words && is_linked words))))
 

@@ -12,7 +12,8 @@ use Rattle.hook_law.specs.Keeping.{IsAtRest, Present, Keeps}
 use Rattle.hook_law.specs.Changes.{TouchesAction}
 use Rattle.hook_law.specs.Numbered.{MakesAction, ChangesAction}
 use Rattle.hook_law.specs.Coming.{IsMade}
-use Rattle.hook_law.proofs.Growing.{some_is, now_next}
+use Rattle.store_history.proofs.Lists.{some_is}
+use Rattle.hook_law.proofs.Growing.{now_next}
 use Rattle.hook_law.proofs.Standing.{slot_longer, slot_here, slot_push, present_end, unused_end}
 use Rattle.hook_law.proofs.Writing.{put_live, Writes, HereOld, write_keeps, write_other, write_itself}
 use Rattle.hook_law.proofs.Staying.{head_stays, mask_stays, bucket_stays}

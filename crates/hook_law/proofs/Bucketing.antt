@@ -2,6 +2,7 @@
 use Rattle.std.proofs.Common.{◌≡◌, ◌≢◌, ℕ, ◌+◌, ◌≤◌, ◌⊎◌, inl, inr, Bool, true, false, eqb, List, [], ◌∷◌, ◌++◌, length, slice_get, Some, refl, ap, sym, ◌∙◌, subst, arith}
 use Rattle.store_history.specs.declared.history.Commit.{Commit}
 use Rattle.store_history.specs.History.{root_of}
+use Rattle.store_history.proofs.Lists.{some_is}
 use Rattle.store_history.proofs.Histories.{root_other}
 use Rattle.hook_law.specs.Places.{head_root, mask_root, bucket_root, row_of, place_of}
 use Rattle.hook_law.specs.Records.{MaskRecord, Codec}
@@ -12,7 +13,7 @@ use Rattle.hook_law.specs.Telling.{Reads}
 use Rattle.hook_law.specs.Keeping.{Present, Keeps}
 use Rattle.hook_law.specs.Numbered.{IsPutAction, PutsActions, RewritesBucket}
 use Rattle.hook_law.specs.Coming.{IsMade}
-use Rattle.hook_law.proofs.Growing.{some_is, now_next}
+use Rattle.hook_law.proofs.Growing.{now_next}
 use Rattle.hook_law.proofs.Standing.{SameHeads, SameMasks, mask_back, bucket_back, slot_longer, present_end}
 use Rattle.hook_law.proofs.Writing.{Writes, HereOld, write_keeps, write_other}
 use Rattle.hook_law.proofs.Staying.{head_stays, mask_stays, bucket_stays, action_stays}

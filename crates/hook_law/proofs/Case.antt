@@ -11,7 +11,7 @@ use Rattle.hook_law.specs.Keeping.{Keeps}
 use Rattle.hook_law.specs.Unnumbered.{HaveOwnRoots, Spares, SparesAll, FillsBucket, IsFilled}
 use Rattle.hook_law.specs.Heads.{IsPrepared, ChangesHead}
 use Rattle.hook_law.specs.Case.{small_filter, filter_read, small_meaning, small_codec, small_mask, bucket_commit, bucket_commits, mask_commit, small_prepared, small_head, small_region}
-use Rattle.hook_law.proofs.Growing.{some_is}
+use Rattle.store_history.proofs.Lists.{some_is}
 use Rattle.hook_law.proofs.Opening.{keeps_opens, take_none, no_slot, no_mask, no_bucket}
 use Rattle.hook_law.proofs.Sparing.{Spared, spares_keep}
 use Rattle.hook_law.proofs.Preparing.{filled_after, put_after}

@@ -3,6 +3,7 @@ use Rattle.std.proofs.Common.{◌≡◌, ◌≢◌, ℕ, ◌+◌, ◌<◌, ◌�
 use Rattle.store_history.specs.declared.history.Commit.{Commit}
 use Rattle.store_history.specs.declared.history.Named.{Named}
 use Rattle.store_history.specs.History.{root_of, edits_of}
+use Rattle.store_history.proofs.Lists.{some_is}
 use Rattle.store_history.proofs.Histories.{root_other}
 use Rattle.hook_law.specs.Places.{head_root, mask_root, action_root, bucket_root, row_of, place_of}
 use Rattle.hook_law.specs.Records.{Slotted, MaskRecord, FilterRecord, Codec}
@@ -15,7 +16,7 @@ use Rattle.hook_law.specs.Unnumbered.{IsFilled}
 use Rattle.hook_law.specs.Numbered.{IsPutAction}
 use Rattle.hook_law.specs.Heads.{IsPrepared, ChangesHead}
 use Rattle.hook_law.specs.Coming.{IsBucketOf, IsMade, IsOfPrepared}
-use Rattle.hook_law.proofs.Growing.{some_is, edits_more, now_next, root_same}
+use Rattle.hook_law.proofs.Growing.{edits_more, now_next, root_same}
 use Rattle.hook_law.proofs.Points.{tells_on, tells_new}
 use Rattle.hook_law.proofs.Standing.{row_back, slot_longer, slot_push, present_end, since_stood, unused_end}
 use Rattle.hook_law.proofs.Adding.{adds_keep}

@@ -11,7 +11,7 @@ use Rattle.hook_law.specs.Standing.{Region, Head, Mask, Bucket, region_of, IsMas
 use Rattle.hook_law.specs.Telling.{SizeFits, Tells}
 use Rattle.hook_law.specs.Keeping.{Keeps}
 use Rattle.hook_law.specs.Told.{ToldMask, ToldRow}
-use Rattle.hook_law.proofs.Growing.{some_is}
+use Rattle.store_history.proofs.Lists.{some_is}
 use Rattle.hook_law.proofs.Points.{tells_all}
 use Rattle.hook_law.proofs.Pushing.{last_at_end, told}
 use Rattle.hook_law.proofs.Standing.{present_end}

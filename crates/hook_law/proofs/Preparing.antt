@@ -10,7 +10,7 @@ use Rattle.hook_law.specs.Standing.{Role, Head, Action, PutsAction, IsSlotOf, Is
 use Rattle.hook_law.specs.Telling.{Reads, ReadsAction}
 use Rattle.hook_law.specs.Unnumbered.{HaveOwnRoots, SparesAll, FillsBucket, IsFilled}
 use Rattle.hook_law.specs.Numbered.{IsPut, IsPutAction}
-use Rattle.hook_law.proofs.Growing.{get_behind}
+use Rattle.store_history.proofs.Lists.{get_behind}
 use Rattle.hook_law.proofs.Lists.{root_of_none, root_of_one}
 use Rattle.hook_law.proofs.Standing.{SameHeads, unused_end, slot_longer}
 use Rattle.hook_law.proofs.Sparing.{Spared}

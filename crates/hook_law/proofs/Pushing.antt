@@ -7,6 +7,7 @@ use Rattle.std.proofs.lemmas.Option.{slice_get_within}
 use Rattle.store_history.specs.declared.history.Commit.{Commit}
 use Rattle.store_history.specs.declared.history.Named.{Named}
 use Rattle.store_history.specs.History.{edits_of, root_of}
+use Rattle.store_history.proofs.Lists.{get_before, get_last, take_next, get_some}
 use Rattle.store_history.proofs.Histories.{root_other}
 use Rattle.hook_law.specs.Records.{Codec}
 use Rattle.hook_law.specs.Meaning.{Meaning, point_of}
@@ -14,7 +15,6 @@ use Rattle.hook_law.specs.Standing.{Role, Stands}
 use Rattle.hook_law.specs.Telling.{Tells}
 use Rattle.hook_law.specs.Keeping.{IsStamped, Present, Keeps}
 use Rattle.hook_law.specs.Told.{Told}
-use Rattle.hook_law.proofs.Growing.{get_before, get_last, take_next, get_some}
 use Rattle.hook_law.proofs.Points.{tells_all}
 
 module _ {E S N P : Type 0} (K : Meaning E S N P) (R : Codec N P) where

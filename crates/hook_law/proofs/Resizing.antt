@@ -3,6 +3,7 @@ use Rattle.std.proofs.Common.{◌≡◌, ◌≢◌, ℕ, ◌<◌, ◌≤◌, ◌
 use Rattle.store_history.specs.declared.history.Commit.{Commit}
 use Rattle.store_history.specs.declared.history.Named.{Named}
 use Rattle.store_history.specs.History.{root_of, edits_of}
+use Rattle.store_history.proofs.Lists.{some_is}
 use Rattle.store_history.proofs.Histories.{root_other}
 use Rattle.hook_law.specs.Places.{head_root, mask_root, bucket_root, row_of, place_of}
 use Rattle.hook_law.specs.Records.{Slotted, MaskRecord, FilterRecord, Codec}
@@ -13,7 +14,7 @@ use Rattle.hook_law.specs.Telling.{Tells}
 use Rattle.hook_law.specs.Keeping.{IsStamped, Present, Keeps}
 use Rattle.hook_law.specs.Unnumbered.{IsFilled, Resizes}
 use Rattle.hook_law.specs.Coming.{IsBucketOf}
-use Rattle.hook_law.proofs.Growing.{some_is, edits_still, now_still, root_same}
+use Rattle.hook_law.proofs.Growing.{edits_still, now_still, root_same}
 use Rattle.hook_law.proofs.Points.{tells_once}
 use Rattle.hook_law.proofs.Standing.{SameHeads, mask_back, row_back, slot_longer, slot_push, present_end, since_stood, unused_end}
 use Rattle.hook_law.proofs.Adding.{adds_keep}

@@ -4,6 +4,7 @@ use mathlib.Core.List.{append-nil}
 use Rattle.store_history.specs.declared.history.Commit.{Commit}
 use Rattle.store_history.specs.declared.history.Named.{Named}
 use Rattle.store_history.specs.History.{root_of}
+use Rattle.store_history.proofs.Lists.{some_is}
 use Rattle.store_history.proofs.Histories.{root_other}
 use Rattle.hook_law.specs.Places.{mask_root, action_root, head_root}
 use Rattle.hook_law.specs.Records.{StatedFilter, MaskRecord, Codec}
@@ -14,7 +15,7 @@ use Rattle.hook_law.specs.Keeping.{Present, Keeps, HasItsSize, IsAtRest, IsAtRes
 use Rattle.hook_law.specs.Unnumbered.{Spares, SparesAll, Resizes, ResizesWhole}
 use Rattle.hook_law.specs.Numbered.{Marks, RewritesBucket, MakesAction, ChangesAction}
 use Rattle.hook_law.specs.Heads.{IsPrepared, ChangesHead}
-use Rattle.hook_law.proofs.Growing.{some_is, now_still, now_next, root_same}
+use Rattle.hook_law.proofs.Growing.{now_still, now_next, root_same}
 use Rattle.hook_law.proofs.Standing.{SameHeads, SameMasks, mask_back, present_end}
 use Rattle.hook_law.proofs.Sparing.{spare_heads, spare_masks, spare_keeps, spares_next, spares_keep}
 use Rattle.hook_law.proofs.Bucketing.{rewrite_heads, rewrite_masks}

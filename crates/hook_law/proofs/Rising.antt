@@ -8,12 +8,13 @@ use Rattle.std.proofs.lemmas.Option.{slice_get_within}
 use Rattle.store_history.specs.declared.history.Commit.{Commit}
 use Rattle.store_history.specs.declared.history.Named.{Named}
 use Rattle.store_history.specs.History.{root_of, edits_of}
+use Rattle.store_history.proofs.Lists.{take_next, get_some}
 use Rattle.store_history.proofs.Histories.{root_other}
 use Rattle.hook_law.specs.Records.{Codec}
 use Rattle.hook_law.specs.Meaning.{Meaning, point_of}
 use Rattle.hook_law.specs.Standing.{Role, Stands}
 use Rattle.hook_law.specs.Keeping.{IsStamped, Keeps}
-use Rattle.hook_law.proofs.Growing.{take_next, get_some, edits_still, edits_more, root_same}
+use Rattle.hook_law.proofs.Growing.{edits_still, edits_more, root_same}
 
 module _ {E : Type 0} where
   -- a commit more doesn't lower the point

@@ -4,6 +4,7 @@ use mathlib.Core.List.{append-nil}
 use Rattle.store_history.specs.declared.history.Commit.{Commit}
 use Rattle.store_history.specs.declared.history.Named.{Named}
 use Rattle.store_history.specs.History.{root_of, edits_of}
+use Rattle.store_history.proofs.Lists.{get_take}
 use Rattle.store_history.proofs.Histories.{root_other}
 use Rattle.hook_law.specs.Places.{head_root, mask_root}
 use Rattle.hook_law.specs.Records.{Codec}
@@ -13,7 +14,7 @@ use Rattle.hook_law.specs.Standing.{Role, Head, Mask, Bucket, PutsAction, IsSlot
 use Rattle.hook_law.specs.Telling.{Tells}
 use Rattle.hook_law.specs.Keeping.{IsStamped, Present, Keeps}
 use Rattle.hook_law.specs.Unnumbered.{Spares, SparesAll, EmptiesAll}
-use Rattle.hook_law.proofs.Growing.{get_take, edits_still, now_still}
+use Rattle.hook_law.proofs.Growing.{edits_still, now_still}
 use Rattle.hook_law.proofs.Standing.{SameHeads, SameMasks, Follows, mask_back, slot_longer, slot_push, stands_back, present_end, unused_end, unused_push}
 use Rattle.hook_law.proofs.Adding.{adds_keep}
 

@@ -12,7 +12,7 @@ use Rattle.hook_law.specs.Telling.{ReadsBucket}
 use Rattle.hook_law.specs.Keeping.{Present, Keeps}
 use Rattle.hook_law.specs.Numbered.{RewritesBucket, AddsToBucket, ReplacesInBucket, RemovesFromBucket}
 use Rattle.hook_law.proofs.Standing.{present_end}
-use Rattle.hook_law.proofs.Growing.{get_take, get_drop, get_parts}
+use Rattle.store_history.proofs.Lists.{get_take, get_drop, get_parts}
 use Rattle.hook_law.proofs.Chains.{read_cons, read_append, read_take, read_drop, drop_past, bucket_append, bucket_with, bucket_without}
 
 module _ {E S N P : Type 0} (K : Meaning E S N P) (R : Codec N P) where

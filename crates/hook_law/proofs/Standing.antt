@@ -13,7 +13,7 @@ use Rattle.hook_law.specs.Chains.{read_first}
 use Rattle.hook_law.specs.Meaning.{Meaning, now_of, IsLive}
 use Rattle.hook_law.specs.Standing.{Region, Role, Head, Mask, Bucket, Action, Names, IsMaskAt, IsRowAt, PutsAction, IsSlotOf, Stands, IsUnused}
 use Rattle.hook_law.specs.Keeping.{Present, Keeps}
-use Rattle.hook_law.proofs.Growing.{get_before, get_last}
+use Rattle.store_history.proofs.Lists.{get_before, get_last}
 
 module _ {E N P : Type 0} (R : Codec N P) where
   -- the heads' roots, and those of the masks that stand after g, are after h as after g

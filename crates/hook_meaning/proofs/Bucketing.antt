@@ -23,7 +23,7 @@ use Rattle.hook_law.specs.Standing.{Region, Bucket, region_of, IsRowAt}
 use Rattle.hook_law.specs.Telling.{Tells}
 use Rattle.hook_law.specs.Keeping.{Keeps}
 use Rattle.hook_law.specs.Slots.{slotted}
-use Rattle.hook_law.proofs.Growing.{some_is}
+use Rattle.store_history.proofs.Lists.{some_is}
 use Rattle.hook_law.proofs.Points.{tells_all}
 use Rattle.hook_law.proofs.Pushing.{last_at_end}
 use Rattle.hook_law.proofs.Slots.{bucket_slotted}

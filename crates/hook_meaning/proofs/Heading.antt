@@ -16,7 +16,7 @@ use Rattle.hook_law.specs.Places as places
 use Rattle.hook_law.specs.Records.{StatedTable, serials_of, stated_table}
 use Rattle.hook_law.specs.Standing.{Head}
 use Rattle.hook_law.specs.Keeping.{Keeps}
-use Rattle.hook_law.proofs.Growing.{some_is}
+use Rattle.store_history.proofs.Lists.{some_is}
 use Rattle.hook_law.proofs.Points.{tells_all}
 use Rattle.miniq_pair.specs.Heads.{PlainTable, plain, hook_number, head_root, TellsHead}
 use Rattle.hook_meaning.specs.Stated.{TableNames, table_stated, tables_at, hook_meaning}

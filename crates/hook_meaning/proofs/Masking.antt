@@ -12,7 +12,7 @@ use Rattle.hook_law.specs.Records.{MaskRecord}
 use Rattle.hook_law.specs.Meaning as law
 use Rattle.hook_law.specs.Telling.{SizeFits}
 use Rattle.hook_law.specs.Keeping.{Keeps}
-use Rattle.hook_law.proofs.Growing.{some_is}
+use Rattle.store_history.proofs.Lists.{some_is}
 use Rattle.hook_law.proofs.Looking.{mask_stood, mask_tells}
 use Rattle.mask_table.specs.Buckets.{mask_root}
 use Rattle.mask_table.specs.Told.{edits_by, FitsSize, TellsMask, Stood}

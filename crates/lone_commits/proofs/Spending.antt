@@ -10,8 +10,9 @@ use Rattle.store_history.specs.declared.history.Link.{Link}
 use Rattle.store_history.specs.declared.history.Named.{Named}
 use Rattle.store_history.specs.History.{root_of, first_block}
 use Rattle.store_history.specs.Reads.{read_first}
+use Rattle.store_history.proofs.Lists.{get_drop}
 use Rattle.store_history.proofs.Histories.{named_push, named_at_end}
-use Rattle.hook_law.proofs.Growing.{get_drop, root_same}
+use Rattle.hook_law.proofs.Growing.{root_same}
 use Rattle.block_codec.specs.declared.filter.StoredFilter.{StoredFilter}
 use Rattle.block_codec.specs.declared.mask.StoredMask.{StoredMask}
 use Rattle.block_codec.specs.Blocks.{block}

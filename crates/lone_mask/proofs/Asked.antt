@@ -14,7 +14,7 @@ use Rattle.mask_table.specs.Buckets.{mask_root, bucket_root}
 use Rattle.mask_table.specs.Told.{edits_by, FitsSize, TellsMask, Stood, BucketTold}
 use Rattle.lone_mask.specs.declared.change.Change.{Change}
 use Rattle.lone_mask.specs.Lone.{start, lone_words, point_of, filters_after, IsRecord, HaveOwnKeys, Follows, Keeps, stands}
-use Rattle.hook_law.proofs.Growing.{some_is}
+use Rattle.store_history.proofs.Lists.{some_is}
 use Rattle.lone_mask.proofs.Growing.{keeps_take, by_last, now_more, point_more, filters_still, filters_before, filters_last, filters_early}
 use Rattle.lone_mask.proofs.Right.{right, tells_same}
 use Rattle.lone_mask.proofs.Past.{StoodUntil, stood_until, stands_on}

@@ -6,7 +6,8 @@ use mathlib.Core.Logic.{dite}
 use native.Mathlib.Decide.{dec_lt}
 use Rattle.store_history.specs.declared.history.Commit.{Commit}
 use Rattle.store_history.specs.History.{edits_of}
-use Rattle.hook_law.proofs.Growing.{get_before, get_last, take_next, get_some, get_take, edits_still, edits_more, edits_parts, some_is}
+use Rattle.store_history.proofs.Lists.{get_before, get_last, take_next, get_some, get_take, some_is}
+use Rattle.hook_law.proofs.Growing.{edits_still, edits_more, edits_parts}
 use Rattle.block_codec.specs.declared.filter.StoredFilter.{StoredFilter}
 use Rattle.lone_mask.specs.declared.change.Change.{Change}
 use Rattle.lone_mask.specs.Lone.{changed, run, start, point_of, filters_after, now, Follows, Keeps}

@@ -7,8 +7,8 @@ use Rattle.store_history.specs.declared.history.Commit.{Commit}
 use Rattle.store_history.specs.declared.history.Named.{Named}
 use Rattle.store_history.specs.History.{root_of}
 use Rattle.store_history.specs.Reads.{read_first}
+use Rattle.store_history.proofs.Lists.{some_is}
 use Rattle.store_history.proofs.Histories.{root_other}
-use Rattle.hook_law.proofs.Growing.{some_is}
 use Rattle.block_codec.specs.declared.mask.StoredMask.{StoredMask}
 use Rattle.block_reading.specs.Read.{mask_of_words}
 use Rattle.mask_table.specs.Buckets.{mask_root, bucket_root}

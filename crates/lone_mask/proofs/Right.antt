@@ -8,8 +8,9 @@ use Rattle.store_history.specs.declared.history.Commit.{Commit}
 use Rattle.store_history.specs.declared.history.Named.{Named}
 use Rattle.store_history.specs.History.{root_of}
 use Rattle.store_history.specs.Reads.{read_all, read_first}
+use Rattle.store_history.proofs.Lists.{some_is}
 use Rattle.store_history.proofs.Histories.{root_other}
-use Rattle.hook_law.proofs.Growing.{some_is, root_same, edits_still}
+use Rattle.hook_law.proofs.Growing.{root_same, edits_still}
 use Rattle.flow_mask.specs.Sizes.{size_of}
 use Rattle.block_codec.specs.declared.filter.StoredFilter.{StoredFilter}
 use Rattle.block_codec.specs.declared.mask.StoredMask.{StoredMask}

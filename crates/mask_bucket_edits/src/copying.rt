@@ -1,10 +1,11 @@
 //! Filters copied from the blocks of a chain into others.
-ghost use Rattle.block_codec.specs.declared.places.TheConstants.{BLOCK_WORDS, POOL_BLOCKS};
+ghost use Rattle.block_codec.specs.declared.places.TheConstants.{POOL_BLOCKS};
 ghost use Rattle.std.specs.Prelude.{◌≡◌, ℕ, ◌+◌, ◌<◌, ◌≤◌, ◌∷◌, ◌++◌, [], List, length, map, slice_get, Some};
 ghost use Rattle.store_history.specs.History.{root_of};
 ghost use Rattle.pin_store.specs.Sheets.{base_of, IsSameButCells};
 ghost use Rattle.pin_store.specs.Calls.{seen_by, sheet_of, IsSeatOf, IsUnnamed};
 ghost use Rattle.block_codec.specs.declared.filter.StoredFilter.{StoredFilter};
+ghost use Rattle.block_codec.specs.Shapes.{HasPool};
 ghost use Rattle.block_codec.specs.Filters.{IsStorableFilter};
 ghost use Rattle.mask_mirror.specs.Kept.{HasFilter, IsKept};
 ghost use Rattle.mask_mirror.specs.Lists.{kept_in, HasFilters};
@@ -27,7 +28,7 @@ fn put_copy<L: Law>(
     number: u32,
 )
     requires store { IsSeatOf store.now writer.old.place }
-    requires shape { (store.now.shape.words ≡ BLOCK_WORDS) × (POOL_BLOCKS ≤ store.now.shape.blocks) }
+    requires shape { HasPool store.now.shape.words store.now.shape.blocks }
     requires block { block < POOL_BLOCKS }
     requires from { HasFilter mirror.old.filters.items from }
     requires free { IsUnnamed (base_of (sheet_of writer.old.place)) (seen_by writer.old.place) block }
@@ -55,7 +56,7 @@ pub fn put_copies<L: Law>(
     number: u32,
 ) -> u32
     requires store { IsSeatOf store.now writer.old.place }
-    requires shape { (store.now.shape.words ≡ BLOCK_WORDS) × (POOL_BLOCKS ≤ store.now.shape.blocks) }
+    requires shape { HasPool store.now.shape.words store.now.shape.blocks }
     requires long { length given.now ≡ length from.now }
     requires from { (place b : ℕ) → slice_get from.now place ≡ Some b → HasFilter mirror.old.filters.items b }
     requires given { AreGiven (base_of (sheet_of writer.old.place)) (seen_by writer.old.place) given.now }
@@ -91,7 +92,7 @@ fn put_changed<L: Law>(
     number: u32,
 ) -> u32
     requires store { IsSeatOf store.now writer.old.place }
-    requires shape { (store.now.shape.words ≡ BLOCK_WORDS) × (POOL_BLOCKS ≤ store.now.shape.blocks) }
+    requires shape { HasPool store.now.shape.words store.now.shape.blocks }
     requires long { length given.now ≡ length from.now + 1 }
     requires from { (place b : ℕ) → slice_get from.now place ≡ Some b → HasFilter mirror.old.filters.items b }
     requires storable { IsStorableFilter filter.now }
@@ -125,7 +126,7 @@ pub fn put_edited<L: Law>(
     number: u32,
 ) -> u32
     requires store { IsSeatOf store.now writer.old.place }
-    requires shape { (store.now.shape.words ≡ BLOCK_WORDS) × (POOL_BLOCKS ≤ store.now.shape.blocks) }
+    requires shape { HasPool store.now.shape.words store.now.shape.blocks }
     requires long { length given.now ≡ length from.now + length (listed with) }
     requires from { (place b : ℕ) → slice_get from.now place ≡ Some b → HasFilter mirror.old.filters.items b }
     requires storable { (filter : StoredFilter) → IsAmong filter (listed with) → IsStorableFilter filter }

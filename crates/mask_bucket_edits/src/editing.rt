@@ -1,5 +1,5 @@
 //! Filters that are taken out of masks, and others that take their places.
-ghost use Rattle.block_codec.specs.declared.places.TheConstants.{BLOCK_WORDS, MASK_SLOTS, POOL_BLOCKS, ROOTS};
+ghost use Rattle.block_codec.specs.declared.places.TheConstants.{MASK_SLOTS};
 ghost use Rattle.std.specs.Prelude.{◌≡◌, ◌≢◌, ℕ, ◌+◌, ◌<◌, ◌≤◌, ◌++◌, ◌∷◌, [], List, length, map, take};
 ghost use Rattle.store_history.specs.declared.history.Link.{Link};
 ghost use Rattle.store_history.specs.History.{root_of};
@@ -7,6 +7,7 @@ ghost use Rattle.pin_store.specs.Layout.{block_words};
 ghost use Rattle.pin_store.specs.Sheets.{base_of, IsSameButCells};
 ghost use Rattle.pin_store.specs.Calls.{seen_by, sheet_of, IsSeatOf};
 ghost use Rattle.block_codec.specs.declared.filter.StoredFilter.{StoredFilter};
+ghost use Rattle.block_codec.specs.Shapes.{HasPoolAndRoots};
 ghost use Rattle.block_codec.specs.Filters.{IsStorableFilter};
 ghost use Rattle.mask_table.specs.Buckets.{IsAmong};
 ghost use Rattle.mask_mirror.specs.declared.mirror.KeptMask.{KeptMask};
@@ -40,7 +41,7 @@ pub fn take_out<L: Law, E: EditName<L::Entry>>(
     edit: Point,
 )
     requires store { IsSeatOf store.now writer.old.place }
-    requires shape { (store.now.shape.words ≡ BLOCK_WORDS) × (POOL_BLOCKS ≤ store.now.shape.blocks) × (ROOTS ≤ store.now.shape.roots) }
+    requires shape { HasPoolAndRoots store.now.shape.words store.now.shape.blocks store.now.shape.roots }
     requires slot { slot < MASK_SLOTS }
     requires there { (kept : KeptMask) × (root : ℕ) × (front : List StoredFilter) × (filter : StoredFilter)
         × Stands mirror.old slot kept × FilterAt (root_of (seen_by writer.old.place)) kept.mask handle root front filter }
@@ -99,7 +100,7 @@ pub fn exchange<L: Law, E: EditName<L::Entry>>(
     edit: Point,
 )
     requires store { IsSeatOf store.now writer.old.place }
-    requires shape { (store.now.shape.words ≡ BLOCK_WORDS) × (POOL_BLOCKS ≤ store.now.shape.blocks) × (ROOTS ≤ store.now.shape.roots) }
+    requires shape { HasPoolAndRoots store.now.shape.words store.now.shape.blocks store.now.shape.roots }
     requires slot { slot < MASK_SLOTS }
     requires storable { IsStorableFilter filter.now }
     requires there { (kept : KeptMask) × (front : List StoredFilter) × (old : StoredFilter)

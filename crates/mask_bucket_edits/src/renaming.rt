@@ -1,10 +1,11 @@
 //! A bucket's root that comes to name another chain.
-ghost use Rattle.block_codec.specs.declared.places.TheConstants.{BLOCK_WORDS, BUCKETS, BUCKET_ROOTS, POOL_BLOCKS, ROOTS};
+ghost use Rattle.block_codec.specs.declared.places.TheConstants.{BUCKETS, BUCKET_ROOTS};
 ghost use Rattle.std.specs.Prelude.{◌≡◌, ℕ, ◌+◌, ◌<◌, ◌≤◌, ◌++◌, ◌∷◌, [], List, Some};
 ghost use Rattle.store_history.specs.History.{root_of};
 ghost use Rattle.pin_store.specs.Layout.{commit_of};
 ghost use Rattle.pin_store.specs.Sheets.{base_of};
 ghost use Rattle.pin_store.specs.Calls.{seen_by, sheet_of, IsSeatOf};
+ghost use Rattle.block_codec.specs.Shapes.{HasPoolAndRoots};
 ghost use Rattle.mask_mirror.specs.Kept.{Spells, HoldsChain, BucketAt, IsKept, AreOwn};
 ghost use Rattle.mask_mirror.specs.Changes.{IsRenamed};
 
@@ -26,7 +27,7 @@ pub fn rename<L: Law, E: EditName<L::Entry>>(
     edit: Point,
 )
     requires store { IsSeatOf store.now writer.old.place }
-    requires shape { (store.now.shape.words ≡ BLOCK_WORDS) × (POOL_BLOCKS ≤ store.now.shape.blocks) × (ROOTS ≤ store.now.shape.roots) }
+    requires shape { HasPoolAndRoots store.now.shape.words store.now.shape.blocks store.now.shape.roots }
     requires place { place < BUCKETS }
     requires kept { IsKept mirror.old store.now.shape (sheet_of writer.old.place).cells (root_of (seen_by writer.old.place)) }
     requires chain { (own : BucketAt mirror.old (BUCKET_ROOTS + place)) × (blocks : List ℕ)

@@ -1,5 +1,5 @@
 //! What stands in front of a place of a bucket's chain, written anew.
-ghost use Rattle.block_codec.specs.declared.places.TheConstants.{BLOCK_WORDS, BUCKETS, BUCKET_ROOTS, POOL_BLOCKS, ROOTS};
+ghost use Rattle.block_codec.specs.declared.places.TheConstants.{BUCKETS, BUCKET_ROOTS};
 ghost use Rattle.std.specs.Prelude.{◌≡◌, ◌≢◌, ℕ, ◌+◌, ◌<◌, ◌≤◌, ◌++◌, ◌∷◌, [], List, length, take, Some};
 ghost use Rattle.store_history.specs.History.{root_of};
 ghost use Rattle.store_history.specs.Reads.{read_all};
@@ -7,6 +7,7 @@ ghost use Rattle.pin_store.specs.Layout.{block_words};
 ghost use Rattle.pin_store.specs.Sheets.{base_of, IsSameButCells};
 ghost use Rattle.pin_store.specs.Calls.{seen_by, sheet_of, IsSeatOf};
 ghost use Rattle.block_codec.specs.declared.filter.StoredFilter.{StoredFilter};
+ghost use Rattle.block_codec.specs.Shapes.{HasPoolAndRoots};
 ghost use Rattle.block_codec.specs.Filters.{IsStorableFilter};
 ghost use Rattle.block_reading.specs.Read.{filter_in};
 ghost use Rattle.mask_table.specs.Buckets.{IsAmong};
@@ -42,7 +43,7 @@ pub fn rewrite<L: Law, E: EditName<L::Entry>>(
     edit: Point,
 )
     requires store { IsSeatOf store.now writer.old.place }
-    requires shape { (store.now.shape.words ≡ BLOCK_WORDS) × (POOL_BLOCKS ≤ store.now.shape.blocks) × (ROOTS ≤ store.now.shape.roots) }
+    requires shape { HasPoolAndRoots store.now.shape.words store.now.shape.blocks store.now.shape.roots }
     requires small { found.place < BUCKETS }
     requires found { (slot handle : ℕ) × (kept : KeptMask) × Stands mirror.old slot kept
         × IsFound (root_of (seen_by writer.old.place)) kept.mask handle found.place found.front blocks.now

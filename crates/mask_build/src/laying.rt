@@ -1,11 +1,12 @@
 //! Filters laid into blocks for a mask that no root names yet.
-ghost use Rattle.block_codec.specs.declared.places.TheConstants.{BLOCK_WORDS, POOL_BLOCKS};
+ghost use Rattle.block_codec.specs.declared.places.TheConstants.{POOL_BLOCKS};
 ghost use Rattle.std.specs.Prelude.{◌≡◌, ◌≢◌, ℕ, ◌<◌, ◌≤◌, ◌+◌, ◌*◌, ◌++◌, ◌∷◌, [], List, length, All};
 ghost use Rattle.store_history.specs.History.{root_of};
 ghost use Rattle.pin_store.specs.Layout.{block_words};
 ghost use Rattle.pin_store.specs.Sheets.{base_of, IsSameButCells};
 ghost use Rattle.pin_store.specs.Calls.{seen_by, sheet_of, IsSeatOf, IsUnnamed};
 ghost use Rattle.block_codec.specs.declared.filter.StoredFilter.{StoredFilter};
+ghost use Rattle.block_codec.specs.Shapes.{HasPool};
 ghost use Rattle.block_codec.specs.Filters.{IsStorableFilter};
 ghost use Rattle.block_codec.specs.Masks.{IsStorableMask};
 ghost use Rattle.mask_table.specs.Buckets.{IsAmong};
@@ -32,7 +33,7 @@ pub fn lay<L: Law>(
     age: u64,
 )
     requires store { IsSeatOf store.now writer.old.place }
-    requires shape { (store.now.shape.words ≡ BLOCK_WORDS) × (POOL_BLOCKS ≤ store.now.shape.blocks) }
+    requires shape { HasPool store.now.shape.words store.now.shape.blocks }
     requires mask { IsStorableMask mask.now }
     requires rows { AreFreeRows mirror.old mask.now.rows }
     requires block { block < POOL_BLOCKS }
@@ -76,7 +77,7 @@ pub fn lay_all<L: Law>(
     edit: Point,
 )
     requires store { IsSeatOf store.now writer.old.place }
-    requires shape { (store.now.shape.words ≡ BLOCK_WORDS) × (POOL_BLOCKS ≤ store.now.shape.blocks) }
+    requires shape { HasPool store.now.shape.words store.now.shape.blocks }
     requires mask { IsStorableMask mask.now }
     requires rows { AreFreeRows mirror.old mask.now.rows }
     requires storable { All IsStorableFilter filters.now }

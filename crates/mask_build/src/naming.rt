@@ -1,10 +1,11 @@
 //! The roots of a mask that come to name what was laid for it.
-ghost use Rattle.block_codec.specs.declared.places.TheConstants.{BLOCK_WORDS, MASK_SLOTS, POOL_BLOCKS, ROOTS};
+ghost use Rattle.block_codec.specs.declared.places.TheConstants.{MASK_SLOTS, POOL_BLOCKS};
 ghost use Rattle.std.specs.Prelude.{◌≡◌, ℕ, ◌<◌, ◌≤◌, ◌++◌, ◌∷◌, [], List, None};
 ghost use Rattle.pin_store.specs.Layout.{block_words};
 ghost use Rattle.pin_store.specs.Sheets.{base_of};
 ghost use Rattle.pin_store.specs.Calls.{seen_by, sheet_of, IsSeatOf};
 ghost use Rattle.block_codec.specs.declared.mask.StoredMask.{StoredMask};
+ghost use Rattle.block_codec.specs.Shapes.{HasPoolAndRoots};
 ghost use Rattle.block_codec.specs.Masks.{IsStorableMask, IsMaskBlock};
 ghost use Rattle.mask_mirror.specs.Linked.{bucket_commits, mask_commit};
 ghost use Rattle.mask_build.specs.Laid.{Laid, places, IsLaid};
@@ -26,7 +27,7 @@ pub(crate) fn name_buckets<L: Law, E: EditName<L::Entry>>(
     stamp: Point,
 )
     requires store { IsSeatOf store.now writer.old.place }
-    requires shape { (store.now.shape.words ≡ BLOCK_WORDS) × (POOL_BLOCKS ≤ store.now.shape.blocks) × (ROOTS ≤ store.now.shape.roots) }
+    requires shape { HasPoolAndRoots store.now.shape.words store.now.shape.blocks store.now.shape.roots }
     requires mask { IsStorableMask mask.now }
     requires lawful { (xs : List Laid) × IsLaid mirror.now store.now.shape (sheet_of writer.old.place).cells mask.now xs
         × ((count : ℕ) → count ≤ mask.now.size → L.keeps (seen_by writer.old.place ++ bucket_commits mask.now (places xs) stamp count) (base_of (sheet_of writer.old.place))) }
@@ -52,7 +53,7 @@ pub(crate) fn name_mask<L: Law, E: EditName<L::Entry>>(
     stamp: Point,
 )
     requires store { IsSeatOf store.now writer.old.place }
-    requires shape { (store.now.shape.words ≡ BLOCK_WORDS) × (POOL_BLOCKS ≤ store.now.shape.blocks) × (ROOTS ≤ store.now.shape.roots) }
+    requires shape { HasPoolAndRoots store.now.shape.words store.now.shape.blocks store.now.shape.roots }
     requires slot { slot < MASK_SLOTS }
     requires block { block < POOL_BLOCKS }
     requires lawful { (mask : StoredMask) × IsMaskBlock (block_words store.now.shape (sheet_of writer.old.place).cells block) (mask, None)

@@ -1,9 +1,9 @@
 //! A root that comes to name a chain that is kept.
-ghost use Rattle.block_codec.specs.declared.places.TheConstants.{BLOCK_WORDS, POOL_BLOCKS};
 ghost use Rattle.std.specs.Prelude.{◌≡◌, ℕ, ◌<◌, ◌≤◌, ◌++◌, ◌∷◌, [], List};
 ghost use Rattle.pin_store.specs.Layout.{commit_of};
 ghost use Rattle.pin_store.specs.Sheets.{base_of};
 ghost use Rattle.pin_store.specs.Calls.{seen_by, sheet_of, IsSeatOf};
+ghost use Rattle.block_codec.specs.Shapes.{HasPool};
 ghost use Rattle.mask_mirror.specs.Kept.{Spells, HoldsChain};
 
 use crate::gathering::gather;
@@ -26,7 +26,7 @@ pub fn name_chain<L: Law, E: EditName<L::Entry>>(
     edit: Option<Point>,
 )
     requires store { IsSeatOf store.now writer.old.place }
-    requires shape { (store.now.shape.words ≡ BLOCK_WORDS) × (POOL_BLOCKS ≤ store.now.shape.blocks) }
+    requires shape { HasPool store.now.shape.words store.now.shape.blocks }
     requires root { root < store.now.shape.roots }
     requires chain { (size bucket : ℕ) × (blocks : List ℕ) × HoldsChain mirror.now store.now.shape (sheet_of writer.old.place).cells size bucket number blocks }
     requires lawful { (blocks : List ℕ) → Spells mirror.now.next.items number blocks → L.keeps

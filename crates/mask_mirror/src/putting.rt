@@ -1,11 +1,12 @@
 //! A filter put in front of a chain that is kept.
-ghost use Rattle.block_codec.specs.declared.places.TheConstants.{BLOCK_WORDS, POOL_BLOCKS};
+ghost use Rattle.block_codec.specs.declared.places.TheConstants.{POOL_BLOCKS};
 ghost use Rattle.std.specs.Prelude.{◌≡◌, ◌≢◌, ℕ, ◌+◌, ◌<◌, ◌≤◌, ◌∷◌, List, slice_get, Some};
 ghost use Rattle.store_history.specs.History.{root_of};
 ghost use Rattle.pin_store.specs.Layout.{block_words, block_in};
 ghost use Rattle.pin_store.specs.Sheets.{base_of, IsSameButCells};
 ghost use Rattle.pin_store.specs.Calls.{seen_by, sheet_of, IsSeatOf, IsUnnamed};
 ghost use Rattle.block_codec.specs.declared.filter.StoredFilter.{StoredFilter};
+ghost use Rattle.block_codec.specs.Shapes.{HasPool};
 ghost use Rattle.block_codec.specs.Filters.{IsStorableFilter, IsFilterBlock};
 ghost use Rattle.mask_table.specs.Buckets.{bucket_for};
 ghost use Rattle.mask_mirror.specs.Kept.{HoldsChain, IsKept};
@@ -31,7 +32,7 @@ pub fn put_in_front<L: Law>(
     number: u32,
 )
     requires store { IsSeatOf store.now writer.old.place }
-    requires shape { (store.now.shape.words ≡ BLOCK_WORDS) × (POOL_BLOCKS ≤ store.now.shape.blocks) }
+    requires shape { HasPool store.now.shape.words store.now.shape.blocks }
     requires block { block < POOL_BLOCKS }
     requires storable { IsStorableFilter filter.now }
     requires free { IsUnnamed (base_of (sheet_of writer.old.place)) (seen_by writer.old.place) block }

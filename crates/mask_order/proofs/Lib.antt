@@ -4,3 +4,4 @@ pub mod ChainsRead
 pub mod Placing
 pub mod KeptChains
 pub mod Records
+pub mod OneList

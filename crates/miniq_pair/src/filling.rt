@@ -84,12 +84,12 @@ pub(crate) fn fill_tables<L: Law>(
 }
 
 // So many numbers of blocks, one after the other, in the front of the list.
-pub(crate) fn numbers_from(first: u32, count: usize) -> [u32; 256]
+pub(crate) fn numbers_from(first: u32, count: usize) -> [u32; TABLES as usize]
     requires small { first + TABLES < 2 ^ 32 }
     requires few { count ≤ TABLES }
     ensures { take count result ≡ range_with_len first count }
 {
-    let mut numbers = [0; 256];
+    let mut numbers = [0; TABLES as usize];
     for place in 0..count {
         numbers[place] = first + place as u32;
     }

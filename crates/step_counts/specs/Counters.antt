@@ -1,4 +1,5 @@
 -- The counters of executions, the rule of their words, and what steps on them tell (this project's own).
+use Rattle.act_registry.specs.declared.limits.TheConstants.{MADE_MAX}
 use Rattle.std.specs.Prelude.{◌≡◌, ℕ, ◌+◌, ◌*◌, ◌%◌, ◌^◌, ◌<◌, ◌≤◌, ◌==◌, List, [], ◌∷◌, ◌++◌, length, slice_index, sum_by, count_by, if◌then◌else◌}
 use mathlib.Core.Option.{some}
 use lib.ListN.{get_elem?}
@@ -35,7 +36,7 @@ tally seats shares counted measured = record { seats = seats; shares = shares; c
 
 -- one word for each serial is, modulo 2^64, the sum of what all seats added to it
 abbrev pub AreSums : (ℕ → ℕ) → (ℕ → Tally → ℕ) → List ℕ → List Tally → Type 0
-AreSums word_of added words seats = (serial : ℕ) → serial ≤ 16384 → slice_index words (word_of serial) ≡ sum_by (added serial) seats % 2 ^ 64
+AreSums word_of added words seats = (serial : ℕ) → serial ≤ MADE_MAX → slice_index words (word_of serial) ≡ sum_by (added serial) seats % 2 ^ 64
 
 -- a seat with shares knows how many seats were made, and one without added nothing
 pub record IsSeated (seats : ℕ) (seat : Tally) : Type 0 where
@@ -44,7 +45,7 @@ pub record IsSeated (seats : ℕ) (seat : Tally) : Type 0 where
 
 -- the shares add up to the seats made, and each word is the sum of what all seats added to it
 pub record Counted (seats : ℕ) (table : State (Unit {0}) Tally) : Type 0 where
-  pub wide : length table.words ≡ 32770
+  pub wide : length table.words ≡ 2 * (MADE_MAX + 1)
   pub shares : sum_by (λ seat. seat.shares) table.views ≡ seats
   pub packets : AreSums packets_at (λ serial seat. times_counted serial seat.counted) table.words table.views
   pub bytes : AreSums bytes_at (λ serial seat. bytes_of serial seat.measured) table.words table.views

@@ -1,16 +1,18 @@
 //! The words in which threads count executions.
-ghost use Rattle.std.specs.Prelude.{◌≡◌, ◌<◌, [], IfOk};
+ghost use Rattle.act_registry.specs.declared.limits.TheConstants.{MADE_MAX};
+ghost use Rattle.std.specs.Prelude.{◌≡◌, ◌+◌, ◌*◌, ◌<◌, [], IfOk};
 ghost use Rattle.step_counts.specs.Counters.{tally};
 
 use crate::counter_seats::{CounterSeat, CounterSeats};
 use crate::tally::Tally;
+use act_registry::MADE_MAX;
 use atomic_table::{Join, Play, Seat, Split, Table, TableRule};
 use std::alloc::Global;
 use std::marker::Model;
 use tc_base::NoMemory;
 
 // Two words for each serial from 0 on: packets and bytes.
-const WORDS: usize = 2 * (16_384 + 1);
+const WORDS: usize = 2 * (MADE_MAX as usize + 1);
 
 // The rule of the counter words. Its key is the number of seats.
 struct Sums;
@@ -85,25 +87,27 @@ pub struct Counters {
 }
 
 impl Model for Counters {
-    ghost use Rattle.std.specs.Prelude.{◌≡◌};
+    ghost use Rattle.act_registry.specs.declared.limits.TheConstants.{MADE_MAX};
+    ghost use Rattle.std.specs.Prelude.{◌≡◌, ◌+◌, ◌*◌};
     ghost use Rattle.atomic_table.specs.Seated.{TableId};
 
     ghost Value = { TableId };
 
     ghost view = { λ c. c.words.shared.table_id };
 
-    ghost invariant = { λ c. c.words.shared.table_id.words ≡ 32770 };
+    ghost invariant = { λ c. c.words.shared.table_id.words ≡ 2 * (MADE_MAX + 1) };
 }
 
 impl Counters {
     ghost use Rattle.std.specs.Prelude.{◌≡◌, ◌<◌, ◌≤◌};
+    ghost use Rattle.act_registry.specs.declared.limits.TheConstants.{MADE_MAX};
     ghost use Rattle.step_counts.specs.Seats.{with_deed, with_seat, HoldsAll};
     ghost use Rattle.step_counts.specs.Counters.{totals_of};
 
     /// Counts an execution of the action with this serial, 1 to 16,384, on a frame of this length in bytes.
     pub fn add(&self, seat: &mut CounterSeat, serial: u32, length: u32)
         requires making { seat.old.making ≡ self.now }
-        requires serial { (0 < serial) × (serial ≤ 16384) }
+        requires serial { (0 < serial) × (serial ≤ MADE_MAX) }
         ensures { seat.new ≡ with_deed (serial, length) seat.old }
     {
         let CounterSeat { place } = seat;
@@ -118,7 +122,7 @@ impl Counters {
     /// Where every other seat was given back, these are the sums over all executions that were counted, modulo 2^64.
     pub fn totals(&self, seat: &mut CounterSeat, serial: u32) -> (u64, u64)
         requires making { seat.old.making ≡ self.now }
-        requires serial { (0 < serial) × (serial ≤ 16384) }
+        requires serial { (0 < serial) × (serial ≤ MADE_MAX) }
         ensures all { HoldsAll seat.old → result ≡ totals_of serial seat.old.deeds }
         ensures same { seat.new ≡ seat.old }
     {
@@ -149,7 +153,7 @@ fn cut_seats(
     mut origin: Seat<(), Tally>,
     seats: u32,
 ) -> Result<CounterSeats, NoMemory>
-    requires making { (origin.table_id ≡ words.now.shared.table_id) × (words.now.shared.table_id.words ≡ 32770) }
+    requires making { (origin.table_id ≡ words.now.shared.table_id) × (words.now.shared.table_id.words ≡ 2 * (MADE_MAX + 1)) }
     requires whole { origin.me ≡ (tally seats seats [] [], []) }
     ensures { IfOk result (λ rest. rest ≡ record { making = words.now.shared.table_id; seats = seats; left = seats }) }
 {

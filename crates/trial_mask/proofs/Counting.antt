@@ -4,7 +4,7 @@ use Rattle.std.proofs.lemmas.Option.{slice_get-get_or}
 use Rattle.flow_mask.specs.Hashes.{hash_of}
 use Rattle.block_codec.specs.declared.filter.StoredFilter.{StoredFilter}
 use Rattle.mask_table.specs.Buckets.{bucket_for, bucket_of}
-use Rattle.hook_law.proofs.Growing.{take_next}
+use Rattle.store_history.proofs.Lists.{take_next}
 use Rattle.lone_commits.proofs.InBuckets.{bucket_more, bucket_still}
 
 next_is : (fs : List StoredFilter) (at : ℕ) (f : StoredFilter) → slice_get fs at ≡ Some f → take (at + 1) fs ≡ take at fs ++ f ∷ []

@@ -4,5 +4,4 @@ pub mod Counting
 pub mod Beginning
 pub mod Raising
 pub mod Taking
-pub mod OneList
 pub mod Resizing

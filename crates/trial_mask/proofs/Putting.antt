@@ -19,7 +19,7 @@ use Rattle.mask_writer.specs.Standing.{masks_of, StandsAt, Holds, AreNamed}
 use Rattle.mask_mirror.specs.Changing.{root_for, insert_at}
 use Rattle.mask_mirror.proofs.Keeping.{same_base}
 use Rattle.mask_order.specs.Fitting.{FitsBlock}
-use Rattle.hook_law.proofs.Growing.{get_last}
+use Rattle.store_history.proofs.Lists.{get_last}
 use Rattle.lone_mask.specs.declared.change.Change.{Change}
 use Rattle.lone_mask.specs.declared.change.Change.TheVariants as changes
 use Rattle.lone_mask.specs.Lone.{point_of, now, Keeps, Follows, HaveOwnKeys}

@@ -26,13 +26,13 @@ use Rattle.mask_mirror.specs.Linked.{placed, resized, raise_commits}
 use Rattle.mask_writer.proofs.Standing.{one_mask, record_read}
 use Rattle.mask_order.specs.Fitting.{FitInto}
 use Rattle.lone_mask.specs.declared.change.Change.{Change}
-use Rattle.hook_law.proofs.Growing.{some_is}
+use Rattle.store_history.proofs.Lists.{some_is}
 use Rattle.lone_mask.specs.Lone.{now, IsRecord, Keeps}
 use Rattle.lone_commits.proofs.Spending.{mask_fresh}
 use Rattle.lone_commits.proofs.WholeMask.{mask_follows, buckets_apart}
 use Rattle.trial_mask.specs.Trial.{TriedWith}
 use Rattle.trial_mask.proofs.Fresh.{range_distinct, range_within}
-use Rattle.trial_mask.proofs.OneList.{one_list}
+use Rattle.mask_order.proofs.OneList.{one_list}
 use Rattle.trial_mask.proofs.Raising.{raised_tried}
 
 -- what holds of all numbers of a range

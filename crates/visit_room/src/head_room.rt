@@ -1,17 +1,16 @@
 //! Room for the tables of a hook.
 ghost use Rattle.std.specs.Prelude.{◌≡◌};
+ghost use Rattle.visit_room.specs.declared.limits.TheConstants.{HEAD_MASKS};
 ghost use Rattle.visit_room.specs.Heads.{with_mask_behind, IsBelow, last_masks};
 
+use crate::limits::HEAD_TABLES;
 use crate::names::MaskName;
 use crate::table_head::{MaskNames, TableHead};
 use std::alloc::Global;
 use std::marker::Model;
 use tc_base::{NoMemory, Proto};
 
-// The tables of a hook at most.
-const TABLES_MAX: usize = 256;
-
-/// The tables of a hook in their order: 256 at most, each with 16 masks at most.
+/// The tables of a hook in their order: `HEAD_TABLES` at most, each with `HEAD_MASKS` masks at most.
 ///
 /// Tables that were let go stand by until another is put, and `recall` brings them back: walks over the same tables then need not be
 /// told them again and again. Contracts see the tables that are told, and beside them those that stand by (`spare`).
@@ -22,6 +21,7 @@ pub struct HeadRoom {
 }
 
 impl Model for HeadRoom {
+    ghost use Rattle.visit_room.specs.declared.limits.TheConstants.{HEAD_TABLES};
     ghost use Rattle.std.specs.Prelude.{◌≤◌, [], if◌then◌else◌, vec_capacity};
     ghost use Rattle.visit_room.specs.Heads.{Heads};
 
@@ -32,10 +32,11 @@ impl Model for HeadRoom {
       spare = if r.is_clear then r.heads.items else [];
     } };
 
-    ghost invariant = { λ r. 256 ≤ vec_capacity r.heads };
+    ghost invariant = { λ r. HEAD_TABLES ≤ vec_capacity r.heads };
 }
 
 impl HeadRoom {
+    ghost use Rattle.visit_room.specs.declared.limits.TheConstants.{HEAD_MASKS, HEAD_TABLES};
     ghost use Rattle.std.specs.Prelude.{◌≡◌, ◌<◌, ◌++◌, ◌∷◌, [], length, IfOk};
     ghost use Rattle.visit_room.specs.Heads.{bare_head, with_mask_behind, IsBelow, last_masks};
 
@@ -44,7 +45,7 @@ impl HeadRoom {
         ensures { IfOk result (λ r. r ≡ record { tables = []; spare = [] }) }
     {
         Ok(HeadRoom {
-            heads: Vec::with_capacity(alloc, TABLES_MAX)?,
+            heads: Vec::with_capacity(alloc, HEAD_TABLES)?,
             is_clear: true,
         })
     }
@@ -66,9 +67,9 @@ impl HeadRoom {
         self.is_clear = false;
     }
 
-    /// Puts a table without masks behind those that are there, fewer than 256.
+    /// Puts a table without masks behind those that are there, fewer than `HEAD_TABLES`.
     pub fn push(&mut self, serial: u32, chain: u32, pref: u32, protocol: Proto)
-        requires { length self.old.tables < 256 }
+        requires { length self.old.tables < HEAD_TABLES }
         ensures tables { self.new.tables ≡ self.old.tables ++ (bare_head serial chain pref protocol ∷ []) }
         ensures spare { self.new.spare ≡ [] }
     {
@@ -89,9 +90,9 @@ impl HeadRoom {
         }
     }
 
-    /// Puts a mask behind those of the last table, fewer than 16.
+    /// Puts a mask behind those of the last table, fewer than `HEAD_MASKS`.
     pub fn push_mask(&mut self, mask: MaskName)
-        requires { IsBelow 16 (last_masks self.old.tables) }
+        requires { IsBelow HEAD_MASKS (last_masks self.old.tables) }
         ensures tables { self.new.tables ≡ with_mask_behind mask self.old.tables }
         ensures spare { self.new.spare ≡ [] }
     {
@@ -111,7 +112,7 @@ impl HeadRoom {
 
 // Puts a mask behind those of the last table.
 fn push_to_last(heads: &mut [TableHead], mask: MaskName)
-    requires { IsBelow 16 (last_masks heads.old) }
+    requires { IsBelow HEAD_MASKS (last_masks heads.old) }
     ensures { heads.new ≡ with_mask_behind mask heads.old }
 {
     match heads.last_mut() {

@@ -16,10 +16,12 @@
 
 mod head_room;
 mod hit;
+mod limits;
 mod names;
 mod table_head;
 
 pub use head_room::HeadRoom;
 pub use hit::Hit;
+pub use limits::{HEAD_MASKS, HEAD_TABLES, HIT_ACTIONS};
 pub use names::{ActionName, MaskName};
 pub use table_head::{MaskNames, TableHead};

@@ -1,17 +1,19 @@
 //! One table of a hook, as a walk is told it.
 
+use crate::limits::HEAD_MASKS;
 use crate::names::MaskName;
 use arrayvec::ArrayVec;
 use std::marker::Model;
 use tc_base::Proto;
 
-/// The masks of a table, in the order in which they were made: 16 at most.
+/// The masks of a table, in the order in which they were made: `HEAD_MASKS` at most.
 #[derive(Drop)]
 pub struct MaskNames {
-    names: ArrayVec<MaskName, 16>,
+    names: ArrayVec<MaskName, HEAD_MASKS>,
 }
 
 impl Model for MaskNames {
+    ghost use Rattle.visit_room.specs.declared.limits.TheConstants.{HEAD_MASKS};
     ghost use Rattle.std.specs.Prelude.{◌≤◌, List, length};
     ghost use Rattle.visit_room.specs.declared.names.MaskName.{MaskName};
 
@@ -19,10 +21,11 @@ impl Model for MaskNames {
 
     ghost view = { λ m. m.names.items };
 
-    ghost invariant = { λ m. length m.names.items ≤ 16 };
+    ghost invariant = { λ m. length m.names.items ≤ HEAD_MASKS };
 }
 
 impl MaskNames {
+    ghost use Rattle.visit_room.specs.declared.limits.TheConstants.{HEAD_MASKS};
     ghost use Rattle.std.specs.Prelude.{◌≡◌, ◌<◌, ◌≤◌, ◌++◌, ◌∷◌, [], length};
 
     pub(crate) fn new() -> MaskNames
@@ -34,7 +37,7 @@ impl MaskNames {
     }
 
     pub(crate) fn push(&mut self, mask: MaskName)
-        requires { length self.old < 16 }
+        requires { length self.old < HEAD_MASKS }
         ensures { self.new ≡ self.old ++ (mask ∷ []) }
     {
         self.names.push(mask);
@@ -43,7 +46,7 @@ impl MaskNames {
     /// The names, in order.
     pub fn as_slice(&self) -> &[MaskName]
         ensures same { result.now ≡ self.now }
-        ensures few { length self.now ≤ 16 }
+        ensures few { length self.now ≤ HEAD_MASKS }
     {
         self.names.as_slice()
     }

@@ -10,7 +10,8 @@ use Rattle.mask_mirror.specs.Lists.{Dated, kept_in, kept_as}
 use Rattle.mask_mirror.proofs.Keeping.{same_base}
 use Rattle.mask_build.specs.Laid.{laid_in, IsLaid}
 use Rattle.mask_build.proofs.Aside.{free_rows_same}
-use Rattle.mask_build.proofs.Bringing.{some_is, laid_first, laid_next, laid_apart, dated_at}
+use Rattle.store_history.proofs.Lists.{some_is}
+use Rattle.mask_build.proofs.Bringing.{laid_first, laid_next, laid_apart, dated_at}
 use Rattle.mask_build.proofs.relaying.lay_copies.Goals as goal
 
 pub loop-place-init : goal.loop-place-init

@@ -10,7 +10,7 @@ use Rattle.mask_mirror.specs.declared.mirror.KeptMask.{KeptMask}
 use Rattle.mask_mirror.specs.Kept.{bucket_at, Spells, IsKept}
 use Rattle.mask_mirror.specs.Lists.{Dated, Rises, kept_as, kept_in, dated_in, HasFilters}
 use Rattle.mask_mirror.proofs.Keeping.{same_kept, some_buckets}
-use Rattle.hook_law.proofs.Growing.{get_before, get_behind, get_parts, some_is}
+use Rattle.store_history.proofs.Lists.{get_before, get_behind, get_parts, some_is}
 use Rattle.std.proofs.lemmas.Nat.{mod_below}
 use Rattle.flow_mask.specs.Hashes.{hash_of}
 
