@@ -14,6 +14,31 @@
 //! The parts stand in crates of their own: the tables (filter_tables), what every edit asks (hook_lists), and the edits of filters
 //! (filter_adding, filter_replacing, filter_removing). Those of the qdisc and of actions apart from filters stand here.
 //!
+//! # How a `filter add` goes through them
+//!
+//! ```text
+//! Lists::prepare --> plan_for --> filter_adding::prepare_addition
+//!                                  |
+//!                                  | look: every refusal, in the plain state's order; nothing is changed
+//!                                  |-- the qdisc, the pref, the protocol      hook_lists::check_hook, check_protocol
+//!                                  |-- the handle; the same mask and key      hook_lists::check_match: filter_tables,
+//!                                  |                                          and filter_index within a mask
+//!                                  |-- the line's actions, bound or made      hook_lists::resolve: action_plan over
+//!                                  |                                          act_registry
+//!                                  |-- tables, masks, filters, actions full   hook_lists::check_masks, check_actions
+//!                                  |
+//!                                  | make ready: all the memory, none of it used yet
+//!                                  |-- room for the actions                   hook_lists::reserve_actions
+//!                                  '-- a seat: in a mask that stands, or a    filter_tables: reserve
+//!                                      mask or table of the filter's own
+//! Lists::finish ---> carry ------> filter_adding::add: no memory, no refusal
+//!                                  |-- the actions are bound and made         hook_lists::carry_out
+//!                                  '-- the filter is put into its seat        filter_tables: put
+//! ```
+//!
+//! A replace and a del go the same two ways through filter_replacing and filter_removing; a replace of a filter that
+//! isn't there is an add.
+//!
 //! One thread changes the lists at a time, by `&mut`, and any may read them by `&`. Only `step` and `prepare` take memory.
 //!
 //! Not promised: that memory suffices.
