@@ -2,8 +2,8 @@
 ghost use Rattle.std.specs.Prelude.{◌≡◌, ◌<◌, [], IfOk};
 ghost use Rattle.step_counts.specs.Counters.{tally};
 
-use crate::counter_seats::{CounterSeat, CounterSeats};
-use crate::tally::Tally;
+use crate::seats::{Held, Left};
+use crate::tally::{CounterSeat, CounterSeats, Tally};
 use atomic_table::{Join, Play, Seat, Split, Table, TableRule};
 use std::alloc::Global;
 use std::marker::Model;
@@ -106,7 +106,7 @@ impl Counters {
         requires serial { (0 < serial) × (serial ≤ 16384) }
         ensures { seat.new ≡ with_deed (serial, length) seat.old }
     {
-        let CounterSeat { place } = seat;
+        let Held { place } = seat;
         let packets = 2 * serial as usize;
         let shared = &self.words.shared;
         shared.fetch_add::<Count>(place, packets, 1);
@@ -122,7 +122,7 @@ impl Counters {
         ensures all { HoldsAll seat.old → result ≡ totals_of serial seat.old.deeds }
         ensures same { seat.new ≡ seat.old }
     {
-        let CounterSeat { place } = seat;
+        let Held { place } = seat;
         let packets = 2 * serial as usize;
         let shared = &self.words.shared;
         (
@@ -137,7 +137,7 @@ impl Counters {
         requires seat { seat.making ≡ self.now }
         ensures { into.new ≡ with_seat seat into.old }
     {
-        let CounterSeat { place } = seat;
+        let Held { place } = seat;
         self.words.shared.join_seat::<Merge>(&mut into.place, place);
     }
 }
@@ -155,11 +155,11 @@ fn cut_seats(
 {
     let mut left = Vec::with_capacity(alloc, seats as usize)?;
     for _made in 0..seats {
-        left.push(CounterSeat {
+        left.push(Held {
             place: words.shared.split_seat::<Deal>(&mut origin),
         })?;
     }
-    Ok(CounterSeats { origin, left })
+    Ok(Left { origin, left })
 }
 
 /// New counters, all 0, with so many seats, at least one.
