@@ -16,6 +16,7 @@ use Rattle.act_registry.specs.Entries as entries
 use Rattle.act_registry.specs.Kept as registries
 use Rattle.filter_state.specs.States.{Action}
 use Rattle.filter_state.specs.Sound.{Each}
+use Rattle.filter_state.proofs.Pairs.{each_weaker}
 use Rattle.filter_state.specs.Actions.{is_named, change_where, more_bound, Made, serial_of}
 use Rattle.action_plan.specs.declared.planned.PlannedAction.{PlannedAction}
 use Rattle.action_plan.specs.Entries.{action_of, actions_of}
@@ -84,10 +85,6 @@ make_room params index r fault new room few in_run told =
 pub made_is : (m : Made) (r : registries.Kept Params) → actions_of r.entries ≡ m.actions → r.made ≡ m.made → made_of r ≡ m
 made_is m r actions made =
     ap (λ (a : List Action). record { actions = a; made = r.made }) actions ∙ ap (λ (n : ℕ). record { actions = m.actions; made = n }) made
-
-each_weaker : (P Q : Action → Type 0) → ((a : Action) → P a → Q a) → (actions : List Action) → Each P actions → Each Q actions
-each_weaker P Q weaker [] all = tt
-each_weaker P Q weaker (a ∷ actions) all = (weaker a all.0, each_weaker P Q weaker actions all.1)
 
 each_more : (P : Action → Type 0) (actions : List Action) (a : Action) → Each P actions → P a → Each P (actions ++ (a ∷ []))
 each_more P [] a all new = (new, tt)

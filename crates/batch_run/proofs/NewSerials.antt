@@ -9,7 +9,7 @@ use Rattle.act_kinds.specs.declared.params.Params.{Params}
 use Rattle.filter_state.specs.States.{Action}
 use Rattle.filter_state.specs.Actions.{has_serial, less_bound, is_referred, unbound, all_unbound, change_where, Made, made_more}
 use Rattle.filter_state.specs.Sound.{Each}
-use Rattle.state_laws.proofs.Pairs.{each_weaker, each_map, each_filter}
+use Rattle.filter_state.proofs.Pairs.{each_weaker, each_map, each_filter}
 use Rattle.batch_run.specs.declared.made_action.MadeAction.{MadeAction}
 use Rattle.batch_run.specs.Made.{name_of, is_later, later_names}
 

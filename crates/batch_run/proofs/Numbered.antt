@@ -20,7 +20,7 @@ use Rattle.filter_state.specs.Tables.{in_table, has_handle, first_where, filter_
 use Rattle.filter_state.specs.Steps.{Stepped, unless, made_of, with_actions, resolved_for, pref_for, add_resolved, add_at, filter_added, filter_add, filter_replaced, replace_resolved, replace_or_add, taken_out, filter_del, make_given, change_given, change_at, step}
 use Rattle.filter_state.specs.Sound.{Each, IsRow, IsAction, Sound}
 use Rattle.state_laws.proofs.Answers.{SoundAfter}
-use Rattle.state_laws.proofs.Pairs.{each_weaker, found}
+use Rattle.filter_state.proofs.Pairs.{each_weaker, found}
 use Rattle.state_laws.proofs.Held.{HasReference, one_passes}
 use Rattle.state_laws.proofs.NewRow.{line_resolves}
 use Rattle.state_laws.proofs.Steps.{step_sound}

@@ -7,7 +7,7 @@ use Rattle.filter_state.specs.States.{State, no_state}
 use Rattle.filter_state.specs.Steps.{Stepped, step}
 use Rattle.filter_state.specs.Sound.{Each, Sound}
 use Rattle.state_laws.proofs.Answers.{SoundAfter}
-use Rattle.state_laws.proofs.Pairs.{each_weaker}
+use Rattle.filter_state.proofs.Pairs.{each_weaker}
 use Rattle.state_laws.proofs.Steps.{step_sound}
 use Rattle.state_laws.proofs.Whole.{start_sound}
 use Rattle.line_range_laws.proofs.Lines.{says}

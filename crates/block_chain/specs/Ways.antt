@@ -1,5 +1,5 @@
 -- Where a reader stands on its way along a chain (this project's own).
-use Rattle.std.specs.Prelude.{◌≡◌, ℕ, ◌≤◌, length, drop}
+use Rattle.std.specs.Prelude.{◌≡◌, ℕ, ◌<◌, ◌≤◌, length, drop}
 use Rattle.atomic_table.specs.declared.shared.Seat.{Seat}
 use Rattle.store_history.specs.declared.history.Link.{Link}
 use Rattle.store_history.specs.History.{root_of, first_number, IsNamed, IsLinked}
@@ -11,6 +11,10 @@ use Rattle.pin_store.specs.Calls.{seen_by, floor_start}
 -- the words of a block
 abbrev pub block_words : ℕ
 block_words = 40
+
+-- the store has such blocks, and that root
+abbrev pub HasRoot : Shape → ℕ → Type 0
+HasRoot shape root = (shape.words ≡ block_words) × (root < shape.roots)
 
 -- before the block at a place of what a root names, at the end of what the reader has seen; `next` is that block's number plus 1, or 0
 -- where the chain is over

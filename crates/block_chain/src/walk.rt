@@ -4,7 +4,7 @@ ghost use mathlib.Core.List.{IsPrefix};
 ghost use Rattle.store_history.specs.declared.history.Link.{Link};
 ghost use Rattle.store_history.specs.History.{root_of};
 ghost use Rattle.pin_store.specs.Calls.{seen_by, floor_start, loads_of, IsInside, IsSeatOf, IsSameReader, IsSameButLoads};
-ghost use Rattle.block_chain.specs.Ways.{block_words, IsBefore};
+ghost use Rattle.block_chain.specs.Ways.{block_words, IsBefore, HasRoot};
 
 use crate::block::load_block;
 use pin_store::{Reader, Steps, Store};
@@ -29,7 +29,7 @@ impl Walk {
         steps: &mut Steps<M>,
     ) -> (Walk, Point)
         requires store { IsSeatOf store.now reader.old.place }
-        requires shape { (store.now.shape.words ≡ block_words) × (root < store.now.shape.roots) }
+        requires shape { HasRoot store.now.shape root }
         requires inside { IsInside reader.old.place }
         ensures store { IsSeatOf store.now reader.new.place }
         ensures same { IsSameReader reader.old.place reader.new.place }

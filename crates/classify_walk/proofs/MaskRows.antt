@@ -15,7 +15,8 @@ use Rattle.filter_tables.specs.Places.{item_at}
 use Rattle.filter_tables.specs.Whole.{HasSome, IsFull}
 use Rattle.filter_tables.specs.Rows.{BothHooks, BothWhole, tables_on, row_of, rows_of_mask, all_rows}
 use Rattle.row_lookup_laws.proofs.Heads.{filter_and}
-use Rattle.row_lookup_laws.proofs.Blocks.{each_weaker, each_map, filter_blocks}
+use Rattle.filter_state.proofs.Pairs.{each_weaker}
+use Rattle.row_lookup_laws.proofs.Blocks.{each_map, filter_blocks}
 use Rattle.row_lookup_laws.proofs.Pairs.{pairs_both}
 use Rattle.row_lookup_laws.proofs.Among.{Among, NotBoth, among_at, one_kept}
 use Rattle.row_lookup_laws.proofs.Found.{hook_self, item_each, rows_found}

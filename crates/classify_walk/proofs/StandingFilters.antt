@@ -15,7 +15,7 @@ use Rattle.hook_lists.specs.declared.kept.Kept.{Kept}
 use Rattle.hook_lists.specs.States.{both_of, state_of}
 use Rattle.filter_lists.specs.Spells.{Spells}
 use Rattle.row_lookup_laws.proofs.Heads.{first_and}
-use Rattle.row_lookup_laws.proofs.Blocks.{each_weaker, each_filter}
+use Rattle.filter_state.proofs.Pairs.{each_weaker, each_filter}
 use Rattle.visit_room.specs.declared.names.ActionName.{ActionName}
 use Rattle.walk_rules.specs.Questions.{filter_of}
 use Rattle.walk_rules.specs.Answers.{meets, actions_or_none, answer_of}

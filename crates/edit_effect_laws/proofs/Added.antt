@@ -11,7 +11,7 @@ use Rattle.filter_state.specs.Order.{of_mask}
 use Rattle.filter_state.specs.Refusals.{protocol_clash}
 use Rattle.filter_state.specs.Steps.{filter_add}
 use Rattle.filter_state.specs.Sound.{Sound, Each}
-use Rattle.state_laws.proofs.Pairs.{each_weaker, any_none}
+use Rattle.filter_state.proofs.Pairs.{each_weaker, any_none}
 use Rattle.state_laws.proofs.Fits.{WithinMasks}
 use Rattle.state_laws.proofs.Room.{found_any}
 use Rattle.edit_effect_laws.specs.Parts.{Stands, filter_of, filters_of}

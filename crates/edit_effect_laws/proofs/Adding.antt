@@ -11,7 +11,7 @@ use Rattle.filter_state.specs.Refusals.{or_else, no_hook, protocol_clash, handle
 use Rattle.filter_state.specs.Steps.{row_of, handle_for, with_row, with_actions, pref_for, resolved_for, filter_added, add_resolved, add_at, filter_add}
 use Rattle.filter_state.specs.Sound.{Sound, Each}
 use Rattle.state_laws.proofs.Answers.{neither, and_then_ok}
-use Rattle.state_laws.proofs.Pairs.{each_weaker}
+use Rattle.filter_state.proofs.Pairs.{each_weaker}
 use Rattle.state_laws.proofs.Fits.{TableFits, MaskFits, WithinTables, WithinMasks, table_fits, mask_fits}
 use Rattle.state_laws.proofs.Rows.{IsPlain}
 use Rattle.state_laws.proofs.Whole.{rows_of}

@@ -4,7 +4,7 @@ use Rattle.tc_base.specs.declared.hook.Hook.{Hook}
 use Rattle.tc_base.specs.declared.hook.Proto.{Proto}
 use Rattle.filter_state.specs.States.{Row}
 use Rattle.filter_state.specs.Sound.{Each}
-use Rattle.state_laws.proofs.Pairs.{each_weaker, each_both}
+use Rattle.filter_state.proofs.Pairs.{each_weaker, each_both}
 use Rattle.state_laws.proofs.Fits.{Akin, TableFits, MaskFits}
 use Rattle.edit_effect_laws.proofs.Sorted.{bare}
 use Rattle.edit_effect_laws.proofs.Heads.{LookAlike}

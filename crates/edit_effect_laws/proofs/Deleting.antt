@@ -16,7 +16,7 @@ use Rattle.filter_state.specs.Refusals.{or_else, no_hook, protocol_clash_if, no_
 use Rattle.filter_state.specs.Steps.{taken_out, filter_del}
 use Rattle.filter_state.specs.Sound.{Sound, Each, EachPair, GoTogether}
 use Rattle.state_laws.proofs.Answers.{not_refused, not_not, neither}
-use Rattle.state_laws.proofs.Pairs.{each_of, each_weaker, each_both, each_filter, each_passing, pairs_weaker, found, any_first, none_any}
+use Rattle.filter_state.proofs.Pairs.{each_of, each_weaker, each_both, each_filter, each_passing, pairs_weaker, found, any_first, none_any}
 use Rattle.state_laws.proofs.Tests.{row_in_table, row_in_table_from}
 use Rattle.state_laws.proofs.Fits.{Akin, all_akin}
 use Rattle.state_laws.proofs.Places.{NotBoth, only_one}

@@ -18,7 +18,7 @@ use Rattle.filter_state.specs.Tables.{first_where, in_table, has_handle}
 use Rattle.filter_state.specs.Refusals.{or_else, no_hook, protocol_clash_if, no_such_table, no_such_filter}
 use Rattle.filter_state.specs.Steps.{made_of, resolved_for, with_actions, with_replaced, taken_out, filter_add, replace_or_add, filter_replace, filter_del, step}
 use Rattle.filter_state.specs.Sound.{Sound, IsAction, StandApart, places}
-use Rattle.state_laws.proofs.Pairs.{each_weaker, pairs_weaker, found}
+use Rattle.filter_state.proofs.Pairs.{each_weaker, pairs_weaker, found}
 use Rattle.edit_effect_laws.specs.Parts.{params_at}
 use Rattle.edit_effect_laws.specs.Effects.{KeepsActions, LosesNoAction, MakesNoAction}
 use Rattle.edit_effect_laws.proofs.Accepted.{not_unless, same_step}

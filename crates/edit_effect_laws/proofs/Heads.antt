@@ -10,7 +10,7 @@ use Rattle.filter_state.specs.Actions.{change_where}
 use Rattle.filter_state.specs.Tables.{in_hook}
 use Rattle.filter_state.specs.Order.{of_mask}
 use Rattle.filter_state.specs.Sound.{Each}
-use Rattle.state_laws.proofs.Pairs.{each_weaker, each_map, each_filter, any_filter, any_map}
+use Rattle.filter_state.proofs.Pairs.{each_weaker, each_map, each_filter, any_filter, any_map}
 use Rattle.state_laws.proofs.Rows.{put_actions}
 use Rattle.row_order_laws.specs.Sorted.{placed, sorted}
 use Rattle.row_order_laws.specs.Rows.{row_before}

@@ -10,7 +10,7 @@ use Rattle.filter_state.specs.Order.{of_mask}
 use Rattle.filter_state.specs.Steps.{with_new_actions, with_row, without_row, filter_replace}
 use Rattle.filter_state.specs.Steps.{with_actions as with_made}
 use Rattle.filter_state.specs.Sound.{Sound}
-use Rattle.state_laws.proofs.Pairs.{each_weaker}
+use Rattle.filter_state.proofs.Pairs.{each_weaker}
 use Rattle.state_laws.proofs.Tests.{bytes_eq_from}
 use Rattle.state_laws.proofs.Old.{is_old, IsOld, old_found}
 use Rattle.edit_effect_laws.specs.Parts.{filters_of}

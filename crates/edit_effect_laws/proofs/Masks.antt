@@ -9,7 +9,7 @@ use Rattle.filter_state.specs.Actions.{change_where}
 use Rattle.filter_state.specs.Tables.{first_where, has_handle}
 use Rattle.filter_state.specs.Order.{of_mask}
 use Rattle.filter_state.specs.Sound.{Each}
-use Rattle.state_laws.proofs.Pairs.{any_first, found}
+use Rattle.filter_state.proofs.Pairs.{any_first, found}
 use Rattle.state_laws.proofs.Rows.{put_actions}
 use Rattle.row_lookup_laws.proofs.Heads.{head_of, first_head, filter_none}
 use Rattle.walk_rules.proofs.Listed.{kept_have, kept_alike}

@@ -10,7 +10,7 @@ use Rattle.filter_state.specs.Actions.{Resolved}
 use Rattle.filter_state.specs.Tables.{mask_row, mask_or_next}
 use Rattle.filter_state.specs.Steps.{with_new_actions, with_row, with_actions, without_row, mask_serial_for, filter_replace}
 use Rattle.filter_state.specs.Sound.{Sound}
-use Rattle.state_laws.proofs.Pairs.{found}
+use Rattle.filter_state.proofs.Pairs.{found}
 use Rattle.state_laws.proofs.Tests.{bytes_eq_true, bytes_eq_from}
 use Rattle.state_laws.proofs.Fits.{MaskFits}
 use Rattle.state_laws.proofs.Old.{is_old}

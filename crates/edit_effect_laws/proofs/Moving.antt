@@ -11,7 +11,7 @@ use Rattle.filter_state.specs.Order.{of_mask}
 use Rattle.filter_state.specs.Refusals.{protocol_clash, masks_full}
 use Rattle.filter_state.specs.Steps.{with_row, with_actions, without_row, mask_serial_for}
 use Rattle.filter_state.specs.Sound.{Sound, Each}
-use Rattle.state_laws.proofs.Pairs.{each_filter, found}
+use Rattle.filter_state.proofs.Pairs.{each_filter, found}
 use Rattle.state_laws.proofs.Room.{found_any}
 use Rattle.state_laws.proofs.Fits.{TableFits, MaskFits}
 use Rattle.state_laws.proofs.Old.{is_old, IsOld, old_found}

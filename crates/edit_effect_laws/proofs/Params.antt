@@ -9,7 +9,7 @@ use Rattle.filter_state.specs.States.{Action}
 use Rattle.filter_state.specs.Actions.{has_serial, change_where}
 use Rattle.filter_state.specs.Tables.{first_where}
 use Rattle.filter_state.specs.Sound.{Each, EachPair}
-use Rattle.state_laws.proofs.Pairs.{each_passing, pairs_filter}
+use Rattle.filter_state.proofs.Pairs.{each_passing, pairs_filter}
 use Rattle.state_laws.proofs.Changes.{put_params}
 use Rattle.row_lookup_laws.proofs.Heads.{head_of, first_head, filter_none}
 use Rattle.edit_effect_laws.proofs.Kept.{last_left, last_kept, either_order}

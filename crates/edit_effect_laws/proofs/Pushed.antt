@@ -8,7 +8,7 @@ use Rattle.filter_state.specs.States.{Row}
 use Rattle.filter_state.specs.Tables.{in_hook}
 use Rattle.filter_state.specs.Order.{of_mask}
 use Rattle.filter_state.specs.Sound.{Each}
-use Rattle.state_laws.proofs.Pairs.{each_append}
+use Rattle.filter_state.proofs.Pairs.{each_append}
 use Rattle.state_laws.proofs.Tests.{hook_eq_true}
 use Rattle.edit_effect_laws.proofs.Kept.{last_left}
 use Rattle.edit_effect_laws.proofs.Sorted.{tables_of}

@@ -12,7 +12,7 @@ use Rattle.filter_state.specs.Refusals.{or_else, no_hook, protocol_clash, exists
 use Rattle.filter_state.specs.Steps.{row_of, with_actions, mask_serial_for, with_replaced, resolved_for, filter_replaced, replace_resolved, replace_at, replace_or_add, filter_replace}
 use Rattle.filter_state.specs.Sound.{Sound, Each}
 use Rattle.state_laws.proofs.Answers.{neither, and_then_ok}
-use Rattle.state_laws.proofs.Pairs.{each_weaker}
+use Rattle.filter_state.proofs.Pairs.{each_weaker}
 use Rattle.state_laws.proofs.Fits.{Akin, TableFits, MaskFits}
 use Rattle.state_laws.proofs.Old.{is_old, IsOld, old_table, old_mask}
 use Rattle.edit_effect_laws.proofs.Accepted.{not_unless, same_step}

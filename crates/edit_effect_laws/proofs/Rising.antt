@@ -8,7 +8,7 @@ use Rattle.filter_state.specs.States.{Action}
 use Rattle.filter_state.specs.Actions.{is_named, has_serial, serial_of, more_bound, less_bound, is_referred, unbound, all_unbound, index_or_free, Resolved, bound_more, made_bound, bound_or_made, resolved_by, resolved}
 use Rattle.filter_state.specs.Sound.{Each, EachPair}
 use Rattle.state_laws.proofs.Answers.{same_ok, err_ok, and_then_ok}
-use Rattle.state_laws.proofs.Pairs.{each_weaker, each_append, each_map, pairs_push, pairs_filter, pairs_map}
+use Rattle.filter_state.proofs.Pairs.{each_weaker, each_append, each_map, pairs_push, pairs_filter, pairs_map}
 use Rattle.edit_effect_laws.proofs.Params.{params_in, params_before, params_mapped, Rise, StayOrGo, params_left}
 
 -- ---- serials rise, up to the last one that was given

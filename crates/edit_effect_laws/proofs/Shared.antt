@@ -18,7 +18,7 @@ use Rattle.filter_state.specs.Refusals.{or_else, action_exists, no_such_action, 
 use Rattle.filter_state.specs.Steps.{made_of, with_actions, with_params, make_given, action_add, change_given, action_change, action_del}
 use Rattle.filter_state.specs.Sound.{Sound, IsAction, Each}
 use Rattle.state_laws.proofs.Answers.{not_refused, not_not, neither, err_ok}
-use Rattle.state_laws.proofs.Pairs.{each_weaker, any_first}
+use Rattle.filter_state.proofs.Pairs.{each_weaker, any_first}
 use Rattle.state_laws.proofs.Names.{named_by_serial, serial_there}
 use Rattle.walk_rules.proofs.Listed.{kept_have}
 use Rattle.edit_effect_laws.specs.Parts.{params_at}

@@ -8,7 +8,7 @@ use Rattle.filter_state.specs.States.{Row}
 use Rattle.filter_state.specs.Tables.{in_hook}
 use Rattle.filter_state.specs.Order.{of_mask}
 use Rattle.filter_state.specs.Sound.{Each}
-use Rattle.state_laws.proofs.Pairs.{each_weaker, each_filter}
+use Rattle.filter_state.proofs.Pairs.{each_weaker, each_filter}
 use Rattle.state_laws.proofs.Counts.{filter_any}
 use Rattle.state_laws.proofs.Fits.{Akin}
 use Rattle.walk_rules.proofs.Listed.{unkept}

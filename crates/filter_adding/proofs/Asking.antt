@@ -15,7 +15,7 @@ use Rattle.filter_tables.specs.Changes.{count_of, has_handle_in, is_table}
 use Rattle.filter_tables.specs.Room.{TableRoom}
 use Rattle.filter_tables.specs.Rows.{tables_on, row_of, rows_of_mask, all_rows}
 use Rattle.row_lookup_laws.proofs.Placed.{place_any}
-use Rattle.row_lookup_laws.proofs.Free.{length_filter_le}
+use Rattle.filter_state.proofs.Free.{length_filter_le}
 use Rattle.row_lookup_laws.proofs.Found.{rows_found, rows_any}
 use Rattle.row_lookup_laws.proofs.Tables.{count_found}
 use Rattle.row_lookup_laws.proofs.Lowest.{lowest_found}

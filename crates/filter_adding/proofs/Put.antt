@@ -10,10 +10,10 @@ use Rattle.filter_tables.specs.Places.{item_at}
 use Rattle.filter_tables.specs.Changes.{new_mask}
 use Rattle.filter_tables.specs.Whole.{HasSome, IsFull}
 use Rattle.filter_tables.specs.Rows.{BothWhole, tables_on, on_hook, row_of, rows_of_mask, rows_of_table, all_rows}
-use Rattle.row_lookup_laws.proofs.Blocks.{each_weaker, each_filter, each_map, some_map}
+use Rattle.filter_state.proofs.Pairs.{each_weaker, each_filter, each_front, each_back}
+use Rattle.row_lookup_laws.proofs.Blocks.{each_map, some_map}
 use Rattle.row_lookup_laws.proofs.Found.{rows_found, table_each, some_rows, item_each}
 use Rattle.row_lookup_laws.proofs.Tables.{full_at}
-use Rattle.row_change_laws.proofs.Lists.{each_front, each_back}
 use Rattle.row_change_laws.proofs.Put.{put_rows}
 use Rattle.row_change_laws.proofs.Whole.{put_whole}
 use Rattle.row_change_laws.proofs.MaskPut.{mask_put_rows, new_mask_whole}

@@ -5,10 +5,10 @@ ghost use Rattle.filter_state.specs.Lines.{IsFilter};
 ghost use Rattle.filter_state.specs.Refusals.{handle_taken, tables_full, filters_full};
 ghost use Rattle.filter_state.specs.Steps as steps;
 ghost use Rattle.filter_tables.specs.Places.{place_where};
-ghost use Rattle.filter_tables.specs.Changes.{is_table, has_handle_in};
+ghost use Rattle.filter_tables.specs.Changes.{has_handle_in};
 ghost use Rattle.filter_tables.specs.Rows.{tables_on};
 ghost use Rattle.action_plan.specs.Plans.{made_of, carried};
-ghost use Rattle.hook_lists.specs.States.{state_of, both_of, AreKept};
+ghost use Rattle.hook_lists.specs.States.{state_of, both_of, AreKept, place_on};
 ghost use Rattle.hook_lists.specs.Steps.{refusal_of};
 ghost use Rattle.filter_adding.specs.Looks.{place_refusal, limit_refusal, found_or, LookTold};
 
@@ -99,7 +99,7 @@ fn check_place(
     place: Option<usize>,
 ) -> Result<(), Refusal>
     requires kept { AreKept kept.now }
-    requires place { place ≡ place_where (is_table line.now.chain pref) (tables_on line.now.hook (both_of kept.now)) }
+    requires place { place ≡ place_on line.now.hook line.now.chain pref kept.now }
     ensures { refusal_of result ≡ place_refusal (state_of kept.now) line.now pref }
 {
     check_protocol(kept, line.hook, line.chain, pref, place, line.protocol)?;
@@ -117,7 +117,7 @@ fn check_handle(
     place: Option<usize>,
 ) -> Result<(), Refusal>
     requires kept { AreKept kept.now }
-    requires place { place ≡ place_where (is_table line.now.chain pref) (tables_on line.now.hook (both_of kept.now)) }
+    requires place { place ≡ place_on line.now.hook line.now.chain pref kept.now }
     ensures { refusal_of result ≡ handle_taken (state_of kept.now) line.now.hook line.now.chain pref line.now.handle }
 {
     let Some(handle) = line.handle else {
@@ -148,7 +148,7 @@ fn check_limits(
     actions: &ActionPlan,
 ) -> Result<(), Refusal>
     requires kept { AreKept kept.now }
-    requires place { place ≡ place_where (is_table line.now.chain pref) (tables_on line.now.hook (both_of kept.now)) }
+    requires place { place ≡ place_on line.now.hook line.now.chain pref kept.now }
     ensures { refusal_of result ≡ limit_refusal (state_of kept.now) line.now pref (carried (made_of kept.now.actions) actions.now) }
 {
     check_tables(kept, line, pref, place)?;
@@ -165,7 +165,7 @@ fn check_tables(
     place: Option<usize>,
 ) -> Result<(), Refusal>
     requires kept { AreKept kept.now }
-    requires place { place ≡ place_where (is_table line.now.chain pref) (tables_on line.now.hook (both_of kept.now)) }
+    requires place { place ≡ place_on line.now.hook line.now.chain pref kept.now }
     ensures { refusal_of result ≡ tables_full (state_of kept.now) line.now.hook line.now.chain pref }
 {
     if has_no_room(kept, line.hook, place) {

@@ -1,5 +1,5 @@
 -- Rows that leave, in any of the two ways: their places can be let go, and the state is then the one without them.
-use Rattle.std.proofs.Common.{◌≡◌, ℕ, ◌+◌, ◌≤◌, Bool, true, false, cond, not, List, [], ◌∷◌, length, filter, refl, sym, ◌∙◌, ap, subst, arith}
+use Rattle.std.proofs.Common.{◌≡◌, ℕ, ◌+◌, ◌≤◌, Bool, not, List, length, filter, refl, sym, ◌∙◌, ap, subst, arith}
 use Rattle.filter_state.specs.declared.refusal.Done.{Done}
 use Rattle.filter_state.specs.States.{Row}
 use Rattle.filter_state.specs.Sound.{places}
@@ -8,6 +8,7 @@ use Rattle.filter_state.specs.Steps.{taken_out}
 use Rattle.filter_state.specs.Order.{SameRows}
 use Rattle.filter_tables.specs.Rows.{BothHooks, all_rows, BothWhole}
 use Rattle.order_laws.proofs.Same.{same_refl}
+use Rattle.row_change_laws.proofs.Filters.{split_count}
 use Rattle.action_plan.specs.Bound.{AreBound}
 use Rattle.action_plan.specs.Entries.{actions_of}
 use Rattle.hook_lists.specs.declared.kept.Kept.{Kept}
@@ -25,14 +26,6 @@ pub record Leaves (kept : Kept) (both : BothHooks) (gone : Row → Bool) (serial
   pub whole : BothWhole both
 
 -- ---- counts
-split_step : {X : Type 0} (b : Bool) (x : X) (in_ out xs : List X) → length in_ + length out ≡ length xs → length (cond b (x ∷ in_) in_) + length (cond (not b) (x ∷ out) out) ≡ length (x ∷ xs)
-split_step true x in_ out xs more = omega (arith, more)
-split_step false x in_ out xs more = omega (arith, more)
-
-split_count : {X : Type 0} (test : X → Bool) (xs : List X) → length (filter test xs) + length (filter (λ x. not (test x)) xs) ≡ length xs
-split_count test [] = refl
-split_count test (x ∷ xs) = split_step (test x) x (filter test xs) (filter (λ y. not (test y)) xs) xs (split_count test xs)
-
 left_count : (kept : Kept) (both : BothHooks) (gone : Row → Bool) (serials : List ℕ) (count : ℕ) → AreKept kept → Leaves kept both gone serials count →
     count + length (all_rows both) ≡ kept.filters
 left_count kept both gone serials count are leaves =

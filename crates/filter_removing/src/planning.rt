@@ -1,11 +1,9 @@
 //! Looking at an edit that takes filters out.
 ghost use Rattle.std.specs.Prelude.{◌≡◌, ◌<◌, length, Some};
 ghost use Rattle.filter_state.specs.Steps.{filter_del};
-ghost use Rattle.filter_tables.specs.Places.{item_at, place_where};
+ghost use Rattle.filter_tables.specs.Places.{item_at};
 ghost use Rattle.filter_tables.specs.Seen.{plain_table};
-ghost use Rattle.filter_tables.specs.Changes.{is_table};
-ghost use Rattle.filter_tables.specs.Rows.{tables_on};
-ghost use Rattle.hook_lists.specs.States.{both_of, state_of, AreKept};
+ghost use Rattle.hook_lists.specs.States.{state_of, AreKept, place_on};
 ghost use Rattle.filter_removing.specs.Planning.{step_found};
 ghost use Rattle.filter_removing.specs.Removals.{IsPlanned};
 
@@ -49,7 +47,7 @@ fn plan_found(
     handle: Option<u32>,
 ) -> Result<Removal, Refusal>
     requires kept { AreKept kept.now }
-    requires place { place_where (is_table chain pref) (tables_on hook (both_of kept.now)) ≡ Some table }
+    requires place { place_on hook chain pref kept.now ≡ Some table }
     ensures { IsPlanned kept.now result (step_found (state_of kept.now) hook chain pref handle) }
 {
     match handle {
@@ -73,7 +71,7 @@ fn plan_filter(
     handle: u32,
 ) -> Result<Removal, Refusal>
     requires kept { AreKept kept.now }
-    requires place { place_where (is_table chain pref) (tables_on hook (both_of kept.now)) ≡ Some table }
+    requires place { place_on hook chain pref kept.now ≡ Some table }
     ensures { IsPlanned kept.now result (step_found (state_of kept.now) hook chain pref (Some handle)) }
 {
     match table_at(kept, hook, table).masks.find_handle(handle) {

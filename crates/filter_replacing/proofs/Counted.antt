@@ -1,5 +1,5 @@
 -- Counts of rows and of serials where one row is exchanged for another.
-use Rattle.std.proofs.Common.{◌≡◌, ℕ, ◌+◌, ◌≤◌, ◌&&◌, Bool, true, false, cond, not, List, [], ◌∷◌, ◌++◌, map, find, filter, length, Some, refl, sym, ◌∙◌, ap, subst, arith, suc, eq-eqb}
+use Rattle.std.proofs.Common.{◌≡◌, ℕ, ◌+◌, ◌≤◌, ◌&&◌, Bool, cond, not, List, [], ◌∷◌, ◌++◌, map, find, filter, length, Some, refl, sym, ◌∙◌, ap, subst, arith, suc, eq-eqb}
 use Rattle.std.proofs.lemmas.Bool.{ne_eqb}
 use Rattle.std.proofs.lemmas.List.{length-append}
 use Rattle.tc_base.specs.declared.hook.Hook.{Hook}
@@ -14,7 +14,9 @@ use Rattle.filter_tables.specs.Plain.{PlainMask, PlainTable}
 use Rattle.filter_tables.specs.Places.{item_at}
 use Rattle.filter_tables.specs.Whole.{HasSome, IsFull}
 use Rattle.filter_tables.specs.Rows.{BothHooks, tables_on, row_of, rows_of_mask, all_rows, BothWhole}
-use Rattle.row_change_laws.proofs.Lists.{CutAt, cut_at, each_front, each_back, each_item}
+use Rattle.filter_state.proofs.Pairs.{each_front, each_back}
+use Rattle.row_change_laws.proofs.Lists.{CutAt, cut_at, each_item}
+use Rattle.row_change_laws.proofs.Filters.{split_count}
 use Rattle.row_change_laws.proofs.Hooks.{ahead_of_mask, after_mask, around_mask}
 use Rattle.row_change_laws.proofs.Whole.{HasFilters, whole_on}
 use Rattle.row_change_laws.proofs.Swept.{removed_rows}
@@ -31,14 +33,6 @@ raised_next made serial next = ap (λ b. cond b serial made) (eq-eqb serial (mad
 pub changed_count : {X : Type 0} (test : X → Bool) (change : X → X) (xs : List X) → length (change_where test change xs) ≡ length xs
 changed_count test change [] = refl
 changed_count test change (x ∷ xs) = ap suc (changed_count test change xs)
-
-split_step : {X : Type 0} (b : Bool) (x : X) (in_ out xs : List X) → length in_ + length out ≡ length xs → length (cond b (x ∷ in_) in_) + length (cond (not b) (x ∷ out) out) ≡ length (x ∷ xs)
-split_step true x in_ out xs more = omega (arith, more)
-split_step false x in_ out xs more = omega (arith, more)
-
-split_count : {X : Type 0} (test : X → Bool) (xs : List X) → length (filter test xs) + length (filter (λ x. not (test x)) xs) ≡ length xs
-split_count test [] = refl
-split_count test (x ∷ xs) = split_step (test x) x (filter test xs) (filter (λ y. not (test y)) xs) xs (split_count test xs)
 
 -- a row taken out, and another put behind the others
 pub exchanged_count : (both : BothHooks) (hook : Hook) (place at handle : ℕ) (table : PlainTable) (mask : PlainMask) (f : Filter) (row : Row) →

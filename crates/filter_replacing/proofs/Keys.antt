@@ -1,11 +1,10 @@
 -- The masks of a table differ in words, and the filters of a mask in keys.
-use Rattle.std.proofs.Common.{◌≡◌, ℕ, ◌<◌, ◌==◌, ◌||◌, not, Bool, true, false, cond, List, [], ◌∷◌, map, Option, Some, None, refl, sym, ◌∙◌, ap, subst, arith}
+use Rattle.std.proofs.Common.{◌≡◌, ℕ, ◌==◌, ◌||◌, not, Bool, true, false, cond, List, [], ◌∷◌, map, Option, Some, None, refl, sym, ◌∙◌, ap, subst}
 use Rattle.std.specs.Prelude.{filter, find}
 use Rattle.std.specs.List.{list_any, flat_map}
 use Rattle.std.proofs.lemmas.List.{append-nil}
 use Rattle.std.proofs.lemmas.Option.{none-some, same_Some}
 use Rattle.tc_base.specs.declared.hook.Hook.{Hook}
-use Rattle.filter_state.specs.States.{Row}
 use Rattle.filter_state.specs.Sound.{Each, EachPair, GoTogether}
 use Rattle.filter_state.specs.Tables.{has_mask}
 use Rattle.filter_index.specs.declared.filter.Filter.{Filter}
@@ -17,38 +16,16 @@ use Rattle.filter_tables.specs.Whole.{IsFull}
 use Rattle.filter_tables.specs.Rows.{row_of, rows_of_mask, rows_of_table}
 use Rattle.row_lookup_laws.specs.Asked.{unless_left_out}
 use Rattle.row_lookup_laws.proofs.Heads.{head_of, find_head}
-use Rattle.row_lookup_laws.proofs.Blocks.{each_map}
-use Rattle.row_lookup_laws.proofs.Pairs.{pairs_both, pairs_blocks, pairs_filter}
+use Rattle.filter_state.proofs.Pairs.{pairs_filter}
 use Rattle.row_lookup_laws.proofs.Among.{NotBoth, among_at, among_found, one_kept}
-use Rattle.row_lookup_laws.proofs.Masks.{words_kept, some_filters}
+use Rattle.row_lookup_laws.proofs.Matches.{words_apart}
+use Rattle.row_lookup_laws.proofs.Masks.{words_kept}
 use Rattle.row_lookup_laws.proofs.Together.{bytes_eq_true}
 
 -- ---- masks
-abbrev IsOf : PlainTable → PlainMask → Row → Type 0
-IsOf t m row = (row.mask ≡ m.mask) × (row.mask_serial ≡ m.serial) × (row.table ≡ t.serial)
-
-abbrev OneSerial : PlainMask → PlainMask → Type 0
-OneSerial m n = m.mask ≡ n.mask → m.serial ≡ n.serial
-
-one_serial : (t : PlainTable) (m n : PlainMask) (x y : Row) → IsOf t m x → IsOf t n y → GoTogether x y → OneSerial m n
-one_serial t m n x y of too together same = sym of.1 ∙ together.one_mask (of.2 ∙ sym too.2) (of.0 ∙ same ∙ sym too.0) ∙ too.1
-
-not_less : (m n : ℕ) → m < n → m ≡ n → ⊥
-not_less m n less same = omega arith
-
-other_words : (words : List ℕ) (m n : PlainMask) → OneSerial m n → m.serial < n.serial → NotBoth (has_words words) m n
-other_words words m n one less here there = not_less m.serial n.serial less (one (bytes_eq_true m.mask words here ∙ sym (bytes_eq_true n.mask words there)))
-
 module _ (hook : Hook) (t : PlainTable) (full : IsFull t) (together : EachPair GoTogether (rows_of_table hook t)) where
-  words_apart : (words : List ℕ) → EachPair (NotBoth (has_words words)) t.masks
-  words_apart words =
-      pairs_both OneSerial (λ (m n : PlainMask). m.serial < n.serial) (NotBoth (has_words words)) (other_words words) t.masks
-      (pairs_blocks GoTogether (IsOf t) OneSerial (rows_of_mask hook t)
-      (λ m. each_map (row_of hook t m) (IsOf t m) (λ f. (refl, refl, refl)) m.filters) (one_serial t) t.masks (some_filters hook t t.masks full.each) together)
-      full.rising
-
   one_mask : (words : List ℕ) (at : ℕ) (m : PlainMask) → item_at t.masks at ≡ Some m → has_words words m ≡ true → filter (has_words words) t.masks ≡ m ∷ []
-  one_mask words at m there has = one_kept (has_words words) m t.masks (among_at t.masks at m there) has (words_apart words)
+  one_mask words at m there has = one_kept (has_words words) m t.masks (among_at t.masks at m there) has (words_apart words hook t full together)
 
   -- two masks of the same words are one
   pub same_mask : (words : List ℕ) (at to : ℕ) (m n : PlainMask) → item_at t.masks at ≡ Some m → item_at t.masks to ≡ Some n → has_words words m ≡ true → has_words words n ≡ true → m ≡ n

@@ -13,7 +13,7 @@ use Rattle.filter_tables.specs.Plain.{PlainMask, PlainTable}
 use Rattle.filter_tables.specs.Places.{item_at}
 use Rattle.filter_tables.specs.Changes.{new_mask}
 use Rattle.filter_tables.specs.Rows.{BothHooks, on_hook, row_of, all_rows, BothWhole}
-use Rattle.row_change_laws.proofs.Lists.{each_weaker}
+use Rattle.filter_state.proofs.Pairs.{each_weaker}
 use Rattle.row_change_laws.proofs.Whole.{actions_whole}
 use Rattle.row_change_laws.proofs.MovedWhole.{moved_whole, moved_out_whole}
 use Rattle.row_change_laws.proofs.FilterTaken.{actions_rows}

@@ -6,6 +6,7 @@ use Rattle.std.specs.List.Sorted.{IsPartitionedBy}
 use Rattle.std.proofs.lemmas.Bool.{cases_lt}
 use Rattle.std.proofs.lemmas.Bool.Decides.{nat_tests}
 use Rattle.filter_state.specs.Sound.{Each}
+use Rattle.filter_state.proofs.Pairs.{each_weaker}
 use Rattle.filter_tables.specs.Plain.{PlainMask, PlainTable}
 use Rattle.filter_tables.specs.Places.{change_at, without_at}
 use Rattle.filter_tables.specs.Room.{AreRising}
@@ -20,10 +21,6 @@ other_way : (t u : PlainTable) → comes_before u t ≡ false → is_table t.cha
 other_way t u behind other = grind (arith, nat_tests)
 
 -- ---- one table of a list
-each_weaker : {X : Type 0} (P Q : X → Type 0) (xs : List X) → ((x : X) → P x → Q x) → Each P xs → Each Q xs
-each_weaker P Q [] rule all = tt
-each_weaker P Q (x ∷ xs) rule all = (rule x all.0, each_weaker P Q xs rule all.1)
-
 each_changed : (t : PlainTable) (change : List PlainMask → List PlainMask) (at : ℕ) (ts : List PlainTable) → Each (λ u. comes_before t u ≡ true) ts →
     Each (λ u. comes_before t u ≡ true) (change_at at (in_masks change) ts)
 each_changed t change zero [] all = tt
@@ -37,7 +34,7 @@ rising_changed change (suc at) [] all = tt
 rising_changed change zero (t ∷ ts) all = (all.0, all.1)
 rising_changed change (suc at) (t ∷ ts) all = (each_changed t change at ts all.0, rising_changed change at ts all.1)
 
-each_without : {X : Type 0} (P : X → Type 0) (at : ℕ) (xs : List X) → Each P xs → Each P (without_at at xs)
+pub each_without : {X : Type 0} (P : X → Type 0) (at : ℕ) (xs : List X) → Each P xs → Each P (without_at at xs)
 each_without P zero [] all = tt
 each_without P (suc at) [] all = tt
 each_without P zero (x ∷ xs) all = all.1
@@ -83,7 +80,7 @@ rising_step : (b : Bool) (t u : PlainTable) (us : List PlainTable) → comes_bef
 rising_step true t u us is all other rest = (each_with (λ v. comes_before u v ≡ true) t us all.0 is, rest)
 rising_step false t u us is all other rest =
     let first = other_way t u is other in
-    ((first, each_weaker (λ v. comes_before u v ≡ true) (λ v. comes_before t v ≡ true) us (λ v uv. before_after t u v first uv) all.0), all)
+    ((first, each_weaker (λ v. comes_before u v ≡ true) (λ v. comes_before t v ≡ true) (λ v uv. before_after t u v first uv) us all.0), all)
 
 both_false : (a b : Bool) → (a || b) ≡ false → (a ≡ false) × (b ≡ false)
 both_false true b e = cc

@@ -17,7 +17,7 @@ use Rattle.order_laws.proofs.Same.{filter_same}
 use Rattle.row_order_laws.specs.Sorted.{sorted}
 use Rattle.row_order_laws.specs.Rows.{row_before}
 use Rattle.row_order_laws.proofs.OrderedRows.{rows_stay, sorted_same}
-use Rattle.row_lookup_laws.proofs.Pairs.{pairs_filter}
+use Rattle.filter_state.proofs.Pairs.{pairs_filter}
 use Rattle.row_lookup_laws.proofs.Found.{whole_on}
 use Rattle.row_lookup_laws.proofs.Tables.{hook_rows, apart_serials}
 use Rattle.walk_rules.specs.Heads.{heads_in, heads_on}

@@ -11,7 +11,7 @@ use Rattle.filter_state.specs.Tables.{first_where}
 use Rattle.filter_state.specs.Steps.{step}
 use Rattle.filter_state.specs.Journals.{state_after}
 use Rattle.filter_state.specs.Sound.{Sound, IsAction}
-use Rattle.state_laws.proofs.Pairs.{found}
+use Rattle.filter_state.proofs.Pairs.{found}
 use Rattle.edit_effect_laws.specs.Parts.{params_at}
 use Rattle.hook_law.specs.Meaning.{IsLive}
 use Rattle.hook_law.specs.Changes.{KeepsParams}

@@ -21,7 +21,7 @@ use Rattle.filter_state.specs.Steps.{Stepped, unless, made_of, with_actions, tak
 use Rattle.filter_state.specs.Journals.{state_after}
 use Rattle.filter_state.specs.Sound.{Sound, Each, EachPair, StandApart, places}
 use Rattle.state_laws.proofs.Answers.{same_ok, err_ok, and_then_ok}
-use Rattle.state_laws.proofs.Pairs.{each_weaker, each_both, each_append, each_map, each_filter}
+use Rattle.filter_state.proofs.Pairs.{each_weaker, each_both, each_append, each_map, each_filter}
 use Rattle.state_laws.proofs.Changes.{put_params}
 use Rattle.hook_edit_laws.specs.Premises.{named_row}
 use Rattle.hook_edit_laws.proofs.Stepping.{unless_refused}

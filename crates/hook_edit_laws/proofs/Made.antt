@@ -15,7 +15,7 @@ use Rattle.filter_state.specs.Tables.{first_where}
 use Rattle.filter_state.specs.Refusals.{or_else, action_exists, actions_full, counters_full}
 use Rattle.filter_state.specs.Steps.{Stepped, made_of, with_actions, make_given, change_given, step}
 use Rattle.filter_state.specs.Sound.{Sound, Each, IsAction}
-use Rattle.state_laws.proofs.Pairs.{each_weaker, each_append, found}
+use Rattle.filter_state.proofs.Pairs.{each_weaker, each_append, found}
 use Rattle.hook_law.specs.Meaning.{IsLive}
 use Rattle.hook_meaning.specs.Stated.{action_stated, hook_meaning}
 use Rattle.edit_effect_laws.specs.Effects.{ChangesAction}

@@ -5,7 +5,7 @@ use Rattle.tc_base.specs.declared.hook.Hook.{Hook}
 use Rattle.filter_state.specs.States.{Row, State}
 use Rattle.filter_state.specs.Tables.{first_where}
 use Rattle.filter_state.specs.Sound.{Sound, Each}
-use Rattle.state_laws.proofs.Pairs.{each_map}
+use Rattle.filter_state.proofs.Pairs.{each_map}
 use Rattle.edit_effect_laws.specs.Parts.{Filter, filter_of, filters_of}
 use Rattle.edit_effect_laws.specs.Parts.{without as parts_without}
 use Rattle.hook_law.specs.Records.{StatedFilter}

@@ -7,7 +7,7 @@ use Rattle.filter_state.specs.States.{Row, State}
 use Rattle.filter_state.specs.Tables.{first_where, has_handle}
 use Rattle.filter_state.specs.Order.{of_mask}
 use Rattle.filter_state.specs.Sound.{Sound, Each, EachPair, GoTogether}
-use Rattle.state_laws.proofs.Pairs.{each_weaker, pairs_all, pairs_weaker, found, any_first}
+use Rattle.filter_state.proofs.Pairs.{each_weaker, pairs_all, pairs_weaker, found, any_first}
 use Rattle.state_laws.proofs.Places.{NotBoth, only_one}
 use Rattle.state_laws.proofs.Room.{found_any}
 use Rattle.row_lookup_laws.proofs.Heads.{head_of, filter_and}

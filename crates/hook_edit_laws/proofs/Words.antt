@@ -11,7 +11,7 @@ use Rattle.filter_state.specs.States.{Row, State}
 use Rattle.filter_state.specs.Order.{of_mask}
 use Rattle.filter_state.specs.Steps.{with_new_actions, with_row, without_row, mask_serial_for, step}
 use Rattle.filter_state.specs.Sound.{Sound}
-use Rattle.state_laws.proofs.Pairs.{each_append, each_filter, found}
+use Rattle.filter_state.proofs.Pairs.{each_append, each_filter, found}
 use Rattle.state_laws.proofs.Fits.{MaskFits}
 use Rattle.state_laws.proofs.Old.{is_old}
 use Rattle.state_laws.proofs.Tests.{bytes_eq_true}

@@ -6,7 +6,7 @@ use Rattle.filter_state.specs.Actions.{is_named, has_serial, more_bound, Made}
 use Rattle.action_plan.specs.declared.planned.PlannedAction.{PlannedAction}
 use Rattle.action_plan.specs.Plans.{carried_as, carried_one, carried}
 use Rattle.hook_lists.proofs.First.{first_map, first_behind}
-use Rattle.hook_lists.proofs.Times.{times}
+use Rattle.filter_state.proofs.Times.{times}
 use Rattle.hook_lists.proofs.Covered.{HasFor, AreCovered}
 
 raised_serial : (b : Bool) (action : Action) → (cond b (more_bound action) action).serial ≡ action.serial

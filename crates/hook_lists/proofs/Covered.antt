@@ -13,7 +13,8 @@ use Rattle.action_plan.specs.Bound.{AreBound}
 use Rattle.action_plan.proofs.Mapped.{first_mapped}
 use Rattle.action_plan.proofs.Unbound.{unbound_same}
 use Rattle.hook_lists.proofs.First.{FirstIs, one_weaker, first_map, first_filter}
-use Rattle.hook_lists.proofs.Times.{times, times_cons, times_self}
+use Rattle.filter_state.proofs.Times.{times, times_cons}
+use Rattle.hook_lists.proofs.Times.{times_self}
 
 -- so many places can let the action go
 abbrev pub HasFor : ℕ → Action → Type 0

@@ -8,9 +8,10 @@ use Rattle.filter_state.specs.States.{Row, Action, State}
 use Rattle.filter_state.specs.Actions.{has_serial}
 use Rattle.filter_state.specs.Tables.{first_where}
 use Rattle.filter_state.specs.Sound.{Each, IsRow, IsAction, Sound, places}
-use Rattle.row_lookup_laws.proofs.Blocks.{each_weaker}
+use Rattle.filter_state.proofs.Pairs.{each_weaker}
 use Rattle.hook_lists.proofs.First.{one_weaker, first_passes, first_there}
-use Rattle.hook_lists.proofs.Times.{times, each_place, part_places}
+use Rattle.filter_state.proofs.Times.{times}
+use Rattle.hook_lists.proofs.Times.{each_place, part_places}
 use Rattle.hook_lists.proofs.Covered.{HasFor, AreCovered}
 
 pub at_least : (references binds : ℕ) → (references ≡ binds) ⊎ (references ≡ binds + 1) → binds ≤ references

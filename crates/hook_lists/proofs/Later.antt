@@ -16,12 +16,13 @@ use Rattle.action_plan.specs.Bound.{AreBound}
 use Rattle.action_plan.specs.Entries.{actions_of}
 use Rattle.action_plan.specs.Plans.{made_of, carried}
 use Rattle.action_plan.proofs.Unbound.{unbound_same}
-use Rattle.row_lookup_laws.proofs.Blocks.{each_weaker, each_filter}
-use Rattle.row_lookup_laws.proofs.Pairs.{pairs_both, pairs_filter}
+use Rattle.filter_state.proofs.Pairs.{each_weaker, each_filter, pairs_filter}
+use Rattle.row_lookup_laws.proofs.Pairs.{pairs_both}
 use Rattle.hook_lists.specs.declared.kept.Kept.{Kept}
 use Rattle.hook_lists.specs.States.{state_of, AreKept}
 use Rattle.hook_lists.proofs.First.{FirstIs, NotBoth, one_weaker, first_passes, map_first, filter_first, first_each}
-use Rattle.hook_lists.proofs.Times.{times, one_if, times_cons, times_self}
+use Rattle.filter_state.proofs.Times.{times, one_if, times_cons}
+use Rattle.hook_lists.proofs.Times.{times_self}
 use Rattle.hook_lists.proofs.Covered.{HasFor, AreCovered, lowered, kept_serial, same_serial, as_action, found_same, covered_bound}
 use Rattle.hook_lists.proofs.Carried.{covered_carried}
 use Rattle.hook_lists.proofs.Holding.{at_least}

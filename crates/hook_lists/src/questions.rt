@@ -8,10 +8,10 @@ ghost use Rattle.filter_state.specs.Tables.{protocol_eq};
 ghost use Rattle.filter_tables.specs.Places.{item_at, place_where};
 ghost use Rattle.filter_tables.specs.Seen.{plain_table};
 ghost use Rattle.filter_tables.specs.SeenMask.{plain_mask};
-ghost use Rattle.filter_tables.specs.Changes.{has_words, is_table};
+ghost use Rattle.filter_tables.specs.Changes.{has_words};
 ghost use Rattle.filter_tables.specs.Rows.{tables_on};
 ghost use Rattle.row_lookup_laws.specs.Asked.{unless_left_out};
-ghost use Rattle.hook_lists.specs.States.{both_of, room_on, state_of, AreKept};
+ghost use Rattle.hook_lists.specs.States.{both_of, room_on, state_of, AreKept, place_on};
 ghost use Rattle.hook_lists.specs.Steps.{refusal_of};
 
 use crate::kept::Kept;
@@ -33,7 +33,7 @@ pub fn tables_of(kept: &Kept, hook: Hook) -> &FilterTables
 
 /// Where the table of that chain and pref stands.
 pub fn find_table(kept: &Kept, hook: Hook, chain: u32, pref: u32) -> Option<usize>
-    ensures { result ≡ place_where (is_table chain pref) (tables_on hook (both_of kept.now)) }
+    ensures { result ≡ place_on hook chain pref kept.now }
 {
     tables_of(kept, hook).find(chain, pref)
 }
@@ -58,7 +58,7 @@ pub fn check_protocol(
     protocol: Proto,
 ) -> Result<(), Refusal>
     requires kept { AreKept kept.now }
-    requires place { place ≡ place_where (is_table chain pref) (tables_on hook (both_of kept.now)) }
+    requires place { place ≡ place_on hook chain pref kept.now }
     ensures { refusal_of result ≡ protocol_clash (state_of kept.now) hook chain pref protocol }
 {
     let Some(place) = place else {
@@ -83,7 +83,7 @@ pub fn check_protocol_if(
     protocol: Option<Proto>,
 ) -> Result<(), Refusal>
     requires kept { AreKept kept.now }
-    requires place { place ≡ place_where (is_table chain pref) (tables_on hook (both_of kept.now)) }
+    requires place { place ≡ place_on hook chain pref kept.now }
     ensures { refusal_of result ≡ protocol_clash_if (state_of kept.now) hook chain pref protocol }
 {
     match protocol {
@@ -104,7 +104,7 @@ pub fn check_match(
     key: &Key<14>,
 ) -> Result<(), Refusal>
     requires kept { AreKept kept.now }
-    requires place { place ≡ place_where (is_table chain pref) (tables_on hook (both_of kept.now)) }
+    requires place { place ≡ place_on hook chain pref kept.now }
     ensures { refusal_of result ≡ exists_but (state_of kept.now) hook chain pref left mask.now.words key.now.words }
 {
     let Some(place) = place else {
@@ -130,7 +130,7 @@ pub fn check_masks(
     mask: &Key<14>,
 ) -> Result<(), Refusal>
     requires kept { AreKept kept.now }
-    requires place { place ≡ place_where (is_table chain pref) (tables_on hook (both_of kept.now)) }
+    requires place { place ≡ place_on hook chain pref kept.now }
     ensures { refusal_of result ≡ masks_full (state_of kept.now) hook chain pref mask.now.words }
 {
     let Some(place) = place else {

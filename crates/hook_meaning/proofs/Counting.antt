@@ -10,7 +10,7 @@ use Rattle.filter_state.specs.Order.{SameRows, none, keep, exchange, joined}
 use Rattle.filter_state.specs.Sound.{Each, EachPair, GoTogether, Sound}
 use Rattle.filter_state.specs.Tables.{in_hook, tables_of, distinct}
 use Rattle.state_laws.proofs.Counts.{is_among, tables_are}
-use Rattle.state_laws.proofs.Pairs.{each_weaker, each_both, each_passing, pairs_filter, any_none, any_map}
+use Rattle.filter_state.proofs.Pairs.{each_weaker, each_both, each_passing, pairs_filter, any_none, any_map}
 use Rattle.state_laws.proofs.Tests.{hook_eq_true}
 use Rattle.order_laws.proofs.Same.{same_refl, filter_same}
 use Rattle.order_laws.proofs.First.{each_same}

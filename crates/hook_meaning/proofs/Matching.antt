@@ -9,7 +9,7 @@ use Rattle.filter_state.specs.declared.edit.Edit.{Edit}
 use Rattle.filter_state.specs.States.{Row, State}
 use Rattle.filter_state.specs.Order.{of_mask}
 use Rattle.filter_state.specs.Sound.{Each, EachPair, GoTogether}
-use Rattle.state_laws.proofs.Pairs.{pairs_filter, each_passing}
+use Rattle.filter_state.proofs.Pairs.{pairs_filter, each_passing}
 use Rattle.edit_effect_laws.specs.Parts.{filter_of, filters_of}
 use Rattle.block_codec.specs.declared.filter.StoredFilter.{StoredFilter}
 use Rattle.hook_law.specs.Keeping.{Keeps}

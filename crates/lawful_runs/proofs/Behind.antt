@@ -5,7 +5,7 @@ use Rattle.std.specs.List.{slice_get, flat_map}
 use Rattle.std.proofs.lemmas.Bool.{false≢true}
 use Rattle.filter_state.specs.declared.edit.Edit.{Edit}
 use Rattle.filter_state.specs.Sound.{Each, EachPair}
-use Rattle.state_laws.proofs.Pairs.{each_front, each_back}
+use Rattle.filter_state.proofs.Pairs.{each_front, each_back}
 use Rattle.run_report.specs.declared.outcomes.Outcome.{Outcome}
 use Rattle.run_report.specs.declared.rounds.RoundRecord.{RoundRecord}
 use Rattle.lawful_runs.specs.Given.{Arrival, GivenRound}

@@ -4,7 +4,7 @@ use Rattle.std.proofs.Common.{◌≡◌, ◌∙◌, ℕ, zero, suc, ◌+◌, ◌
 use Rattle.std.specs.Prelude.{if◌then◌else◌}
 use Rattle.std.specs.List.{AllByRecursion}
 use Rattle.filter_state.specs.Sound.{Each, EachPair}
-use Rattle.state_laws.proofs.Pairs.{each_weaker}
+use Rattle.filter_state.proofs.Pairs.{each_weaker}
 use Rattle.pcap_io.specs.declared.capture.Capture.{Capture}
 use Rattle.job_lines.specs.declared.job.BatchName.{BatchName}
 use Rattle.job_lines.specs.declared.job.Round.{Round}

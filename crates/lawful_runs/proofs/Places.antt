@@ -2,7 +2,7 @@
 use Rattle.std.proofs.Common.{◌≡◌, ℕ, zero, suc, ◌<◌, List, [], ◌∷◌, ◌++◌, length, take, Some, refl, sym, subst, arith, append_assoc, append-nil}
 use Rattle.std.specs.List.{slice_get}
 use Rattle.filter_state.specs.Sound.{Each, EachPair}
-use Rattle.state_laws.proofs.Pairs.{pairs_push}
+use Rattle.filter_state.proofs.Pairs.{pairs_push}
 
 -- ---- each element
 pub each_at : {X : Type 0} (P : X → Type 0) (xs : List X) (place : ℕ) (x : X) → Each P xs → slice_get xs place ≡ Some x → P x

@@ -7,7 +7,7 @@ use Rattle.filter_state.specs.declared.edit.Edit.{Edit}
 use Rattle.filter_state.specs.States.{no_state}
 use Rattle.filter_state.specs.Sound.{Each}
 use Rattle.filter_state.specs.Journals.{state_from, IsLawful}
-use Rattle.state_laws.proofs.Pairs.{each_append}
+use Rattle.filter_state.proofs.Pairs.{each_append}
 use Rattle.run_report.specs.declared.outcomes.Outcome.{Outcome}
 use Rattle.run_report.specs.declared.rounds.RoundRecord.{RoundRecord}
 use Rattle.run_report.specs.Counts.{accepted_count, edits_in}

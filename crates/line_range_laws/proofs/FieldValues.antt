@@ -15,46 +15,9 @@ use Rattle.filter_state.specs.Fields.{IsPrefix, joined}
 use Rattle.tc_batch.specs.declared.field_name.FieldName.{FieldName}
 use Rattle.tc_batch.specs.declared.field_name.FieldName.TheVariants as names
 use Rattle.tc_batch.specs.FieldNames.{field_number, whole, field_value}
+use Rattle.tc_batch.proofs.FieldWidths.{width_of}
 use Rattle.line_range_laws.proofs.Rules.{mapped}
 use Rattle.line_range_laws.proofs.FieldLists.{IsMaskAt, IsUnder}
-
--- the bits of a field
-abbrev pub width : FieldName → ℕ
-width names.DstMac = 48
-width names.SrcMac = 48
-width names.VlanId = 12
-width names.VlanPrio = 3
-width names.VlanEthtype = 16
-width names.IpProto = 8
-width names.SrcIp = 32
-width names.DstIp = 32
-width names.SrcPort = 16
-width names.DstPort = 16
-width names.TcpFlags = 12
-width names.CvlanId = 12
-width names.CvlanPrio = 3
-width names.CvlanEthtype = 16
-width names.IpTos = 8
-width names.IpTtl = 8
-
-pub width_is : (name : FieldName) → width name ≡ (field_at (field_number name)).width
-unfolding fields
-width_is names.DstMac = refl
-width_is names.SrcMac = refl
-width_is names.VlanId = refl
-width_is names.VlanPrio = refl
-width_is names.VlanEthtype = refl
-width_is names.IpProto = refl
-width_is names.SrcIp = refl
-width_is names.DstIp = refl
-width_is names.SrcPort = refl
-width_is names.DstPort = refl
-width_is names.TcpFlags = refl
-width_is names.CvlanId = refl
-width_is names.CvlanPrio = refl
-width_is names.CvlanEthtype = refl
-width_is names.IpTos = refl
-width_is names.IpTtl = refl
 
 pub half_widths : (64 ≡ (field_at 16).width) × (64 ≡ (field_at 17).width) × (64 ≡ (field_at 18).width) × (64 ≡ (field_at 19).width)
 unfolding fields
@@ -80,8 +43,8 @@ number_below names.IpTtl = omega arith
 
 -- a value and a mask of a field
 pub record IsInField (name : FieldName) (v m : ℕ) : Type 0 where
-  pub value : v < 2 ^ width name
-  pub mask : m < 2 ^ width name
+  pub value : v < 2 ^ width_of name
+  pub mask : m < 2 ^ width_of name
   pub under : IsUnder v m
   pub kind : IsMaskAt (field_number name) m
 

@@ -14,7 +14,8 @@ use Rattle.tc_batch.specs.FieldNames.{field_number, field_value}
 use Rattle.tc_batch.specs.Fields.{protocol_in, has_header, refuses_field, named, with_field_value, with_one, with_prefix, with_ipv6, has_colon, with_field}
 use Rattle.line_range_laws.proofs.Rules.{mapped}
 use Rattle.line_range_laws.proofs.FieldSets.{AreSet, set_plain, set_protocol, set_port, set_flags, set_source, set_destination, set_long_source, set_long_destination}
-use Rattle.line_range_laws.proofs.FieldValues.{width, width_is, half_widths, number_below, IsInField, value_range, halves_range}
+use Rattle.tc_batch.proofs.FieldWidths.{width_of, width_is}
+use Rattle.line_range_laws.proofs.FieldValues.{half_widths, number_below, IsInField, value_range, halves_range}
 use Rattle.line_range_laws.proofs.Keys.{AreGiven, put, put_two}
 
 -- the name has not stood, and it may stand here
@@ -39,7 +40,7 @@ abbrev SetOne : Fields → FieldName → Type 0
 SetOne fields name = (v m : ℕ) → IsInField name v m
     → AreSet (slice_set fields.given (field_number name) true) (slice_set (values_of fields.key.words) (field_number name) v) (slice_set (values_of fields.mask.words) (field_number name) m)
 
-fits : (name : FieldName) (n : ℕ) → n < 2 ^ width name → n < 2 ^ (field_at (field_number name)).width
+fits : (name : FieldName) (n : ℕ) → n < 2 ^ width_of name → n < 2 ^ (field_at (field_number name)).width
 fits name n below = subst (λ w. n < 2 ^ w) (width_is name) below
 
 one_field : (fields : Fields) (name : FieldName) (word : List ℕ) (next : Fields) → AreGiven fields → SetOne fields name → with_one fields name word ≡ Some next → AreGiven next

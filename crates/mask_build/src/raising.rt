@@ -14,9 +14,8 @@ ghost use Rattle.mask_mirror.specs.Lists.{age_of, Rises, HasFilters};
 ghost use Rattle.mask_mirror.specs.Linked.{raise_commits};
 ghost use Rattle.mask_build.specs.Laid.{Laid, places, dates, filters_of, IsLaid, IsReady};
 
-use crate::copying::fill_mask;
 use crate::naming::{name_buckets, name_mask};
-use block_codec::StoredMask;
+use block_codec::{StoredMask, write_mask};
 use mask_mirror::{KeptMask, Mirror, NumberRoom};
 use pin_store::{Store, Writer};
 use store_history::{EditName, Law};
@@ -59,7 +58,9 @@ pub fn raise<L: Law, E: EditName<L::Entry>>(
         → HasFilters mirror.new slot last (filters_of xs) }
     ensures lists { (other last : ℕ) (fs : List StoredFilter) → other ≢ slot → HasFilters mirror.old other last fs → HasFilters mirror.new other last fs }
 {
-    fill_mask(writer, store, block, &mask);
+    let mut words = [0; 40];
+    write_mask(&mask, None, &mut words);
+    writer.fill(store, block, &words);
     name_buckets::<L, E>(room, mirror, writer, store, &mask, stamp);
     name_mask::<L, E>(writer, store, slot, block, stamp);
     mirror.place(slot, Some(KeptMask { block, mask }));

@@ -35,7 +35,7 @@
 #![tactic(auto)]
 
 mod buckets;
-mod filling;
+mod copying;
 mod gathering;
 mod mirror;
 mod naming;
@@ -46,7 +46,7 @@ mod stored_filters;
 mod tests;
 
 pub use buckets::{place_for, place_in, place_of};
-pub use filling::{copy_of, kept_filter};
+pub use copying::{copy_of, kept_filter};
 pub use gathering::{gather, gather_mask};
 pub use mirror::{KeptMask, Mirror};
 pub use naming::name_chain;

@@ -13,10 +13,10 @@ ghost use Rattle.mask_mirror.specs.Kept.{HoldsChain, IsKept};
 ghost use Rattle.mask_mirror.specs.Lists.{kept_in, HasFilters};
 ghost use Rattle.mask_mirror.specs.Changes.{IsFilled};
 
-use crate::filling::{copy_of, fill_filter};
+use crate::copying::copy_of;
 use crate::gathering::block_in;
 use crate::mirror::Mirror;
-use block_codec::StoredFilter;
+use block_codec::{StoredFilter, write_filter};
 use pin_store::{Store, Writer};
 use store_history::Law;
 
@@ -49,6 +49,8 @@ pub fn put_in_front<L: Law>(
         → HoldsChain mirror.old store.now.shape (sheet_of writer.old.place).cells size (bucket_for size filter.now.key.words) number blocks
         → HoldsChain mirror.new store.now.shape (sheet_of writer.new.place).cells size (bucket_for size filter.now.key.words) (block + 1) (block ∷ blocks) }
 {
-    fill_filter(writer, store, block, filter, block_in(number));
+    let mut words = [0; 40];
+    write_filter(filter, block_in(number), &mut words);
+    writer.fill(store, block, &words);
     mirror.keep(block, copy_of(filter), age, number);
 }

@@ -7,7 +7,7 @@ ghost use Rattle.store_history.specs.Reads.{read_all, read_first};
 ghost use Rattle.pin_store.specs.Calls.{seen_by, floor_start, loads_of, IsInside, IsSeatOf, IsSameReader};
 ghost use Rattle.block_codec.specs.declared.filter.StoredFilter.{StoredFilter};
 ghost use Rattle.block_reading.specs.Read.{filter_in, mask_of_words};
-ghost use Rattle.block_chain.specs.Ways.{block_words};
+ghost use Rattle.block_chain.specs.Ways.{block_words, HasRoot};
 ghost use Rattle.mask_table.specs.Buckets.{mask_root, bucket_root, bucket_for, IsAnswer};
 ghost use Rattle.mask_table.specs.Told.{LookedUp, IsLoadedPoint};
 
@@ -32,7 +32,7 @@ fn load_mask<L: Law, M: Ledger>(
     steps: &mut Steps<M>,
 ) -> (Option<StoredMask>, Point)
     requires store { IsSeatOf store.now reader.old.place }
-    requires shape { (store.now.shape.words ≡ block_words) × (root < store.now.shape.roots) }
+    requires shape { HasRoot store.now.shape root }
     requires inside { IsInside reader.old.place }
     ensures store { IsSeatOf store.now reader.new.place }
     ensures same { IsSameReader reader.old.place reader.new.place }
@@ -61,7 +61,7 @@ fn search<L: Law, M: Ledger>(
     steps: &mut Steps<M>,
 ) -> (bool, Point)
     requires store { IsSeatOf store.now reader.old.place }
-    requires shape { (store.now.shape.words ≡ block_words) × (root < store.now.shape.roots) }
+    requires shape { HasRoot store.now.shape root }
     requires inside { IsInside reader.old.place }
     ensures store { IsSeatOf store.now reader.new.place }
     ensures same { IsSameReader reader.old.place reader.new.place }

@@ -17,31 +17,6 @@ use pin_store::{Store, Writer};
 use store_history::Law;
 use tc_base::Hook;
 
-// Fills a block with a table.
-fn fill_table<L: Law>(
-    writer: &mut Writer<L>,
-    store: &Store<L>,
-    at: u32,
-    table: &StoredTable,
-    link: Option<u32>,
-)
-    requires store { IsSeatOf store.now writer.old.place }
-    requires shape { (store.now.shape.words ≡ BLOCK_WORDS) × (at < store.now.shape.blocks) }
-    requires storable { IsStorableTable table.now }
-    requires free { IsUnnamed (base_of (sheet_of writer.old.place)) (seen_by writer.old.place) at }
-    ensures store { IsSeatOf store.now writer.new.place }
-    ensures seen { seen_by writer.new.place ≡ seen_by writer.old.place }
-    ensures sheet { IsSameButCells (sheet_of writer.old.place) (sheet_of writer.new.place) }
-    ensures words { block_words store.now.shape (sheet_of writer.new.place).cells at ≡ block (table_words table.now) link }
-    ensures few { length table.now.masks ≤ 16 }
-    ensures others { (other : ℕ) → other ≢ at → other < store.now.shape.blocks
-        → block_words store.now.shape (sheet_of writer.new.place).cells other ≡ block_words store.now.shape (sheet_of writer.old.place).cells other }
-{
-    let mut words = [0; 40];
-    write_table(table, link, &mut words);
-    writer.fill(store, at, &words);
-}
-
 // The block to which the table at a place among so many is linked.
 fn link_from(first: u32, place: u32, count: u32) -> Option<u32>
     requires small { first + count < 2 ^ 32 }
@@ -79,7 +54,9 @@ pub(crate) fn fill_tables<L: Law>(
     let count = tables.len() as u32;
     for (place, table) in tables.iter().enumerate() {
         let link = link_from(first, place as u32, count);
-        fill_table(writer, store, first + place as u32, table, link);
+        let mut words = [0; 40];
+        write_table(table, link, &mut words);
+        writer.fill(store, first + place as u32, &words);
     }
 }
 

@@ -1,6 +1,6 @@
 -- Facts of each row and of each two rows hold in another order too. The first row that passes a test may be another one there, but
 -- what is read of it is the same, where two rows that pass have the same of it.
-use Rattle.std.proofs.Common.{List, [], ◌∷◌, sym, ◌≡◌, ℕ, Bool, true, false, ◌==◌, ◌&&◌, not, cond, Option, Some, refl, ◌∙◌, ap, eqb-true}
+use Rattle.std.proofs.Common.{List, sym, ◌≡◌, ℕ, Bool, true, false, ◌==◌, ◌&&◌, not, cond, Option, Some, refl, ◌∙◌, ap, eqb-true}
 use Rattle.filter_state.specs.States.{Row}
 use Rattle.filter_state.specs.Sound.{Each, EachPair, GoTogether}
 use Rattle.filter_state.specs.Order.{SameRows, none, keep, exchange, joined}
@@ -15,10 +15,6 @@ use Rattle.filter_state.specs.Tables.{hook_eq, protocol_eq, in_chain, in_table, 
 use Rattle.filter_state.specs.Refusals.{when, clash_with, is_left_out}
 use Rattle.tc_base.specs.declared.hook.Hook.TheVariants as hooks
 use Rattle.filter_state.specs.declared.refusal.Refusal.TheVariants as refusals
-
-pub each_weaker : {X : Type 0} (P Q : X → Type 0) → ((x : X) → P x → Q x) → (xs : List X) → Each P xs → Each Q xs
-each_weaker P Q weaker [] all = tt
-each_weaker P Q weaker (x ∷ xs) all = (weaker x all.0, each_weaker P Q weaker xs all.1)
 
 pub each_same : (P : Row → Type 0) {xs ys : List Row} → SameRows xs ys → Each P xs → Each P ys
 each_same P none all = tt

@@ -4,7 +4,8 @@ use Rattle.filter_state.specs.States.{Row, Action, State}
 use Rattle.filter_state.specs.Sound.{Sound, IsRow, IsAction}
 use Rattle.filter_state.specs.Order.{SameRows, SameState}
 use Rattle.order_laws.proofs.Same.{length_same}
-use Rattle.order_laws.proofs.First.{each_weaker, each_same, pairs_same}
+use Rattle.filter_state.proofs.Pairs.{each_weaker}
+use Rattle.order_laws.proofs.First.{each_same, pairs_same}
 use Rattle.order_laws.proofs.Counts.{table_count_same, mask_count_same, places_same}
 use Rattle.order_laws.proofs.States.{with_rows, is_with_rows}
 

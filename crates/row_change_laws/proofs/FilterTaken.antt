@@ -11,7 +11,8 @@ use Rattle.filter_tables.specs.Plain.{PlainMask, PlainTable}
 use Rattle.filter_tables.specs.Places.{item_at, change_at}
 use Rattle.filter_tables.specs.Changes.{less_filter, other_actions, removed, in_masks}
 use Rattle.filter_tables.specs.Rows.{BothHooks, tables_on, on_hook, row_of, rows_of_mask, all_rows, BothWhole}
-use Rattle.row_change_laws.proofs.Lists.{CutAt, cut_at, each_weaker, pairs_back, pairs_front}
+use Rattle.filter_state.proofs.Pairs.{each_weaker}
+use Rattle.row_change_laws.proofs.Lists.{CutAt, cut_at, pairs_back, pairs_front}
 use Rattle.row_change_laws.proofs.Hooks.{ahead_of_mask, after_mask, around_mask, around_change}
 use Rattle.row_change_laws.proofs.Others.{inside, itself}
 use Rattle.row_change_laws.proofs.Filters.{Fails, left_around, pass_between, filter_map, found_passes, changed_between, map_map}

@@ -1,9 +1,9 @@
 -- Rows that pass a test, and rows changed where they pass one, among rows around them.
-use Rattle.std.proofs.Common.{◌≡◌, Bool, true, false, not, cond, List, [], ◌∷◌, ◌++◌, map, filter, find, Option, Some, refl, ◌∙◌, ap, subst}
+use Rattle.std.proofs.Common.{◌≡◌, ◌+◌, Bool, true, false, not, cond, List, [], ◌∷◌, ◌++◌, length, map, filter, find, Option, Some, refl, ◌∙◌, ap, subst, arith}
 use Rattle.std.proofs.lemmas.List.{append-nil, map-append}
 use Rattle.std.proofs.lemmas.List.Elements.{filter-append}
 use Rattle.std.proofs.lemmas.Option.{none-some, same_Some}
-use Rattle.filter_state.specs.Sound.{Each, EachPair}
+use Rattle.filter_state.specs.Sound.{Each}
 use Rattle.filter_state.specs.Actions.{change_where}
 
 -- ---- elements that pass a test
@@ -46,22 +46,14 @@ pass_between q a b c ahead behind =
     ∙ ap (λ xs. filter q b ++ xs) (none_pass q c behind)
     ∙ append-nil (filter q b)
 
--- what holds of the elements, and of pairs, holds of those that pass
-each_kept : {X : Type 0} (P : X → Type 0) (b : Bool) (x : X) (xs : List X) → P x → Each P xs → Each P (cond b (x ∷ xs) xs)
-each_kept P true x xs one all = (one, all)
-each_kept P false x xs one all = all
+-- those that pass and those that don't are all
+split_step : {X : Type 0} (b : Bool) (x : X) (in_ out xs : List X) → length in_ + length out ≡ length xs → length (cond b (x ∷ in_) in_) + length (cond (not b) (x ∷ out) out) ≡ length (x ∷ xs)
+split_step true x in_ out xs more = omega (arith, more)
+split_step false x in_ out xs more = omega (arith, more)
 
-pub each_filter : {X : Type 0} (P : X → Type 0) (q : X → Bool) (xs : List X) → Each P xs → Each P (filter q xs)
-each_filter P q [] all = tt
-each_filter P q (x ∷ xs) all = each_kept P (q x) x (filter q xs) all.0 (each_filter P q xs all.1)
-
-pairs_kept : {X : Type 0} (R : X → X → Type 0) (b : Bool) (x : X) (xs : List X) → Each (R x) xs → EachPair R xs → EachPair R (cond b (x ∷ xs) xs)
-pairs_kept R true x xs one pairs = (one, pairs)
-pairs_kept R false x xs one pairs = pairs
-
-pub pairs_filter : {X : Type 0} (R : X → X → Type 0) (q : X → Bool) (xs : List X) → EachPair R xs → EachPair R (filter q xs)
-pairs_filter R q [] pairs = tt
-pairs_filter R q (x ∷ xs) pairs = pairs_kept R (q x) x (filter q xs) (each_filter (R x) q xs pairs.0) (pairs_filter R q xs pairs.1)
+pub split_count : {X : Type 0} (test : X → Bool) (xs : List X) → length (filter test xs) + length (filter (λ x. not (test x)) xs) ≡ length xs
+split_count test [] = refl
+split_count test (x ∷ xs) = split_step (test x) x (filter test xs) (filter (λ y. not (test y)) xs) xs (split_count test xs)
 
 -- the elements of a list made from another
 kept_of : {X Y : Type 0} (f : X → Y) (b : Bool) (x : X) (xs : List X) (ys : List Y) → ys ≡ map f xs → cond b (f x ∷ ys) ys ≡ map f (cond b (x ∷ xs) xs)

@@ -12,7 +12,8 @@ use Rattle.filter_tables.specs.Places.{item_at, change_at}
 use Rattle.filter_tables.specs.Changes.{new_mask, in_masks}
 use Rattle.filter_tables.specs.Whole.{HasSome, IsFull}
 use Rattle.filter_tables.specs.Rows.{BothHooks, tables_on, on_hook, row_of, rows_of_mask, rows_of_table, rows_of, all_rows, BothWhole}
-use Rattle.row_change_laws.proofs.Lists.{CutAt, cut_at, each_weaker, each_front, each_back, each_append, each_changed}
+use Rattle.filter_state.proofs.Pairs.{each_weaker, each_front, each_back, each_append}
+use Rattle.row_change_laws.proofs.Lists.{CutAt, cut_at, each_changed}
 use Rattle.row_change_laws.proofs.Hooks.{rows_ahead, rows_after, hook_rows, ahead_of_table, after_table, around_table, around_changed}
 use Rattle.row_change_laws.proofs.Others.{IsOfOther, less_apart}
 use Rattle.row_change_laws.proofs.Put.{put_past}

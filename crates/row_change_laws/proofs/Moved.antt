@@ -19,7 +19,7 @@ use Rattle.filter_tables.specs.Rows.{BothHooks, tables_on, on_hook, row_of, rows
 use Rattle.row_change_laws.proofs.Lists.{CutAt, cut_at, each_item}
 use Rattle.row_change_laws.proofs.Hooks.{ahead_of_mask, after_mask, around_change}
 use Rattle.row_change_laws.proofs.Others.{itself}
-use Rattle.row_change_laws.proofs.Filters.{each_filter, pairs_filter}
+use Rattle.filter_state.proofs.Pairs.{each_filter, pairs_filter}
 use Rattle.row_change_laws.proofs.Together.{same_number, by_serial}
 use Rattle.row_change_laws.proofs.Put.{behind_others, put_changed, put_rising}
 use Rattle.row_change_laws.proofs.Whole.{HasFilters, whole_on, lower_changed, early_changed}

@@ -11,7 +11,8 @@ use Rattle.filter_tables.specs.Places.{item_at, change_at}
 use Rattle.filter_tables.specs.Changes.{is_none_left, less_filter, more_filter, new_mask, swept, moved, moved_out, in_masks}
 use Rattle.filter_tables.specs.Whole.{HasSome, IsFull}
 use Rattle.filter_tables.specs.Rows.{BothHooks, tables_on, on_hook, all_rows, BothWhole}
-use Rattle.row_change_laws.proofs.Lists.{each_append, each_item, each_changed, each_changed_at}
+use Rattle.filter_state.proofs.Pairs.{each_append}
+use Rattle.row_change_laws.proofs.Lists.{each_item, each_changed, each_changed_at}
 use Rattle.row_change_laws.proofs.Whole.{HasFilters, some_changed, some_more, whole_changed, lower_changed, early_changed}
 use Rattle.row_change_laws.proofs.Sweeping.{EachBut, but_changed, swept_full, swept_lower}
 use Rattle.row_change_laws.proofs.MaskPut.{IsMaskBelow, IsFullBelow, below_whole, lower_more}

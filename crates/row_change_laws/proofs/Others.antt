@@ -12,7 +12,7 @@ use Rattle.filter_state.specs.Tables.{hook_eq, in_table}
 use Rattle.filter_tables.specs.Plain.{PlainMask, PlainTable}
 use Rattle.filter_tables.specs.Changes.{comes_before}
 use Rattle.filter_tables.specs.Rows.{BothHooks, row_of, rows_of_mask, rows_of_table, rows_of}
-use Rattle.row_change_laws.proofs.Lists.{each_of, each_weaker, each_map, each_flat_map}
+use Rattle.filter_state.proofs.Pairs.{each_of, each_weaker, each_flat_map, each_map}
 use Rattle.row_change_laws.proofs.Hooks.{rows_ahead, rows_after}
 
 -- ---- rows of other tables
@@ -40,20 +40,20 @@ pub later_outside : (hook : Hook) (table : PlainTable) (tables : List PlainTable
 later_outside hook table =
     each_of_tables (IsOutside hook table) (λ t. comes_before table t ≡ true) hook
     (λ t before. each_of_table (IsOutside hook table) hook t
-    (λ m. each_map (IsOutside hook table) (row_of hook t m) (λ f. later_apart (hook_eq hook hook) table.chain table.pref t.chain t.pref before) m.filters))
+    (λ m. each_map (IsOutside hook table) (row_of hook t m) m.filters (each_of _ (λ f. later_apart (hook_eq hook hook) table.chain table.pref t.chain t.pref before) m.filters)))
 
 pub earlier_outside : (hook : Hook) (table : PlainTable) (tables : List PlainTable) → Each (λ t. comes_before t table ≡ true) tables → Each (IsOutside hook table) (rows_of hook tables)
 earlier_outside hook table =
     each_of_tables (IsOutside hook table) (λ t. comes_before t table ≡ true) hook
     (λ t before. each_of_table (IsOutside hook table) hook t
-    (λ m. each_map (IsOutside hook table) (row_of hook t m) (λ f. earlier_apart (hook_eq hook hook) table.chain table.pref t.chain t.pref before) m.filters))
+    (λ m. each_map (IsOutside hook table) (row_of hook t m) m.filters (each_of _ (λ f. earlier_apart (hook_eq hook hook) table.chain table.pref t.chain t.pref before) m.filters)))
 
 -- the rows of the other hook
 other_outside : (hook other : Hook) (table : PlainTable) → hook_eq other hook ≡ false → (tables : List PlainTable) → Each (IsOutside hook table) (rows_of other tables)
 other_outside hook other table differ tables =
     each_of_tables (IsOutside hook table) (λ t. Unit {0}) other
     (λ t any. each_of_table (IsOutside hook table) other t
-    (λ m. each_map (IsOutside hook table) (row_of other t m) (λ f. ap (λ b. (b && t.chain == table.chain) && t.pref == table.pref) differ) m.filters))
+    (λ m. each_map (IsOutside hook table) (row_of other t m) m.filters (each_of _ (λ f. ap (λ b. (b && t.chain == table.chain) && t.pref == table.pref) differ) m.filters)))
     tables (each_of (λ t. Unit {0}) (λ t. tt) tables)
 
 pub ahead_outside : (hook : Hook) (table : PlainTable) (both : BothHooks) → Each (IsOutside hook table) (rows_ahead hook both)
@@ -97,4 +97,4 @@ pub later_masks : (hook : Hook) (table : PlainTable) (serial : ℕ) (masks : Lis
 later_masks hook table serial masks rising =
     each_flat_map (IsOfOther serial) (rows_of_mask hook table) masks
     (each_weaker (λ (m : PlainMask). serial < m.serial) (λ m. Each (IsOfOther serial) (rows_of_mask hook table m))
-    (λ m less. each_map (IsOfOther serial) (row_of hook table m) (λ f. less_apart serial m.serial less) m.filters) masks rising)
+    (λ m less. each_map (IsOfOther serial) (row_of hook table m) m.filters (each_of _ (λ f. less_apart serial m.serial less) m.filters)) masks rising)

@@ -15,7 +15,8 @@ use Rattle.filter_tables.specs.Room.{AreRising}
 use Rattle.filter_tables.specs.Rows.{BothHooks, tables_on, on_hook, row_of, rows_of_mask, rows_of, all_rows, BothWhole}
 use Rattle.filter_tables.specs.Whole.{HasSome, IsFull, AreWhole}
 use Rattle.row_change_laws.proofs.Whole.{IsEarlier, IsLower, HasFilters, whole_on}
-use Rattle.row_change_laws.proofs.Lists.{CutAt, cut_at, each_item, each_back, each_both, each_append, pairs_back}
+use Rattle.filter_state.proofs.Pairs.{each_back, each_both, each_append}
+use Rattle.row_change_laws.proofs.Lists.{CutAt, cut_at, each_item, pairs_back}
 use Rattle.row_change_laws.proofs.Hooks.{rows_after, after_table, ahead_of_mask, after_mask, around_mask, around_change}
 use Rattle.row_change_laws.proofs.Others.{IsOfOther, IsOutside, later_outside, after_outside, outside_other, later_masks}
 

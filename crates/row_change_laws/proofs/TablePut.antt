@@ -15,7 +15,7 @@ use Rattle.filter_tables.specs.Plain.{PlainTable}
 use Rattle.filter_tables.specs.Changes.{new_mask, with_table, comes_before, is_table}
 use Rattle.filter_tables.specs.Whole.{HasSome, IsFull}
 use Rattle.filter_tables.specs.Rows.{BothHooks, tables_on, on_hook, row_of, rows_of_mask, rows_of_table, rows_of, all_rows, BothWhole}
-use Rattle.row_change_laws.proofs.Lists.{each_weaker, each_front, each_back}
+use Rattle.filter_state.proofs.Pairs.{each_weaker, each_front, each_back}
 use Rattle.row_change_laws.proofs.Hooks.{rows_ahead, rows_after, hook_rows, hook_changed}
 use Rattle.row_change_laws.proofs.Others.{IsOfOther}
 use Rattle.row_change_laws.proofs.Put.{to_end, put_past}

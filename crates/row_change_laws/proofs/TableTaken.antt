@@ -10,7 +10,8 @@ use Rattle.filter_tables.specs.Places.{item_at, without_at}
 use Rattle.filter_tables.specs.Room.{AreRising}
 use Rattle.filter_tables.specs.Whole.{AreWhole}
 use Rattle.filter_tables.specs.Rows.{BothHooks, tables_on, on_hook, row_of, rows_of_table, rows_of, all_rows, BothWhole}
-use Rattle.row_change_laws.proofs.Lists.{CutAt, cut_at, each_weaker, each_append, each_map, pairs_across}
+use Rattle.filter_state.proofs.Pairs.{each_weaker, each_append, each_of, each_map}
+use Rattle.row_change_laws.proofs.Lists.{CutAt, cut_at, pairs_across}
 use Rattle.row_change_laws.proofs.Hooks.{rows_ahead, rows_after, hook_changed, tables_joined, ahead_of_table, after_table, around_table}
 use Rattle.row_change_laws.proofs.Others.{IsOutside, each_of_table, inside, earlier_outside, ahead_outside}
 use Rattle.row_change_laws.proofs.Filters.{Passes, none_left, all_pass, left_around, pass_between}
@@ -28,7 +29,7 @@ ahead_of_outside hook both place table cut rising =
 own_inside : (hook : Hook) (table : PlainTable) → Each (Passes (in_table hook table.chain table.pref)) (rows_of_table hook table)
 own_inside hook table =
     each_of_table (Passes (in_table hook table.chain table.pref)) hook table
-    (λ m. each_map (Passes (in_table hook table.chain table.pref)) (row_of hook table m) (λ f. inside hook table (row_of hook table m f) refl refl refl) m.filters)
+    (λ m. each_map (Passes (in_table hook table.chain table.pref)) (row_of hook table m) m.filters (each_of _ (λ f. inside hook table (row_of hook table m f) refl refl refl) m.filters))
 
 regrouped : (a b c d : List Row) → a ++ ((b ++ c) ++ d) ≡ (a ++ b) ++ (c ++ d)
 regrouped a b c d = simp append_assoc

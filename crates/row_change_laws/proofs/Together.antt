@@ -12,7 +12,8 @@ use Rattle.filter_index.specs.declared.filter.Filter.{Filter}
 use Rattle.filter_index.specs.Listed as listed
 use Rattle.filter_tables.specs.Plain.{PlainMask, PlainTable}
 use Rattle.filter_tables.specs.Rows.{row_of, rows_of_mask}
-use Rattle.row_change_laws.proofs.Lists.{each_weaker, each_front, pairs_back, pairs_across}
+use Rattle.filter_state.proofs.Pairs.{each_weaker, each_front}
+use Rattle.row_change_laws.proofs.Lists.{pairs_back, pairs_across}
 use Rattle.row_change_laws.proofs.Filters.{Fails, none_pass, each_found}
 
 turned : (x y : Row) → GoTogether x y → GoTogether y x

@@ -9,7 +9,8 @@ use Rattle.filter_tables.specs.Places.{change_at, without_at}
 use Rattle.filter_tables.specs.Changes.{comes_before, more_filter, other_actions, in_masks}
 use Rattle.filter_tables.specs.Whole.{HasSome, IsFull, AreWhole}
 use Rattle.filter_tables.specs.Rows.{BothHooks, tables_on, on_hook, BothWhole}
-use Rattle.row_change_laws.proofs.Lists.{each_changed, pairs_changed, each_without, pairs_without}
+use Rattle.filter_tables.proofs.TableOrder.{each_without}
+use Rattle.row_change_laws.proofs.Lists.{each_changed, pairs_changed, pairs_without}
 
 -- ---- one hook
 pub whole_on : (hook : Hook) (both : BothHooks) → BothWhole both → AreWhole (tables_on hook both)

@@ -7,7 +7,7 @@ use Rattle.std.proofs.lemmas.Option.{none-some, same_Some}
 use Rattle.filter_state.specs.Sound.{Each, EachPair}
 use Rattle.filter_tables.specs.Places.{item_at}
 use Rattle.row_lookup_laws.proofs.Heads.{filter_none}
-use Rattle.row_lookup_laws.proofs.Blocks.{each_weaker}
+use Rattle.filter_state.proofs.Pairs.{each_weaker}
 
 abbrev pub Among : {X : Type 0} → X → List X → Type 0
 Among x [] = ⊥

@@ -9,34 +9,10 @@ use Rattle.filter_tables.specs.Changes.{is_none_left}
 use Rattle.filter_tables.specs.Whole.{HasSome}
 use Rattle.row_lookup_laws.proofs.Heads.{filter_all, filter_none}
 
--- ---- facts of each element
-pub each_of : {X : Type 0} (P : X → Type 0) → ((x : X) → P x) → (xs : List X) → Each P xs
-each_of P one [] = tt
-each_of P one (x ∷ xs) = (one x, each_of P one xs)
-
-pub each_weaker : {X : Type 0} (P Q : X → Type 0) → ((x : X) → P x → Q x) → (xs : List X) → Each P xs → Each Q xs
-each_weaker P Q f [] all = tt
-each_weaker P Q f (x ∷ xs) all = (f x all.0, each_weaker P Q f xs all.1)
-
-pub each_append : {X : Type 0} (P : X → Type 0) (xs ys : List X) → Each P xs → Each P ys → Each P (xs ++ ys)
-each_append P [] ys all more = more
-each_append P (x ∷ xs) ys all more = (all.0, each_append P xs ys all.1 more)
-
-pub each_flat_map : {X Y : Type 0} (P : Y → Type 0) (f : X → List Y) (xs : List X) → Each (λ x. Each P (f x)) xs → Each P (flat_map f xs)
-each_flat_map P f [] all = tt
-each_flat_map P f (x ∷ xs) all = each_append P (f x) (flat_map f xs) all.0 (each_flat_map P f xs all.1)
-
+-- ---- what holds of each element of a list that is made from another
 pub each_map : {X Y : Type 0} (f : X → Y) (P : Y → Type 0) → ((x : X) → P (f x)) → (xs : List X) → Each P (map f xs)
 each_map f P one [] = tt
 each_map f P one (x ∷ xs) = (one x, each_map f P one xs)
-
-each_kept : {X : Type 0} (P : X → Type 0) (b : Bool) (x : X) (ys : List X) → P x → Each P ys → Each P (cond b (x ∷ ys) ys)
-each_kept P true x ys one all = (one, all)
-each_kept P false x ys one all = all
-
-pub each_filter : {X : Type 0} (P : X → Type 0) (test : X → Bool) (xs : List X) → Each P xs → Each P (filter test xs)
-each_filter P test [] all = tt
-each_filter P test (x ∷ xs) all = each_kept P (test x) x (filter test xs) all.0 (each_filter P test xs all.1)
 
 -- ---- a filter takes or leaves each inner list
 filter_step : {X Y : Type 0} (p : Y → Bool) (f : X → List Y) (b : Bool) (x : X) (xs : List X) → Each (λ y. p y ≡ b) (f x) → filter p (f x) ++ flat_map f xs ≡ flat_map f (cond b (x ∷ xs) xs)
@@ -57,10 +33,6 @@ any_blocks p q f each [] = refl
 any_blocks p q f each (x ∷ xs) =
     list_any-append p (f x) (flat_map f xs) ∙ ap (λ b. b || list_any p (flat_map f xs)) (each x)
     ∙ ap (λ b. q x || b) (any_blocks p q f each xs)
-
-pub any_map : {X Y : Type 0} (test : Y → Bool) (f : X → Y) (xs : List X) → list_any test (map f xs) ≡ list_any (λ x. test (f x)) xs
-any_map test f [] = refl
-any_map test f (x ∷ xs) = ap (λ b. test (f x) || b) (any_map test f xs)
 
 -- ---- full inner lists
 some_front : {X : Type 0} (xs ys : List X) → HasSome xs → HasSome (xs ++ ys)

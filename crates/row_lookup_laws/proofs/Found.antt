@@ -20,7 +20,8 @@ use Rattle.filter_tables.specs.Whole.{HasSome, IsFull, AreWhole}
 use Rattle.filter_tables.specs.Room.{AreRising}
 use Rattle.filter_tables.specs.Rows.{BothHooks, BothWhole, tables_on, row_of, rows_of_mask, rows_of_table, rows_of, all_rows}
 use Rattle.row_lookup_laws.proofs.Heads.{filter_none, any_left, none_kept}
-use Rattle.row_lookup_laws.proofs.Blocks.{each_of, each_weaker, each_flat_map, each_map, each_filter, filter_blocks, some_map, some_blocks, left_blocks}
+use Rattle.filter_state.proofs.Pairs.{each_of, each_weaker, each_flat_map, each_filter}
+use Rattle.row_lookup_laws.proofs.Blocks.{each_map, filter_blocks, some_map, some_blocks, left_blocks}
 
 pub whole_on : (hook : Hook) (both : BothHooks) → BothWhole both → AreWhole (tables_on hook both)
 whole_on hooks.Ingress both whole = whole.ingress

@@ -10,8 +10,9 @@ use Rattle.filter_tables.specs.Plain.{PlainTable}
 use Rattle.filter_tables.specs.Places.{item_at}
 use Rattle.filter_tables.specs.Changes.{any_handle, is_table, IsLowestFree}
 use Rattle.filter_tables.specs.Rows.{BothHooks, BothWhole, tables_on, all_rows}
-use Rattle.row_lookup_laws.proofs.Blocks.{any_map}
-use Rattle.row_lookup_laws.proofs.Free.{length_filter_le, lowest_is}
+use Rattle.filter_state.proofs.Pairs.{any_map}
+use Rattle.filter_state.proofs.Free.{length_filter_le}
+use Rattle.row_lookup_laws.proofs.Free.{lowest_is}
 use Rattle.row_lookup_laws.proofs.Found.{rows_found, rows_missing}
 use Rattle.row_lookup_laws.proofs.Handles.{table_handle}
 

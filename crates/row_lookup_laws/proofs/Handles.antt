@@ -13,7 +13,8 @@ use Rattle.filter_tables.specs.Places.{item_at}
 use Rattle.filter_tables.specs.Changes.{any_handle, has_handle_in, is_table}
 use Rattle.filter_tables.specs.Rows.{BothHooks, BothWhole, tables_on, row_of, rows_of_mask, rows_of_table, all_rows}
 use Rattle.row_lookup_laws.proofs.Heads.{head_of, first_head, first_and, any_and, none_kept}
-use Rattle.row_lookup_laws.proofs.Blocks.{any_blocks, any_map}
+use Rattle.filter_state.proofs.Pairs.{any_map}
+use Rattle.row_lookup_laws.proofs.Blocks.{any_blocks}
 use Rattle.row_lookup_laws.proofs.Among.{Among, among_at, among_found, among_map, among_blocks, one_kept}
 use Rattle.row_lookup_laws.proofs.Found.{rows_found, rows_missing}
 use Rattle.row_lookup_laws.proofs.Together.{table_together, handles_apart}

@@ -2,11 +2,11 @@
 use Rattle.std.proofs.Common.{◌≡◌, Bool, true, false, not, cond, ◌||◌, ◌&&◌, List, [], ◌∷◌, ◌++◌, Option, Some, None, option_map, is_some, refl, ◌∙◌, ap}
 use Rattle.std.specs.Prelude.{filter, find}
 use Rattle.std.specs.List.{list_any}
-use Rattle.std.proofs.lemmas.Bool.{or_parts}
 use Rattle.filter_state.specs.Sound.{Each}
 use Rattle.filter_state.specs.Tables.{first_where}
 use Rattle.filter_tables.specs.Changes.{is_none_left}
 use Rattle.filter_tables.specs.Whole.{HasSome}
+use Rattle.filter_state.proofs.Pairs.{none_any}
 
 abbrev pub head_of : {X : Type 0} → List X → Option X
 head_of [] = None
@@ -72,12 +72,8 @@ filter_and p q [] = refl
 filter_and p q (x ∷ xs) = filter_and_step (p x) q x (filter (λ x. p x && q x) xs) (filter p xs) (filter_and p q xs)
 
 -- ---- where none passes
-none_passes : {X : Type 0} (test : X → Bool) (xs : List X) → list_any test xs ≡ false → Each (λ x. test x ≡ false) xs
-none_passes test [] e = tt
-none_passes test (x ∷ xs) e = let parts = or_parts (test x) (list_any test xs) e in (parts.0, none_passes test xs parts.1)
-
 pub none_kept : {X : Type 0} (test : X → Bool) (xs : List X) → list_any test xs ≡ false → filter test xs ≡ []
-none_kept test xs e = filter_none test xs (none_passes test xs e)
+none_kept test xs e = filter_none test xs (none_any test xs e)
 
 -- ---- the first of a list that has one
 pub head_says : {X V : Type 0} (g : X → V) (v : V) (xs : List X) → HasSome xs → Each (λ x. g x ≡ v) xs → option_map g (head_of xs) ≡ Some v
@@ -87,12 +83,3 @@ head_says g v (x ∷ xs) some all = ap (λ w. Some w) all.0
 pub head_front : {X : Type 0} (xs ys : List X) → HasSome xs → head_of (xs ++ ys) ≡ head_of xs
 head_front [] ys some = elim some [ ]
 head_front (x ∷ xs) ys some = refl
-
--- ---- what is kept passes
-passing_kept : {X : Type 0} (test : X → Bool) (b : Bool) (x : X) (ys : List X) → test x ≡ b → Each (λ y. test y ≡ true) ys → Each (λ y. test y ≡ true) (cond b (x ∷ ys) ys)
-passing_kept test true x ys is all = (is, all)
-passing_kept test false x ys is all = all
-
-pub each_passing : {X : Type 0} (test : X → Bool) (xs : List X) → Each (λ x. test x ≡ true) (filter test xs)
-each_passing test [] = tt
-each_passing test (x ∷ xs) = passing_kept test (test x) x (filter test xs) refl (each_passing test xs)

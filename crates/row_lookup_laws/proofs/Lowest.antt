@@ -12,9 +12,8 @@ use Rattle.filter_tables.specs.Changes.{comes_before}
 use Rattle.filter_tables.specs.Room.{AreRising}
 use Rattle.filter_tables.specs.Whole.{HasSome, IsFull, AreWhole}
 use Rattle.filter_tables.specs.Rows.{BothHooks, BothWhole, tables_on, rows_of_table, rows_of, all_rows}
-use Rattle.row_lookup_laws.proofs.Heads.{head_of, find_head, each_passing}
-use Rattle.row_lookup_laws.proofs.Blocks.{each_weaker, each_append, each_flat_map, each_filter}
-use Rattle.row_lookup_laws.proofs.Pairs.{pairs_filter}
+use Rattle.filter_state.proofs.Pairs.{each_passing, each_weaker, each_append, each_flat_map, each_filter, pairs_filter}
+use Rattle.row_lookup_laws.proofs.Heads.{head_of, find_head}
 use Rattle.row_lookup_laws.proofs.Found.{whole_on, hook_self, table_each, some_rows, ByTable, kept_rows}
 
 -- ---- the lowest of rows, none of which is below a pref

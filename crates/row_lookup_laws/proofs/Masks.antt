@@ -13,7 +13,8 @@ use Rattle.filter_tables.specs.Changes.{has_words, is_table}
 use Rattle.filter_tables.specs.Whole.{HasSome, IsFull}
 use Rattle.filter_tables.specs.Rows.{BothHooks, BothWhole, tables_on, row_of, rows_of_mask, rows_of_table, all_rows}
 use Rattle.row_lookup_laws.proofs.Heads.{head_of, first_head, first_and, any_left, some_left, head_says, head_front}
-use Rattle.row_lookup_laws.proofs.Blocks.{each_weaker, each_map, each_filter, filter_blocks, some_map, left_blocks}
+use Rattle.filter_state.proofs.Pairs.{each_weaker, each_filter}
+use Rattle.row_lookup_laws.proofs.Blocks.{each_map, filter_blocks, some_map, left_blocks}
 use Rattle.row_lookup_laws.proofs.Pairs.{pairs_both}
 use Rattle.row_lookup_laws.proofs.Numbers.{count_blocks, masks_blocks, masks_each, some_masks}
 use Rattle.row_lookup_laws.proofs.Placed.{place_head, place_any}

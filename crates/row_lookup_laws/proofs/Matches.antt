@@ -19,7 +19,8 @@ use Rattle.filter_tables.specs.Changes.{has_words, is_table}
 use Rattle.filter_tables.specs.Whole.{IsFull}
 use Rattle.filter_tables.specs.Rows.{BothHooks, BothWhole, tables_on, row_of, rows_of_mask, rows_of_table, all_rows}
 use Rattle.row_lookup_laws.specs.Asked.{unless_left_out}
-use Rattle.row_lookup_laws.proofs.Heads.{head_of, first_and, filter_and, find_head, none_kept, each_passing}
+use Rattle.filter_state.proofs.Pairs.{each_passing}
+use Rattle.row_lookup_laws.proofs.Heads.{head_of, first_and, filter_and, find_head, none_kept}
 use Rattle.row_lookup_laws.proofs.Blocks.{each_map}
 use Rattle.row_lookup_laws.proofs.Pairs.{pairs_both, pairs_blocks}
 use Rattle.row_lookup_laws.proofs.Among.{NotBoth, among_at, among_found, one_kept}
@@ -54,7 +55,7 @@ not_less m n less same = omega arith
 other_words : (words : List ℕ) (m n : PlainMask) → OneSerial m n → m.serial < n.serial → NotBoth (has_words words) m n
 other_words words m n one less here there = not_less m.serial n.serial less (one (bytes_eq_true m.mask words here ∙ sym (bytes_eq_true n.mask words there)))
 
-words_apart : (words : List ℕ) (hook : Hook) (t : PlainTable) → IsFull t → EachPair GoTogether (rows_of_table hook t) → EachPair (NotBoth (has_words words)) t.masks
+pub words_apart : (words : List ℕ) (hook : Hook) (t : PlainTable) → IsFull t → EachPair GoTogether (rows_of_table hook t) → EachPair (NotBoth (has_words words)) t.masks
 words_apart words hook t full together =
     pairs_both OneSerial (λ (m n : PlainMask). m.serial < n.serial) (NotBoth (has_words words)) (other_words words) t.masks
     (pairs_blocks GoTogether (IsOf t) OneSerial (rows_of_mask hook t)

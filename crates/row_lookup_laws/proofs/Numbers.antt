@@ -6,7 +6,7 @@ use Rattle.filter_state.specs.States.{Row}
 use Rattle.filter_state.specs.Sound.{Each, EachPair}
 use Rattle.filter_state.specs.Tables.{distinct, tables_of, masks_of}
 use Rattle.filter_tables.specs.Whole.{HasSome}
-use Rattle.row_lookup_laws.proofs.Blocks.{each_weaker, each_flat_map}
+use Rattle.filter_state.proofs.Pairs.{each_weaker, each_flat_map}
 
 abbrev is_among : ℕ → List ℕ → Bool
 is_among n ns = list_any (λ m. m == n) ns

@@ -1,34 +1,13 @@
--- What holds of each pair of elements, among those that a filter keeps and from inner lists to outer ones.
-use Rattle.std.proofs.Common.{Bool, true, false, cond, List, [], ◌∷◌, ◌++◌}
-use Rattle.std.specs.Prelude.{filter}
+-- What holds of each pair of elements, from inner lists to outer ones.
+use Rattle.std.proofs.Common.{List, [], ◌∷◌, ◌++◌}
 use Rattle.std.specs.List.{flat_map}
 use Rattle.filter_state.specs.Sound.{Each, EachPair}
 use Rattle.filter_tables.specs.Whole.{HasSome}
-use Rattle.row_lookup_laws.proofs.Blocks.{each_filter}
-
-each_front : {X : Type 0} (P : X → Type 0) (xs ys : List X) → Each P (xs ++ ys) → Each P xs
-each_front P [] ys all = tt
-each_front P (x ∷ xs) ys all = (all.0, each_front P xs ys all.1)
-
-each_back : {X : Type 0} (P : X → Type 0) (xs ys : List X) → Each P (xs ++ ys) → Each P ys
-each_back P [] ys all = all
-each_back P (x ∷ xs) ys all = each_back P xs ys all.1
-
-pub each_both : {X : Type 0} (P Q S : X → Type 0) → ((x : X) → P x → Q x → S x) → (xs : List X) → Each P xs → Each Q xs → Each S xs
-each_both P Q S f [] all more = tt
-each_both P Q S f (x ∷ xs) all more = (f x all.0 more.0, each_both P Q S f xs all.1 more.1)
+use Rattle.filter_state.proofs.Pairs.{each_both, each_front, each_back}
 
 pub pairs_both : {X : Type 0} (P Q S : X → X → Type 0) → ((x y : X) → P x y → Q x y → S x y) → (xs : List X) → EachPair P xs → EachPair Q xs → EachPair S xs
 pairs_both P Q S f [] pairs more = tt
 pairs_both P Q S f (x ∷ xs) pairs more = (each_both (P x) (Q x) (S x) (f x) xs pairs.0 more.0, pairs_both P Q S f xs pairs.1 more.1)
-
-pairs_kept : {X : Type 0} (R : X → X → Type 0) (b : Bool) (x : X) (ys : List X) → Each (R x) ys → EachPair R ys → EachPair R (cond b (x ∷ ys) ys)
-pairs_kept R true x ys one pairs = (one, pairs)
-pairs_kept R false x ys one pairs = pairs
-
-pub pairs_filter : {X : Type 0} (R : X → X → Type 0) (test : X → Bool) (xs : List X) → EachPair R xs → EachPair R (filter test xs)
-pairs_filter R test [] pairs = tt
-pairs_filter R test (x ∷ xs) pairs = pairs_kept R (test x) x (filter test xs) (each_filter (R x) test xs pairs.0) (pairs_filter R test xs pairs.1)
 
 -- ---- a relation of the elements of inner lists, each of which tells something of the list that it is in
 one_of : {Y : Type 0} (R : Y → Y → Type 0) (P : Y → Type 0) (ys rest : List Y) → HasSome ys → Each P ys → EachPair R (ys ++ rest) → (y : Y) × P y × Each (R y) rest

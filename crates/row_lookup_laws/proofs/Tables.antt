@@ -14,8 +14,8 @@ use Rattle.filter_tables.specs.Changes.{is_table, comes_before}
 use Rattle.filter_tables.specs.Whole.{HasSome, IsFull, AreWhole}
 use Rattle.filter_tables.specs.Rows.{BothHooks, BothWhole, tables_on, rows_of_table, rows_of, all_rows}
 use Rattle.row_lookup_laws.proofs.Heads.{head_of, first_head, filter_all, head_says}
-use Rattle.row_lookup_laws.proofs.Blocks.{each_of, each_weaker}
-use Rattle.row_lookup_laws.proofs.Pairs.{pairs_both, pairs_filter, pairs_blocks}
+use Rattle.filter_state.proofs.Pairs.{each_of, each_weaker, pairs_filter}
+use Rattle.row_lookup_laws.proofs.Pairs.{pairs_both, pairs_blocks}
 use Rattle.row_lookup_laws.proofs.Numbers.{count_blocks, tables_blocks, tables_each, some_tables}
 use Rattle.row_lookup_laws.proofs.Found.{whole_on, hook_self, table_each, some_rows, ByTable, kept_rows, item_each, rows_found, rows_missing}
 

@@ -10,7 +10,8 @@ use Rattle.filter_state.specs.Tables.{in_table, has_handle, has_mask, has_match}
 use Rattle.filter_tables.specs.Plain.{PlainTable}
 use Rattle.filter_tables.specs.Places.{item_at}
 use Rattle.filter_tables.specs.Rows.{BothHooks, BothWhole, tables_on, rows_of_table, all_rows}
-use Rattle.row_lookup_laws.proofs.Pairs.{pairs_both, pairs_filter, each_both}
+use Rattle.filter_state.proofs.Pairs.{pairs_filter, each_both}
+use Rattle.row_lookup_laws.proofs.Pairs.{pairs_both}
 use Rattle.row_lookup_laws.proofs.Found.{table_each, rows_found}
 use Rattle.row_lookup_laws.proofs.Among.{NotBoth}
 

@@ -13,7 +13,7 @@ use Rattle.filter_tables.specs.Plain.{PlainMask, PlainTable}
 use Rattle.filter_tables.specs.Changes.{comes_before}
 use Rattle.filter_tables.specs.Whole.{IsFull, AreWhole}
 use Rattle.filter_tables.specs.Rows.{row_of, rows_of_mask, rows_of_table, rows_of, BothHooks, all_rows, BothWhole}
-use Rattle.order_laws.proofs.First.{each_weaker}
+use Rattle.filter_state.proofs.Pairs.{each_weaker, each_append}
 use Rattle.row_order_laws.specs.Sorted.{placed, sorted, InOrder}
 use Rattle.row_order_laws.specs.Rows.{row_before}
 use Rattle.row_order_laws.proofs.Sorting.{placed_turn, sorted_stays}
@@ -32,17 +32,13 @@ sorted_same (exchange {x = x} {y = y} {xs = xs} differ) = exchanged x y (sorted 
 sorted_same (joined s t) = sorted_same s ∙ sorted_same t
 
 -- ---- pairs of lists that are put together
-each_joined : {X : Type 0} (P : X → Type 0) (xs ys : List X) → Each P xs → Each P ys → Each P (xs ++ ys)
-each_joined P [] ys all more = more
-each_joined P (x ∷ xs) ys all more = (all.0, each_joined P xs ys all.1 more)
-
 pairs_joined : {X : Type 0} (R : X → X → Type 0) (xs ys : List X) → EachPair R xs → EachPair R ys → Each (λ x. Each (R x) ys) xs → EachPair R (xs ++ ys)
 pairs_joined R [] ys pairs more across = more
-pairs_joined R (x ∷ xs) ys pairs more across = (each_joined (R x) xs ys pairs.0 across.0, pairs_joined R xs ys pairs.1 more across.1)
+pairs_joined R (x ∷ xs) ys pairs more across = (each_append (R x) xs ys pairs.0 across.0, pairs_joined R xs ys pairs.1 more across.1)
 
 each_flat : {A X : Type 0} (S : A → Type 0) (Q : X → Type 0) (f : A → List X) → ((a : A) → S a → Each Q (f a)) → (xs : List A) → Each S xs → Each Q (flat_map f xs)
 each_flat S Q f part [] all = tt
-each_flat S Q f part (a ∷ xs) all = each_joined Q (f a) (flat_map f xs) (part a all.0) (each_flat S Q f part xs all.1)
+each_flat S Q f part (a ∷ xs) all = each_append Q (f a) (flat_map f xs) (part a all.0) (each_flat S Q f part xs all.1)
 
 -- each part is in order, and what is in an earlier part stands before what is in a later one
 pairs_flat : {A X : Type 0} (R : X → X → Type 0) (P : A → Type 0) (S : A → A → Type 0) (In : A → X → Type 0) (f : A → List X) →

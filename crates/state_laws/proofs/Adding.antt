@@ -12,8 +12,8 @@ use Rattle.filter_state.specs.Refusals.{or_else, no_hook, protocol_clash, handle
 use Rattle.filter_state.specs.Steps.{row_of, raised, with_row, with_actions, handle_for, pref_for, resolved_for, filter_added, add_resolved, add_at, filter_add}
 use Rattle.filter_state.specs.Sound.{Sound, Each, GoTogether, places}
 use Rattle.state_laws.proofs.Answers.{not_refused, not_not, neither, SoundAfter, unless_sound, then_sound}
-use Rattle.state_laws.proofs.Pairs.{each_weaker, each_both}
-use Rattle.state_laws.proofs.Times.{times, times_append, places_push}
+use Rattle.filter_state.proofs.Pairs.{each_weaker, each_both}
+use Rattle.filter_state.proofs.Times.{times, times_append, places_push}
 use Rattle.state_laws.proofs.Held.{held_same}
 use Rattle.state_laws.proofs.Fits.{TableFits, MaskFits, WithinTables, WithinMasks, table_fits, mask_fits}
 use Rattle.state_laws.proofs.Rows.{IsPlain, rows_put}

@@ -5,8 +5,8 @@ use Rattle.std.proofs.lemmas.Bool.{false≢true, ne_eqb}
 use Rattle.act_kinds.specs.declared.params.Kind.{Kind}
 use Rattle.filter_state.specs.States.{Action}
 use Rattle.filter_state.specs.Actions.{is_named, has_serial, serial_of, change_where, more_bound}
-use Rattle.state_laws.proofs.Pairs.{each_both, each_map, each_weaker}
-use Rattle.state_laws.proofs.Times.{times, one_if, times_push}
+use Rattle.filter_state.proofs.Pairs.{each_both, each_map, each_weaker}
+use Rattle.filter_state.proofs.Times.{times, one_if, times_push}
 use Rattle.state_laws.proofs.Held.{IsCounted, AreHeld, HasReference}
 use Rattle.state_laws.proofs.Names.{named_by_serial, serial_there}
 use Rattle.state_laws.proofs.Changes.{Keeps, keeps_where, apart_changed, live_changed}

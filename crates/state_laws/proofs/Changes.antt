@@ -8,7 +8,7 @@ use Rattle.act_kinds.specs.Ranges.{AreParams}
 use Rattle.filter_state.specs.States.{Action}
 use Rattle.filter_state.specs.Actions.{is_named, has_serial, change_where}
 use Rattle.filter_state.specs.Sound.{EachPair, StandApart}
-use Rattle.state_laws.proofs.Pairs.{each_of, each_map, each_weaker, pairs_map, any_map, any_same}
+use Rattle.filter_state.proofs.Pairs.{each_of, each_map, each_weaker, pairs_map, any_map, any_same}
 use Rattle.state_laws.proofs.Tests.{named}
 use Rattle.state_laws.proofs.Held.{IsCounted, AreHeld, HasReference}
 

@@ -7,8 +7,8 @@ use Rattle.std.proofs.lemmas.List.Folds.{list_any-append}
 use Rattle.tc_base.specs.declared.hook.Hook.{Hook}
 use Rattle.filter_state.specs.States.{Row}
 use Rattle.filter_state.specs.Tables.{distinct, tables_of, masks_of, in_hook, in_table, table_count, mask_count}
-use Rattle.state_laws.proofs.Pairs.{each_of, any_map, any_filter}
-use Rattle.state_laws.proofs.Free.{shorter}
+use Rattle.filter_state.proofs.Pairs.{each_of, any_map, any_filter}
+use Rattle.filter_state.proofs.Free.{shorter}
 
 abbrev pub is_among : ℕ → List ℕ → Bool
 is_among n ns = list_any (λ m. m == n) ns

@@ -9,7 +9,7 @@ use Rattle.filter_state.specs.Tables.{in_table, has_mask, protocol_eq, first_whe
 use Rattle.filter_state.specs.Refusals.{clash_with}
 use Rattle.filter_state.specs.Sound.{Each, EachPair, GoTogether}
 use Rattle.state_laws.proofs.Answers.{not_refused, not_not}
-use Rattle.state_laws.proofs.Pairs.{each_weaker, each_both, pairs_all, pairs_weaker, found, none_passes}
+use Rattle.filter_state.proofs.Pairs.{each_weaker, each_both, pairs_all, pairs_weaker, found, none_passes}
 use Rattle.state_laws.proofs.Tests.{row_in_table, row_in_table_from, protocol_eq_true, bytes_eq_true, bytes_eq_from}
 
 -- ---- rows of one table and of one mask, also a row and itself

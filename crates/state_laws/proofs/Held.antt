@@ -10,9 +10,9 @@ use Rattle.filter_state.specs.States.{Action}
 use Rattle.filter_state.specs.Lines.{IsIndex}
 use Rattle.filter_state.specs.Actions.{is_named, has_serial}
 use Rattle.filter_state.specs.Sound.{Each, EachPair, StandApart}
-use Rattle.state_laws.proofs.Pairs.{each_weaker, each_both, each_append, pairs_push, found, any_first}
+use Rattle.filter_state.proofs.Pairs.{each_weaker, each_both, each_append, pairs_push, found, any_first}
 use Rattle.state_laws.proofs.Tests.{named_from}
-use Rattle.state_laws.proofs.Times.{times, times_push}
+use Rattle.filter_state.proofs.Times.{times, times_push}
 
 -- one action, apart from that it has a reference
 pub record IsCounted (P : List ℕ) (made : ℕ) (action : Action) : Type 0 where

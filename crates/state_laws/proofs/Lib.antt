@@ -1,7 +1,5 @@
-pub mod Pairs
 pub mod Tests
 pub mod Free
-pub mod Times
 pub mod Held
 pub mod Names
 pub mod Changes

@@ -10,7 +10,7 @@ use Rattle.filter_state.specs.States.{Action}
 use Rattle.filter_state.specs.Actions.{is_named, has_serial, serial_of}
 use Rattle.filter_state.specs.Tables.{first_where}
 use Rattle.filter_state.specs.Sound.{Each, EachPair, StandApart}
-use Rattle.state_laws.proofs.Pairs.{each_weaker, each_both, pairs_all, pairs_weaker, found, none_passes}
+use Rattle.filter_state.proofs.Pairs.{each_weaker, each_both, pairs_all, pairs_weaker, found, none_passes}
 use Rattle.state_laws.proofs.Tests.{named, named_from}
 
 -- two actions of one name agree in a number, and two of one serial have one name

@@ -16,7 +16,7 @@ use Rattle.filter_state.specs.Refusals.{handle_taken, exists_but, is_left_out}
 use Rattle.filter_state.specs.Steps.{row_of, handle_for, made_of, resolved_for}
 use Rattle.filter_state.specs.Sound.{Sound, Each, GoTogether, places}
 use Rattle.state_laws.proofs.Answers.{not_refused}
-use Rattle.state_laws.proofs.Pairs.{none_any, none_passes}
+use Rattle.filter_state.proofs.Pairs.{none_any, none_passes}
 use Rattle.state_laws.proofs.Tests.{row_in_table_from, bytes_eq_from}
 use Rattle.state_laws.proofs.Free.{free_handle_unused}
 use Rattle.state_laws.proofs.Held.{AreHeld}

@@ -11,7 +11,7 @@ use Rattle.filter_state.specs.Tables.{in_table, has_mask, has_match, has_handle,
 use Rattle.filter_state.specs.Refusals.{protocol_clash, masks_full}
 use Rattle.filter_state.specs.Steps.{row_of, mask_serial_for}
 use Rattle.filter_state.specs.Sound.{Sound, Each, GoTogether}
-use Rattle.state_laws.proofs.Pairs.{each_weaker, pairs_weaker, found}
+use Rattle.filter_state.proofs.Pairs.{each_weaker, pairs_weaker, found}
 use Rattle.state_laws.proofs.Tests.{row_in_table, row_in_table_from, bytes_eq_true}
 use Rattle.state_laws.proofs.Fits.{Akin, all_akin, TableFits, MaskFits, WithinTables, WithinMasks, table_fits, mask_fits, mask_of, goes_together}
 use Rattle.state_laws.proofs.Rows.{IsPlain}

@@ -8,8 +8,8 @@ use Rattle.filter_state.specs.States.{Row}
 use Rattle.filter_state.specs.Actions.{change_where}
 use Rattle.filter_state.specs.Tables.{first_where}
 use Rattle.filter_state.specs.Sound.{Each, EachPair, places}
-use Rattle.state_laws.proofs.Pairs.{each_weaker}
-use Rattle.state_laws.proofs.Times.{times, times_append, places_split}
+use Rattle.filter_state.proofs.Pairs.{each_weaker}
+use Rattle.filter_state.proofs.Times.{times, times_append, places_split}
 use Rattle.state_laws.proofs.Rows.{put_actions}
 
 -- no two rows pass

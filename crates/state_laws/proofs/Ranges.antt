@@ -10,7 +10,7 @@ use Rattle.filter_state.specs.Tables.{lesser, lowest_pref, first_where, in_chain
 use Rattle.filter_state.specs.Steps.{pref_below, pref_for, handle_for, raised}
 use Rattle.filter_state.specs.Sound.{Each}
 use Rattle.state_laws.proofs.Answers.{ok, same_ok, err_ok}
-use Rattle.state_laws.proofs.Pairs.{each_filter, found}
+use Rattle.filter_state.proofs.Pairs.{each_filter, found}
 use Rattle.state_laws.proofs.Free.{free_handle_within}
 use Rattle.state_laws.proofs.Rows.{IsPlain}
 

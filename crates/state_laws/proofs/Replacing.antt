@@ -15,10 +15,10 @@ use Rattle.filter_state.specs.Refusals.{or_else, no_hook, protocol_clash, exists
 use Rattle.filter_state.specs.Steps.{row_of, raised, with_row, with_actions, with_new_actions, without_row, mask_serial_for, resolved_for, filter_replaced, replace_resolved, replace_at, replace_or_add, filter_replace}
 use Rattle.filter_state.specs.Sound.{Sound, Each, GoTogether, places}
 use Rattle.state_laws.proofs.Answers.{not_refused, neither, SoundAfter, unless_sound, then_sound}
-use Rattle.state_laws.proofs.Pairs.{each_both, each_filter, each_passing}
+use Rattle.filter_state.proofs.Pairs.{each_both, each_filter, each_passing}
 use Rattle.state_laws.proofs.Tests.{row_in_table_from}
-use Rattle.state_laws.proofs.Free.{shorter}
-use Rattle.state_laws.proofs.Times.{times, times_append, places_push}
+use Rattle.filter_state.proofs.Free.{shorter}
+use Rattle.filter_state.proofs.Times.{times, times_append, places_push}
 use Rattle.state_laws.proofs.Held.{AreHeld, held_same}
 use Rattle.state_laws.proofs.Unbinding.{held_all_unbound, length_all_unbound}
 use Rattle.state_laws.proofs.Counts.{filter_any}

@@ -10,7 +10,7 @@ use Rattle.filter_state.specs.States.{State, Row}
 use Rattle.filter_state.specs.Tables.{in_hook, in_chain, in_table, has_mask, first_where, table_or_next, mask_or_next, table_count, mask_count, table_row, mask_row}
 use Rattle.filter_state.specs.Refusals.{tables_full, masks_full}
 use Rattle.state_laws.proofs.Answers.{not_refused}
-use Rattle.state_laws.proofs.Pairs.{each_of, found, none_passes, any_none}
+use Rattle.filter_state.proofs.Pairs.{each_of, found, none_passes, any_none}
 use Rattle.state_laws.proofs.Counts.{numbers, has_number, table_count_is, mask_count_is}
 
 -- what the first that passes one test passes, one passes

@@ -11,9 +11,10 @@ use Rattle.filter_state.specs.States.{Row}
 use Rattle.filter_state.specs.Actions.{change_where}
 use Rattle.filter_state.specs.Tables.{in_hook, in_table, table_count, mask_count}
 use Rattle.filter_state.specs.Sound.{Each, EachPair, GoTogether}
-use Rattle.state_laws.proofs.Pairs.{each_of, each_weaker, each_append, each_filter, each_map, pairs_push, pairs_filter, pairs_map, any_map, any_same}
+use Rattle.filter_state.proofs.Pairs.{each_of, each_weaker, each_append, each_filter, each_map, pairs_push, pairs_filter, pairs_map, any_map, any_same}
 use Rattle.state_laws.proofs.Tests.{hook_eq_true, row_in_table}
-use Rattle.state_laws.proofs.Free.{length_filter_le, length_mapped}
+use Rattle.filter_state.proofs.Free.{length_filter_le}
+use Rattle.state_laws.proofs.Free.{length_mapped}
 use Rattle.state_laws.proofs.Counts.{numbers, has_number, numbers_within, put_within, put_more, table_count_is, mask_count_is, filter_any}
 
 -- one row, where so many tables and masks were made

@@ -14,8 +14,9 @@ use Rattle.filter_state.specs.Refusals.{or_else, actions_full, counters_full, ac
 use Rattle.filter_state.specs.Steps.{made_of, with_actions, action_made, make_given, action_add, change_given, action_change, action_del}
 use Rattle.filter_state.specs.Sound.{Sound, Each, places}
 use Rattle.state_laws.proofs.Answers.{not_refused, neither, SoundAfter, unless_sound}
-use Rattle.state_laws.proofs.Pairs.{none_any}
-use Rattle.state_laws.proofs.Free.{free_index_unused, length_filter_le, length_mapped}
+use Rattle.filter_state.proofs.Pairs.{none_any}
+use Rattle.filter_state.proofs.Free.{length_filter_le}
+use Rattle.state_laws.proofs.Free.{free_index_unused, length_mapped}
 use Rattle.state_laws.proofs.Held.{AreHeld, held_more, names_none}
 use Rattle.state_laws.proofs.Changes.{put_params, held_params}
 use Rattle.state_laws.proofs.Unbinding.{held_without}

@@ -10,8 +10,8 @@ use Rattle.filter_state.specs.Refusals.{or_else, no_hook, protocol_clash_if, no_
 use Rattle.filter_state.specs.Steps.{taken_out, filter_del}
 use Rattle.filter_state.specs.Sound.{Sound, places}
 use Rattle.state_laws.proofs.Answers.{SoundAfter, unless_sound}
-use Rattle.state_laws.proofs.Free.{length_filter_le}
-use Rattle.state_laws.proofs.Times.{times, times_append, places_split}
+use Rattle.filter_state.proofs.Free.{length_filter_le}
+use Rattle.filter_state.proofs.Times.{times, times_append, places_split}
 use Rattle.state_laws.proofs.Held.{held_same}
 use Rattle.state_laws.proofs.Unbinding.{held_all_unbound, length_all_unbound}
 use Rattle.state_laws.proofs.Rows.{rows_filter}

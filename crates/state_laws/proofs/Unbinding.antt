@@ -10,9 +10,10 @@ use Rattle.filter_state.specs.Actions.{is_named, has_serial, less_bound, is_refe
 use Rattle.filter_state.specs.Tables.{first_where}
 use Rattle.filter_state.specs.Refusals.{bound_by, when}
 use Rattle.filter_state.specs.Sound.{Each, EachPair, StandApart}
-use Rattle.state_laws.proofs.Pairs.{each_both, each_map, each_weaker, each_filter, each_passing, pairs_filter, any_filter, none_passes}
-use Rattle.state_laws.proofs.Free.{length_filter_le, length_mapped}
-use Rattle.state_laws.proofs.Times.{times, one_if, times_cons}
+use Rattle.filter_state.proofs.Pairs.{each_both, each_map, each_weaker, each_filter, each_passing, pairs_filter, any_filter, none_passes}
+use Rattle.filter_state.proofs.Free.{length_filter_le}
+use Rattle.state_laws.proofs.Free.{length_mapped}
+use Rattle.filter_state.proofs.Times.{times, one_if, times_cons}
 use Rattle.state_laws.proofs.Held.{IsCounted, AreHeld, HasReference}
 use Rattle.state_laws.proofs.Names.{same_binds}
 use Rattle.state_laws.proofs.Changes.{Keeps, keeps_where, apart_changed, live_changed}

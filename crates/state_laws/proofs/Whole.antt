@@ -4,8 +4,8 @@ use Rattle.std.specs.List.{list_any}
 use Rattle.filter_state.specs.States.{Row, Action, State, no_state}
 use Rattle.filter_state.specs.Actions.{has_serial}
 use Rattle.filter_state.specs.Sound.{Each, Sound, IsRow, IsAction, places}
-use Rattle.state_laws.proofs.Pairs.{each_weaker, each_both, each_front, each_back, each_flat_map}
-use Rattle.state_laws.proofs.Times.{times_each, each_times}
+use Rattle.filter_state.proofs.Pairs.{each_weaker, each_both, each_front, each_back, each_flat_map}
+use Rattle.filter_state.proofs.Times.{times_each, each_times}
 use Rattle.state_laws.proofs.Held.{IsCounted, HasReference, AreHeld}
 use Rattle.state_laws.proofs.Rows.{IsPlain, AreRows}
 

@@ -2,8 +2,8 @@
 ghost use Rattle.std.specs.Prelude.{◌≡◌, ◌<◌, [], IfOk};
 ghost use Rattle.step_counts.specs.Claims.{hand};
 
-use crate::claim_seats::{ClaimSeat, ClaimSeats};
-use crate::hand::Hand;
+use crate::hand::{ClaimSeat, ClaimSeats, Hand};
+use crate::seats::{Held, Left};
 use atomic_table::{Join, Play, Seat, Split, Table, TableRule};
 use std::alloc::Global;
 use std::marker::Model;
@@ -97,7 +97,7 @@ impl Claims {
         requires seat { seat.making ≡ self.now }
         ensures { into.new ≡ with_seat seat into.old }
     {
-        let ClaimSeat { place } = seat;
+        let Held { place } = seat;
         self.word.shared.join_seat::<Merge>(&mut into.place, place);
     }
 }
@@ -115,11 +115,11 @@ fn cut_seats(
 {
     let mut left = Vec::with_capacity(alloc, seats as usize)?;
     for _made in 0..seats {
-        left.push(ClaimSeat {
+        left.push(Held {
             place: word.shared.split_seat::<Deal>(&mut origin),
         })?;
     }
-    Ok(ClaimSeats { origin, left })
+    Ok(Left { origin, left })
 }
 
 /// A new set of claims, from which 0 is drawn first, with so many seats, at least one.

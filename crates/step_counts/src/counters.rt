@@ -3,8 +3,8 @@ ghost use Rattle.act_registry.specs.declared.limits.TheConstants.{MADE_MAX};
 ghost use Rattle.std.specs.Prelude.{◌≡◌, ◌+◌, ◌*◌, ◌<◌, [], IfOk};
 ghost use Rattle.step_counts.specs.Counters.{tally};
 
-use crate::counter_seats::{CounterSeat, CounterSeats};
-use crate::tally::Tally;
+use crate::seats::{Held, Left};
+use crate::tally::{CounterSeat, CounterSeats, Tally};
 use act_registry::MADE_MAX;
 use atomic_table::{Join, Play, Seat, Split, Table, TableRule};
 use std::alloc::Global;
@@ -110,7 +110,7 @@ impl Counters {
         requires serial { (0 < serial) × (serial ≤ MADE_MAX) }
         ensures { seat.new ≡ with_deed (serial, length) seat.old }
     {
-        let CounterSeat { place } = seat;
+        let Held { place } = seat;
         let packets = 2 * serial as usize;
         let shared = &self.words.shared;
         shared.fetch_add::<Count>(place, packets, 1);
@@ -126,7 +126,7 @@ impl Counters {
         ensures all { HoldsAll seat.old → result ≡ totals_of serial seat.old.deeds }
         ensures same { seat.new ≡ seat.old }
     {
-        let CounterSeat { place } = seat;
+        let Held { place } = seat;
         let packets = 2 * serial as usize;
         let shared = &self.words.shared;
         (
@@ -141,7 +141,7 @@ impl Counters {
         requires seat { seat.making ≡ self.now }
         ensures { into.new ≡ with_seat seat into.old }
     {
-        let CounterSeat { place } = seat;
+        let Held { place } = seat;
         self.words.shared.join_seat::<Merge>(&mut into.place, place);
     }
 }
@@ -159,11 +159,11 @@ fn cut_seats(
 {
     let mut left = Vec::with_capacity(alloc, seats as usize)?;
     for _made in 0..seats {
-        left.push(CounterSeat {
+        left.push(Held {
             place: words.shared.split_seat::<Deal>(&mut origin),
         })?;
     }
-    Ok(CounterSeats { origin, left })
+    Ok(Left { origin, left })
 }
 
 /// New counters, all 0, with so many seats, at least one.

@@ -16,16 +16,15 @@
 //! get on, and what `totals` answers while other seats are out. Counters wrap at 2^64, which only their sums' bounds can exclude.
 #![tactic(auto)]
 
-mod claim_seats;
 mod claims;
-mod counter_seats;
 mod counters;
 mod hand;
+mod seats;
 mod tally;
 #[cfg(test)]
 mod tests;
 
-pub use claim_seats::{ClaimSeat, ClaimSeats};
 pub use claims::{Claims, make_claims};
-pub use counter_seats::{CounterSeat, CounterSeats};
 pub use counters::{Counters, make_counters};
+pub use hand::{ClaimSeat, ClaimSeats};
+pub use tally::{CounterSeat, CounterSeats};

@@ -10,3 +10,4 @@ pub mod Alive
 pub mod Runs
 pub mod WordsLeft
 pub mod FieldValues
+pub mod FieldWidths

@@ -39,4 +39,5 @@ mod steps;
 mod tag;
 
 pub use fault::LineFault;
+pub use field_name::FieldName;
 pub use reading::{is_command, line, one_line};

@@ -15,7 +15,8 @@ use Rattle.tc_batch.specs.declared.field_name.FieldName.{FieldName}
 use Rattle.tc_batch.specs.declared.field_name.FieldName.TheVariants as names
 use Rattle.tc_batch.specs.FieldNames.{field_number}
 use Rattle.tc_print.specs.FieldWords.{name_text, value_text, value_by_number, field_words, prefix_words, named_words, all_names, prefixes_words, fields_words}
-use Rattle.tc_print.proofs.ReadsValues.{width_of, named_fits, half_fits}
+use Rattle.tc_batch.proofs.FieldWidths.{width_of}
+use Rattle.tc_print.proofs.ReadsValues.{named_fits, half_fits}
 use Rattle.tc_print.proofs.CleanActions.{clean_joined, clean_more}
 
 name_clean : (name : FieldName) → is_clean (name_text name) ≡ true

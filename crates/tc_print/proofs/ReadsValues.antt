@@ -22,49 +22,12 @@ use Rattle.tc_batch.specs.declared.field_name.FieldName.{FieldName}
 use Rattle.tc_batch.specs.declared.field_name.FieldName.TheVariants as names
 use Rattle.tc_batch.specs.FieldNames.{field_number, whole, field_value}
 use Rattle.tc_batch.specs.Fields.{has_colon}
+use Rattle.tc_batch.proofs.FieldWidths.{width_of, width_is}
 use Rattle.tc_print.specs.FieldWords.{value_text, value_by_number}
 use Rattle.tc_print.proofs.Copies.{fits}
 
--- the widths of the fields with names
-abbrev pub width_of : FieldName → ℕ
-width_of names.DstMac = 48
-width_of names.SrcMac = 48
-width_of names.VlanId = 12
-width_of names.VlanPrio = 3
-width_of names.VlanEthtype = 16
-width_of names.IpProto = 8
-width_of names.SrcIp = 32
-width_of names.DstIp = 32
-width_of names.SrcPort = 16
-width_of names.DstPort = 16
-width_of names.TcpFlags = 12
-width_of names.CvlanId = 12
-width_of names.CvlanPrio = 3
-width_of names.CvlanEthtype = 16
-width_of names.IpTos = 8
-width_of names.IpTtl = 8
-
-width_is : (name : FieldName) → (field_at (field_number name)).width ≡ width_of name
-unfolding fields
-width_is names.DstMac = refl
-width_is names.SrcMac = refl
-width_is names.VlanId = refl
-width_is names.VlanPrio = refl
-width_is names.VlanEthtype = refl
-width_is names.IpProto = refl
-width_is names.SrcIp = refl
-width_is names.DstIp = refl
-width_is names.SrcPort = refl
-width_is names.DstPort = refl
-width_is names.TcpFlags = refl
-width_is names.CvlanId = refl
-width_is names.CvlanPrio = refl
-width_is names.CvlanEthtype = refl
-width_is names.IpTos = refl
-width_is names.IpTtl = refl
-
 pub named_fits : (words : List ℕ) (name : FieldName) → value_by_number words (field_number name) < 2 ^ width_of name
-named_fits words name = subst (λ w. value_by_number words (field_number name) < 2 ^ w) (width_is name) (fits words (field_number name))
+named_fits words name = subst (λ w. value_by_number words (field_number name) < 2 ^ w) (sym (width_is name)) (fits words (field_number name))
 
 -- the four halves of IPv6 addresses
 half_width : (half : ℕ) → (half ≡ 16) ⊎ (half ≡ 17) ⊎ (half ≡ 18) ⊎ (half ≡ 19) → (field_at half).width ≡ 64

@@ -70,29 +70,12 @@ abbrev pub named_words : List ℕ → List ℕ → List FieldName → List (List
 named_words key mask [] = []
 named_words key mask (name ∷ more) = field_words key mask name ++ named_words key mask more
 
--- the Ethernet header and its tag
-abbrev pub link_names : List FieldName
-link_names = names.DstMac ∷ names.SrcMac ∷ names.VlanId ∷ names.VlanPrio ∷ names.VlanEthtype ∷ []
-
--- IP
-abbrev pub ip_names : List FieldName
-ip_names = names.IpProto ∷ names.SrcIp ∷ names.DstIp ∷ []
-
--- what IP carries
-abbrev pub port_names : List FieldName
-port_names = names.SrcPort ∷ names.DstPort ∷ names.TcpFlags ∷ []
-
--- the second tag
-abbrev pub inner_names : List FieldName
-inner_names = names.CvlanId ∷ names.CvlanPrio ∷ names.CvlanEthtype ∷ []
-
--- the rest of IP
-abbrev pub octet_names : List FieldName
-octet_names = names.IpTos ∷ names.IpTtl ∷ []
-
--- the order of the table of fields
+-- the fields with one value each, in the order of their table
 abbrev pub all_names : List FieldName
-all_names = link_names ++ (ip_names ++ (port_names ++ (inner_names ++ octet_names)))
+all_names =
+    names.DstMac ∷ names.SrcMac ∷ names.VlanId ∷ names.VlanPrio ∷ names.VlanEthtype ∷ names.IpProto ∷ names.SrcIp ∷ names.DstIp
+    ∷ names.SrcPort ∷ names.DstPort ∷ names.TcpFlags ∷ names.CvlanId ∷ names.CvlanPrio ∷ names.CvlanEthtype ∷ names.IpTos
+    ∷ names.IpTtl ∷ []
 
 -- the two IPv6 addresses have the names of those of IPv4
 abbrev pub prefixes_words : List ℕ → List ℕ → List (List ℕ)

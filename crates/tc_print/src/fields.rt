@@ -1,19 +1,41 @@
 //! The fields of a filter.
 //!
 //! A field whose mask is 0 is not printed. The numbers of the fields are those of `flow_fields::field`.
-ghost use Rattle.std.specs.Prelude.{◌≡◌, ◌+◌, ◌^◌, ◌<◌, ◌==◌, ◌&&◌, ◌⊎◌, [], ◌∷◌, ◌++◌, fold, codes, decimal, OnOk, if◌then◌else◌};
+ghost use Rattle.std.specs.Prelude.{◌≡◌, ◌+◌, ◌^◌, ◌<◌, ◌==◌, ◌&&◌, [], ◌∷◌, ◌++◌, fold, codes, OnOk, if◌then◌else◌};
 ghost use Rattle.flow_fields.specs.Table.{field_at};
-ghost use Rattle.line_texts.specs.Texts.{ether_type_text, ip_protocol_text, masked_hex_text, masked_octet_text, mac_text, ipv4_text, ipv6_text, prefix_length_of, ipv6_length_of};
-ghost use Rattle.tc_batch.specs.declared.field_name.FieldName.TheVariants as names;
-ghost use Rattle.tc_print.specs.FieldWords.{value_by_number, words_by_number, field_words, prefix_words, named_words, link_names, ip_names, port_names, inner_names, octet_names, prefixes_words, fields_words};
+ghost use Rattle.line_texts.specs.Texts.{ipv6_text, ipv6_length_of};
+ghost use Rattle.tc_batch.specs.FieldNames.{field_number};
+ghost use Rattle.tc_print.specs.FieldWords.{value_by_number, name_text, value_text, field_words, prefix_words, named_words};
+ghost use Rattle.tc_print.specs.FieldWords.{prefixes_words, fields_words};
 ghost use Rattle.tc_print.specs.Texts.{onto};
 
 use crate::texts::{
-    push_ether_type_word, push_ip_protocol_word, push_ipv4_word, push_ipv6_word, push_mac_word,
-    push_masked_hex_word, push_masked_octet_word, push_named, push_word,
+    push_decimal, push_ether_type_word, push_ip_protocol_word, push_ipv4_word, push_ipv6_word,
+    push_mac_word, push_masked_hex_word, push_masked_octet_word, push_word,
 };
 use flow_fields::{Key, field, get};
 use std::alloc::AllocError;
+use tc_batch::FieldName;
+
+// The fields with one value each, in the order of their table.
+const NAMES: [FieldName; 16] = [
+    FieldName::DstMac,
+    FieldName::SrcMac,
+    FieldName::VlanId,
+    FieldName::VlanPrio,
+    FieldName::VlanEthtype,
+    FieldName::IpProto,
+    FieldName::SrcIp,
+    FieldName::DstIp,
+    FieldName::SrcPort,
+    FieldName::DstPort,
+    FieldName::TcpFlags,
+    FieldName::CvlanId,
+    FieldName::CvlanPrio,
+    FieldName::CvlanEthtype,
+    FieldName::IpTos,
+    FieldName::IpTtl,
+];
 
 #[tactic(auto, using(crate::proofs::FieldPlaces::word_below))]
 fn value(key: &Key<14>, number: u32) -> u64
@@ -23,116 +45,80 @@ fn value(key: &Key<14>, number: u32) -> u64
     get(key, number)
 }
 
-fn push_decimal_field(
+// The name of a field.
+fn name_text(name: FieldName) -> &'static str
+    ensures { result.now ≡ name_text name }
+{
+    match name {
+        FieldName::DstMac => "dst_mac",
+        FieldName::SrcMac => "src_mac",
+        FieldName::VlanId => "vlan_id",
+        FieldName::VlanPrio => "vlan_prio",
+        FieldName::VlanEthtype => "vlan_ethtype",
+        FieldName::IpProto => "ip_proto",
+        FieldName::SrcIp => "src_ip",
+        FieldName::DstIp => "dst_ip",
+        FieldName::SrcPort => "src_port",
+        FieldName::DstPort => "dst_port",
+        FieldName::TcpFlags => "tcp_flags",
+        FieldName::CvlanId => "cvlan_id",
+        FieldName::CvlanPrio => "cvlan_prio",
+        FieldName::CvlanEthtype => "cvlan_ethtype",
+        FieldName::IpTos => "ip_tos",
+        FieldName::IpTtl => "ip_ttl",
+    }
+}
+
+// The value of a field under its mask, in the form that its name asks for.
+fn push_value(out: &mut Vec<u8>, name: FieldName, value: u64, mask: u64) -> Result<(), AllocError>
+    requires value { value < 2 ^ (field_at (field_number name)).width }
+    requires mask { mask < 2 ^ (field_at (field_number name)).width }
+    ensures { OnOk result (out.new.items ≡ onto out.old.items (value_text name value mask)) }
+{
+    match name {
+        FieldName::DstMac | FieldName::SrcMac => push_mac_word(out, value, mask),
+        FieldName::VlanEthtype | FieldName::CvlanEthtype => {
+            push_ether_type_word(out, value as u16)
+        }
+        FieldName::IpProto => push_ip_protocol_word(out, value as u8),
+        FieldName::SrcIp | FieldName::DstIp => push_ipv4_word(out, value as u32, mask as u32),
+        FieldName::TcpFlags | FieldName::IpTos => push_masked_hex_word(out, value, mask),
+        FieldName::IpTtl => push_masked_octet_word(out, value, mask),
+        FieldName::VlanId | FieldName::VlanPrio | FieldName::SrcPort => push_decimal(out, value),
+        FieldName::DstPort | FieldName::CvlanId | FieldName::CvlanPrio => push_decimal(out, value),
+    }
+}
+
+#[tactic(auto, using(crate::proofs::Copies::fits))]
+fn push_field(
     out: &mut Vec<u8>,
-    name: &str,
-    number: u32,
+    name: FieldName,
     key: &Key<14>,
     mask: &Key<14>,
 ) -> Result<(), AllocError>
-    requires { number < 20 }
-    ensures { OnOk result (out.new.items ≡ fold onto out.old.items (words_by_number key.now.words mask.now.words number name.now (λ value mask. decimal value))) }
+    ensures { OnOk result (out.new.items ≡ fold onto out.old.items (field_words key.now.words mask.now.words name)) }
 {
+    let number = name.number();
     if value(mask, number) == 0 {
         return Ok(());
     }
-    push_named(out, name, value(key, number))
+    push_word(out, name_text(name))?;
+    push_value(out, name, value(key, number), value(mask, number))
 }
 
-// `dst_mac` or `src_mac`.
-#[tactic(auto, using(crate::proofs::FieldPlaces::mac_below))]
-fn push_mac_field(
+// The fields of some names, in order.
+fn push_names(
     out: &mut Vec<u8>,
-    name: &str,
-    number: u32,
+    names: &[FieldName],
     key: &Key<14>,
     mask: &Key<14>,
 ) -> Result<(), AllocError>
-    requires { (number ≡ 0) ⊎ (number ≡ 1) }
-    ensures { OnOk result (out.new.items ≡ fold onto out.old.items (words_by_number key.now.words mask.now.words number name.now mac_text)) }
+    ensures { OnOk result (out.new.items ≡ fold onto out.old.items (named_words key.now.words mask.now.words names.now)) }
 {
-    if value(mask, number) == 0 {
-        return Ok(());
+    for name in names {
+        push_field(out, *name, key, mask)?;
     }
-    push_word(out, name)?;
-    push_mac_word(out, value(key, number), value(mask, number))
-}
-
-// The EtherType behind the first tag or the second.
-#[tactic(auto, using(crate::proofs::FieldPlaces::ether_type_below))]
-fn push_ether_type_field(
-    out: &mut Vec<u8>,
-    name: &str,
-    number: u32,
-    key: &Key<14>,
-    mask: &Key<14>,
-) -> Result<(), AllocError>
-    requires { (number ≡ 4) ⊎ (number ≡ 13) }
-    ensures { OnOk result (out.new.items ≡ fold onto out.old.items (words_by_number key.now.words mask.now.words number name.now (λ value mask. ether_type_text value))) }
-{
-    if value(mask, number) == 0 {
-        return Ok(());
-    }
-    push_word(out, name)?;
-    push_ether_type_word(out, value(key, number) as u16)
-}
-
-#[tactic(auto, using(crate::proofs::FieldPlaces::ip_protocol_below))]
-fn push_ip_proto(out: &mut Vec<u8>, key: &Key<14>, mask: &Key<14>) -> Result<(), AllocError>
-    ensures { OnOk result (out.new.items ≡ fold onto out.old.items (field_words key.now.words mask.now.words names.IpProto)) }
-{
-    if value(mask, field::IP_PROTO) == 0 {
-        return Ok(());
-    }
-    push_word(out, "ip_proto")?;
-    push_ip_protocol_word(out, value(key, field::IP_PROTO) as u8)
-}
-
-// An IPv4 address, and the length of its prefix.
-#[tactic(auto, using(crate::proofs::FieldPlaces::ipv4_below))]
-fn push_ipv4_field(
-    out: &mut Vec<u8>,
-    name: &str,
-    number: u32,
-    key: &Key<14>,
-    mask: &Key<14>,
-) -> Result<(), AllocError>
-    requires { (number ≡ 6) ⊎ (number ≡ 7) }
-    ensures { OnOk result (out.new.items ≡ fold onto out.old.items (words_by_number key.now.words mask.now.words number name.now (λ value mask. ipv4_text value (prefix_length_of mask)))) }
-{
-    if value(mask, number) == 0 {
-        return Ok(());
-    }
-    push_word(out, name)?;
-    push_ipv4_word(out, value(key, number) as u32, value(mask, number) as u32)
-}
-
-// A value and its mask in hexadecimal digits.
-fn push_hex_field(
-    out: &mut Vec<u8>,
-    name: &str,
-    number: u32,
-    key: &Key<14>,
-    mask: &Key<14>,
-) -> Result<(), AllocError>
-    requires { number < 20 }
-    ensures { OnOk result (out.new.items ≡ fold onto out.old.items (words_by_number key.now.words mask.now.words number name.now masked_hex_text)) }
-{
-    if value(mask, number) == 0 {
-        return Ok(());
-    }
-    push_word(out, name)?;
-    push_masked_hex_word(out, value(key, number), value(mask, number))
-}
-
-fn push_ip_ttl(out: &mut Vec<u8>, key: &Key<14>, mask: &Key<14>) -> Result<(), AllocError>
-    ensures { OnOk result (out.new.items ≡ fold onto out.old.items (field_words key.now.words mask.now.words names.IpTtl)) }
-{
-    if value(mask, field::IP_TTL) == 0 {
-        return Ok(());
-    }
-    push_word(out, "ip_ttl")?;
-    push_masked_octet_word(out, value(key, field::IP_TTL), value(mask, field::IP_TTL))
+    Ok(())
 }
 
 // An IPv6 address by the number of its high half.
@@ -161,50 +147,6 @@ fn push_ipv6_field(
     )
 }
 
-fn push_link_fields(out: &mut Vec<u8>, key: &Key<14>, mask: &Key<14>) -> Result<(), AllocError>
-    ensures { OnOk result (out.new.items ≡ fold onto out.old.items (named_words key.now.words mask.now.words link_names)) }
-{
-    push_mac_field(out, "dst_mac", field::DST_MAC, key, mask)?;
-    push_mac_field(out, "src_mac", field::SRC_MAC, key, mask)?;
-    push_decimal_field(out, "vlan_id", field::VLAN_ID, key, mask)?;
-    push_decimal_field(out, "vlan_prio", field::VLAN_PRIO, key, mask)?;
-    push_ether_type_field(out, "vlan_ethtype", field::VLAN_ETHTYPE, key, mask)
-}
-
-#[tactic(auto, using(crate::proofs::Grown::three_grow))]
-fn push_ip_fields(out: &mut Vec<u8>, key: &Key<14>, mask: &Key<14>) -> Result<(), AllocError>
-    ensures { OnOk result (out.new.items ≡ fold onto out.old.items (named_words key.now.words mask.now.words ip_names)) }
-{
-    push_ip_proto(out, key, mask)?;
-    push_ipv4_field(out, "src_ip", field::SRC_IP, key, mask)?;
-    push_ipv4_field(out, "dst_ip", field::DST_IP, key, mask)
-}
-
-#[tactic(auto, using(crate::proofs::Grown::three_grow))]
-fn push_port_fields(out: &mut Vec<u8>, key: &Key<14>, mask: &Key<14>) -> Result<(), AllocError>
-    ensures { OnOk result (out.new.items ≡ fold onto out.old.items (named_words key.now.words mask.now.words port_names)) }
-{
-    push_decimal_field(out, "src_port", field::SRC_PORT, key, mask)?;
-    push_decimal_field(out, "dst_port", field::DST_PORT, key, mask)?;
-    push_hex_field(out, "tcp_flags", field::TCP_FLAGS, key, mask)
-}
-
-fn push_inner_tag(out: &mut Vec<u8>, key: &Key<14>, mask: &Key<14>) -> Result<(), AllocError>
-    ensures { OnOk result (out.new.items ≡ fold onto out.old.items (named_words key.now.words mask.now.words inner_names)) }
-{
-    push_decimal_field(out, "cvlan_id", field::CVLAN_ID, key, mask)?;
-    push_decimal_field(out, "cvlan_prio", field::CVLAN_PRIO, key, mask)?;
-    push_ether_type_field(out, "cvlan_ethtype", field::CVLAN_ETHTYPE, key, mask)
-}
-
-#[tactic(auto, using(crate::proofs::Grown::onto_append))]
-fn push_ip_octets(out: &mut Vec<u8>, key: &Key<14>, mask: &Key<14>) -> Result<(), AllocError>
-    ensures { OnOk result (out.new.items ≡ fold onto out.old.items (named_words key.now.words mask.now.words octet_names)) }
-{
-    push_hex_field(out, "ip_tos", field::IP_TOS, key, mask)?;
-    push_ip_ttl(out, key, mask)
-}
-
 #[tactic(auto, using(crate::proofs::Grown::onto_append))]
 fn push_ipv6_fields(out: &mut Vec<u8>, key: &Key<14>, mask: &Key<14>) -> Result<(), AllocError>
     ensures { OnOk result (out.new.items ≡ fold onto out.old.items (prefixes_words key.now.words mask.now.words)) }
@@ -216,14 +158,10 @@ fn push_ipv6_fields(out: &mut Vec<u8>, key: &Key<14>, mask: &Key<14>) -> Result<
 /// Puts the fields of a filter behind a line, each by its name and its value (tc-flower(8)).
 ///
 /// `AllocError`: memory was refused.
-#[tactic(auto, using(crate::proofs::Grown::fields_grow))]
+#[tactic(auto, using(crate::proofs::Grown::onto_append))]
 pub fn push_fields(out: &mut Vec<u8>, key: &Key<14>, mask: &Key<14>) -> Result<(), AllocError>
     ensures { OnOk result (out.new.items ≡ fold onto out.old.items (fields_words key.now.words mask.now.words)) }
 {
-    push_link_fields(out, key, mask)?;
-    push_ip_fields(out, key, mask)?;
-    push_port_fields(out, key, mask)?;
-    push_inner_tag(out, key, mask)?;
-    push_ip_octets(out, key, mask)?;
+    push_names(out, &NAMES, key, mask)?;
     push_ipv6_fields(out, key, mask)
 }

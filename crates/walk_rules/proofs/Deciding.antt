@@ -9,11 +9,11 @@ use Rattle.filter_state.specs.States.{Row}
 use Rattle.filter_state.specs.Tables.{first_where}
 use Rattle.filter_state.specs.Order.{of_mask}
 use Rattle.filter_state.specs.Sound.{Each, EachPair}
-use Rattle.order_laws.proofs.First.{each_weaker}
+use Rattle.filter_state.proofs.Pairs.{each_weaker, each_of}
 use Rattle.walk_rules.specs.Questions.{Head}
 use Rattle.walk_rules.specs.Answers.{meets}
 use Rattle.walk_rules.specs.Plain.{older, oldest, looked_at}
-use Rattle.walk_rules.proofs.Listed.{each_all, first_has, kept_have, kept_alike, none_kept, one_if, count-cons, count-none}
+use Rattle.walk_rules.proofs.Listed.{first_has, kept_have, kept_alike, none_kept, one_if, count-cons, count-none}
 
 -- ---- a table as it is kept
 abbrev pub is_among : ℕ → List ℕ → Bool
@@ -84,10 +84,10 @@ module _ (mask : ℕ) (first other : Row → Bool) (firsts : (row : Row) → fir
   all_from : (rows : List Row) → Each (IsFrom mask) (filter (λ row. first row || other row) rows)
   all_from rows =
       kept_have (λ row. Unit {0}) (IsFrom mask) (λ row. first row || other row) (λ row either any. from_mask row (first row) (other row) refl refl either) rows
-      (each_all (λ row. Unit {0}) (λ row. tt) rows)
+      (each_of (λ row. Unit {0}) (λ row. tt) rows)
 
   first_is : (rows : List Row) → IfSome (first_where first rows) (λ row. row.mask_serial ≡ mask)
-  first_is rows = first_has (λ row. Unit {0}) (λ row. row.mask_serial ≡ mask) first (λ row is any. firsts row is) rows (each_all (λ row. Unit {0}) (λ row. tt) rows)
+  first_is rows = first_has (λ row. Unit {0}) (λ row. row.mask_serial ≡ mask) first (λ row is any. firsts row is) rows (each_of (λ row. Unit {0}) (λ row. tt) rows)
 
   part : (b c : Bool) (row : Row) (rows : List Row) → first row ≡ b → other row ≡ c →
       oldest (filter (λ row. first row || other row) rows) ≡ or_later (first_where first rows) (oldest (filter other rows)) →
@@ -130,7 +130,7 @@ first_met_is values rows (mask ∷ masks) rising =
     let of_others : Row → Bool = λ row. is_among row.mask_serial masks && meets values row in
     let alike : filter (λ row. is_among row.mask_serial (mask ∷ masks) && meets values row) rows ≡ filter (λ row. of_first row || of_others row) rows =
     kept_alike (λ row. is_among row.mask_serial (mask ∷ masks) && meets values row) (λ row. of_first row || of_others row) rows
-    (each_all (λ row. (is_among row.mask_serial (mask ∷ masks) && meets values row) ≡ (of_first row || of_others row))
+    (each_of (λ row. (is_among row.mask_serial (mask ∷ masks) && meets values row) ≡ (of_first row || of_others row))
     (λ row. and_spread (of_mask mask row) (is_among row.mask_serial masks) (meets values row)) rows) in
     ap (or_later (meeting values rows mask)) (first_met_is values rows masks rising.1)
     ∙ sym (ap oldest alike
@@ -151,7 +151,7 @@ met_has P None p mask here is more = more
 of_its_mask : (values : List ℕ) (rows : List Row) (mask : ℕ) → IfSome (meeting values rows mask) (λ row. row.mask_serial ≡ mask)
 of_its_mask values rows mask =
     first_has (λ row. Unit {0}) (λ row. row.mask_serial ≡ mask) (λ row. of_mask mask row && meets values row)
-    (λ row is any. eqb-true row.mask_serial mask (and_parts (of_mask mask row) (meets values row) is).0) rows (each_all (λ row. Unit {0}) (λ row. tt) rows)
+    (λ row is any. eqb-true row.mask_serial mask (and_parts (of_mask mask row) (meets values row) is).0) rows (each_of (λ row. Unit {0}) (λ row. tt) rows)
 
 met_in : (P : ℕ → Type 0) (values : List ℕ) (rows : List Row) (masks : List ℕ) → Each P masks → IfSome (first_met values rows masks) (λ row. P row.mask_serial)
 met_in P values rows [] all = tt

@@ -8,7 +8,7 @@ use Rattle.tc_base.specs.declared.hook.Hook.TheVariants as hooks
 use Rattle.filter_state.specs.States.{Row}
 use Rattle.filter_state.specs.Tables.{hook_eq}
 use Rattle.filter_state.specs.Sound.{Each, EachPair, GoTogether}
-use Rattle.order_laws.proofs.First.{each_weaker}
+use Rattle.filter_state.proofs.Pairs.{each_weaker}
 use Rattle.row_order_laws.specs.Sorted.{InOrder}
 use Rattle.row_order_laws.specs.Rows.{hook_before, row_before}
 use Rattle.row_order_laws.proofs.Orders.{by_number}

@@ -9,14 +9,14 @@ use Rattle.filter_state.specs.States.{Row, State}
 use Rattle.filter_state.specs.Tables.{hook_eq, in_hook}
 use Rattle.filter_state.specs.Order.{of_mask}
 use Rattle.filter_state.specs.Sound.{Sound, Each, GoTogether}
-use Rattle.order_laws.proofs.First.{each_weaker}
+use Rattle.filter_state.proofs.Pairs.{each_weaker, each_of, pairs_all, pairs_weaker}
 use Rattle.row_order_laws.specs.Sorted.{sorted}
 use Rattle.row_order_laws.specs.Rows.{row_before}
 use Rattle.row_order_laws.proofs.Sorting.{sorted_in_order}
 use Rattle.row_order_laws.proofs.Orders.{row_order}
 use Rattle.walk_rules.specs.Questions.{Head}
 use Rattle.walk_rules.specs.Heads.{heads_on}
-use Rattle.walk_rules.proofs.Listed.{each_all, kept_have, unkept, any_has, sorted_have, unsorted, each_both, all_pairs, pairs_of_all, pairs_weaker}
+use Rattle.walk_rules.proofs.Listed.{kept_have, unkept, any_has, sorted_have, unsorted, each_both, pairs_of_all}
 use Rattle.walk_rules.proofs.Deciding.{is_among, IsKept}
 use Rattle.walk_rules.proofs.Grouped.{Agree, agree_self, agree_turn, agree_together, is_of, IsHeadOf, AreHeadsOf, grouped}
 
@@ -108,7 +108,7 @@ module _ (hook : Hook) (rows : List Row) (agrees : Each (λ row. Each (Agree row
 
 -- ---- a sound state
 pub rows_agree : (s : State) → Sound s → Each (λ row. Each (Agree row) s.rows) s.rows
-rows_agree s sound = all_pairs Agree agree_self agree_turn s.rows (pairs_weaker GoTogether Agree agree_together s.rows sound.together)
+rows_agree s sound = pairs_all Agree agree_self agree_turn s.rows (pairs_weaker GoTogether Agree agree_together s.rows sound.together)
 
 pub heads_grouped : (hook : Hook) (s : State) → Sound s → AreHeadsOf (rows_on hook s.rows) (heads_on hook s)
 heads_grouped hook s sound =
@@ -120,7 +120,7 @@ heads_grouped hook s sound =
     (rows_agree s sound))) in
     let on : Each (λ row. row.hook ≡ hook) (rows_on hook s.rows) =
     each_weaker (λ row. (row.hook ≡ hook) × Unit {0}) (λ row. row.hook ≡ hook) (λ row both. both.0) (rows_on hook s.rows)
-    (on_have (λ row. Unit {0}) hook s.rows (each_all (λ row. Unit {0}) (λ row. tt) s.rows)) in
+    (on_have (λ row. Unit {0}) hook s.rows (each_of (λ row. Unit {0}) (λ row. tt) s.rows)) in
     grouped hook (rows_on hook s.rows) on (pairs_of_all Agree (rows_on hook s.rows) across) (sorted_in_order row_before row_order (filter (in_hook hook) s.rows))
 
 pub heads_kept : (hook : Hook) (s : State) → Sound s → Each (IsKept s.rows) (heads_on hook s)

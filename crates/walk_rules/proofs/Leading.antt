@@ -21,7 +21,7 @@ use Rattle.walk_rules.specs.Answers.{answer_of, params_answer}
 use Rattle.walk_rules.specs.declared.limits.TheConstants.{VISITS_MAX}
 use Rattle.walk_rules.specs.Steps.{Place, at_mask, at_action, ended, Standing, question_at, question_of, restarted, after_list, after_action, after, first_stop}
 use Rattle.walk_rules.specs.Walks.{Outcome, IsWalk, AnsweredBy}
-use Rattle.walk_rules.proofs.Listed.{found}
+use Rattle.filter_state.proofs.Pairs.{any_first}
 use Rattle.walk_rules.specs.Plain.{Carried, ends_with, carried_on, ListEnd, list_over, list_on, run_action, run_list, after_end}
 
 -- ---- visits that are left
@@ -145,7 +145,7 @@ module _ (s : State) (hook : Hook) (heads : List Head) (r : ℕ) (restart : ℕ 
         let serial : ℕ = get_or actions position 0 in
         let place : Place = at_action head actions position jumps tables in
         let more : Carried → ℕ → ℕ → ListEnd = λ carried' position' jumps'. run_list s actions n carried' position' jumps' in
-        let live_one = found (has_serial serial) s.actions (live_at s actions live position within) in
+        let live_one = any_first (has_serial serial) s.actions (live_at s actions live position within) in
         let action : Action = live_one.0 in
         let then : Carried = carried_on carried serial action.params in
         subst (λ o. Leads s (way hook heads r v carried place) (after_end restart next (run_action more actions n position jumps carried o))) (sym live_one.1)

@@ -5,24 +5,11 @@ use Rattle.std.specs.List.{list_any, count_by}
 use Rattle.std.proofs.lemmas.List.Sums.{sum_by-cons}
 use Rattle.filter_state.specs.Tables.{first_where}
 use Rattle.filter_state.specs.Sound.{Each, EachPair}
-use Rattle.order_laws.proofs.First.{each_weaker}
+use Rattle.filter_state.proofs.Pairs.{each_weaker}
 use Rattle.row_order_laws.specs.Sorted.{placed, sorted}
-
--- ---- elements of which all is said
-pub each_all : {X : Type 0} (P : X → Type 0) → ((x : X) → P x) → (xs : List X) → Each P xs
-each_all P all [] = tt
-each_all P all (x ∷ xs) = (all x, each_all P all xs)
+use Rattle.row_order_laws.proofs.Sorting.{each_placed}
 
 -- ---- the first that passes
-found_at : {X : Type 0} (test : X → Bool) (b : Bool) (x : X) (xs : List X) → (b || list_any test xs) ≡ true →
-    (list_any test xs ≡ true → (y : X) × (first_where test xs ≡ Some y)) → (y : X) × (cond b (Some x) (first_where test xs) ≡ Some y)
-found_at test true x xs some more = (x, refl)
-found_at test false x xs some more = more some
-
-pub found : {X : Type 0} (test : X → Bool) (xs : List X) → list_any test xs ≡ true → (x : X) × (first_where test xs ≡ Some x)
-found test [] some = absurd (cc some)
-found test (x ∷ xs) some = found_at test (test x) x xs some (found test xs)
-
 first_at : {X : Type 0} (P : X → Type 0) (b : Bool) (x : X) (o : Option X) → (b ≡ true → P x) → IfSome o P → IfSome (cond b (Some x) o) P
 first_at P true x o here more = here refl
 first_at P false x o here more = more
@@ -69,17 +56,9 @@ any_has P test [] all some = absurd (cc some)
 any_has P test (x ∷ xs) all some = any_at P test (test x) x xs refl all.0 some (any_has P test xs all.1)
 
 -- ---- sorted lists
-placed_at : {X : Type 0} (P : X → Type 0) (b : Bool) (x y : X) (ys rest : List X) → P x → P y → Each P ys → Each P rest → Each P (cond b (y ∷ rest) (x ∷ y ∷ ys))
-placed_at P true x y ys rest here first all more = (first, more)
-placed_at P false x y ys rest here first all more = (here, (first, all))
-
-placed_have : {X : Type 0} (P : X → Type 0) (before : X → X → Bool) (x : X) (ys : List X) → P x → Each P ys → Each P (placed before x ys)
-placed_have P before x [] here all = (here, tt)
-placed_have P before x (y ∷ ys) here all = placed_at P (before y x) x y ys (placed before x ys) here all.0 all.1 (placed_have P before x ys here all.1)
-
 pub sorted_have : {X : Type 0} (P : X → Type 0) (before : X → X → Bool) (xs : List X) → Each P xs → Each P (sorted before xs)
 sorted_have P before [] all = tt
-sorted_have P before (x ∷ xs) all = placed_have P before x (sorted before xs) all.0 (sorted_have P before xs all.1)
+sorted_have P before (x ∷ xs) all = each_placed P before x (sorted before xs) all.0 (sorted_have P before xs all.1)
 
 unplaced_at : {X : Type 0} (P : X → Type 0) (b : Bool) (x y : X) (ys rest : List X) → (Each P rest → P x × Each P ys) → Each P (cond b (y ∷ rest) (x ∷ y ∷ ys)) → P x × Each P (y ∷ ys)
 unplaced_at P true x y ys rest parts all = let more = parts all.1 in (more.0, (all.0, more.1))
@@ -98,20 +77,9 @@ pub each_both : {X : Type 0} (P Q : X → Type 0) (xs : List X) → Each P xs �
 each_both P Q [] all more = tt
 each_both P Q (x ∷ xs) all more = ((all.0, more.0), each_both P Q xs all.1 more.1)
 
-pub all_pairs : {X : Type 0} (R : X → X → Type 0) → ((x : X) → R x x) → ((x y : X) → R x y → R y x) → (xs : List X) → EachPair R xs → Each (λ x. Each (R x) xs) xs
-all_pairs R one turn [] pairs = tt
-all_pairs R one turn (x ∷ xs) pairs = (
-  (one x, pairs.0),
-  each_both (λ y. R y x) (λ y. Each (R y) xs) xs (each_weaker (R x) (λ y. R y x) (λ y. turn x y) xs pairs.0) (all_pairs R one turn xs pairs.1),
-)
-
 pub pairs_of_all : {X : Type 0} (R : X → X → Type 0) (xs : List X) → Each (λ x. Each (R x) xs) xs → EachPair R xs
 pairs_of_all R [] all = tt
 pairs_of_all R (x ∷ xs) all = (all.0.1, pairs_of_all R xs (each_weaker (λ y. Each (R y) (x ∷ xs)) (λ y. Each (R y) xs) (λ y both. both.1) xs all.1))
-
-pub pairs_weaker : {X : Type 0} (R S : X → X → Type 0) → ((x y : X) → R x y → S x y) → (xs : List X) → EachPair R xs → EachPair S xs
-pairs_weaker R S weaker [] pairs = tt
-pairs_weaker R S weaker (x ∷ xs) pairs = (each_weaker (R x) (S x) (weaker x) xs pairs.0, pairs_weaker R S weaker xs pairs.1)
 
 -- ---- counts
 abbrev pub one_if : Bool → ℕ

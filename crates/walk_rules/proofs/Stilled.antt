@@ -4,7 +4,7 @@ use Rattle.tc_base.specs.declared.hook.Hook.{Hook}
 use Rattle.frame_edit.specs.EditedFrame.{loaded_frame}
 use Rattle.filter_state.specs.States.{State}
 use Rattle.filter_state.specs.Sound.{Sound, Each, IsRow}
-use Rattle.order_laws.proofs.First.{each_weaker}
+use Rattle.filter_state.proofs.Pairs.{each_weaker}
 use Rattle.walk_rules.specs.Questions.{Question, heads_of, Answer, told_heads}
 use Rattle.walk_rules.specs.Heads.{heads_on}
 use Rattle.walk_rules.specs.Answers.{answer_of}
