@@ -30,13 +30,16 @@
 //! the later one.
 #![tactic(auto)]
 
+mod adding;
 mod blocks;
+mod fitting;
 mod mask_writer;
 mod raising;
 mod removing;
 mod resizing;
 #[cfg(test)]
 mod tests;
+mod told;
 
 pub use blocks::Blocks;
 pub use mask_writer::MaskWriter;
