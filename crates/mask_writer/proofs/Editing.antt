@@ -31,7 +31,7 @@ module _ (mirror mirror2 : Mirror) (orders orders2 : List (Option Order)) (slot 
   order_own = let small = e.small in let long = e.told.long in
       ap (λ (xs : List (Option Order)). get_or xs slot None) e.changed ∙ get_or-set_same orders slot after None (omega arith)
 
-  order_other : (other : ℕ) → other ≢ slot → get_or orders2 other None ≡ get_or orders other None
+  pub order_other : (other : ℕ) → other ≢ slot → get_or orders2 other None ≡ get_or orders other None
   order_other other away = ap (λ (xs : List (Option Order)). get_or xs other None) e.changed ∙ get_or-set_other orders slot other after None away
 
   pub told_again : IsTold mirror2 orders2

@@ -6,3 +6,4 @@ pub mod Telling
 pub mod Showing
 pub mod Editing
 pub mod Standing
+pub mod Untouched

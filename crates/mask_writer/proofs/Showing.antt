@@ -126,7 +126,7 @@ module _ (writer : Masks) (mirror : Mirror) (orders : List (Option Order)) (show
   pub order_is : (slot : ℕ) (kept : KeptMask) → Stands mirror slot kept → order_at writer slot ≡ get_or orders slot None
   order_is slot kept s = ap order_in (standing_is slot kept s)
 
-  chain_is : (slot : ℕ) (kept : KeptMask) → Stands mirror slot kept → (bucket : ℕ) → bucket < kept.mask.size → chain_at writer slot bucket ≡ chain_of mirror kept.mask bucket
+  pub chain_is : (slot : ℕ) (kept : KeptMask) → Stands mirror slot kept → (bucket : ℕ) → bucket < kept.mask.size → chain_at writer slot bucket ≡ chain_of mirror kept.mask bucket
   chain_is slot kept s bucket less = ap (λ (x : Option Standing). chain_in x bucket) (standing_is slot kept s)
       ∙ get_or-map-range_with_len (chain_of mirror kept.mask) 0 kept.mask.size bucket bucket [] less (omega arith)
 

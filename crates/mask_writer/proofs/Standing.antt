@@ -22,6 +22,7 @@ use Rattle.mask_table.proofs.Buckets.{in_bucket}
 use Rattle.mask_mirror.specs.declared.mirror.KeptMask.{KeptMask}
 use Rattle.mask_mirror.specs.Linked.{Placed}
 use Rattle.mask_mirror.proofs.Keeping.{some_buckets}
+use Rattle.mask_mirror.proofs.Forgetting.{link_blocks}
 use Rattle.mask_order.specs.Fitting.{FitsBlock}
 use Rattle.mask_bucket_edits.proofs.Reading.{reads_as}
 use Rattle.mask_writer.specs.Masks.{Order, Masks}
@@ -78,6 +79,24 @@ module _ (shape : Shape) (cells : List ℕ) (size bucket : ℕ) where
   filed_link (p ∷ ps) are zero = let low = are.0.pool in omega arith
   filed_link (p ∷ ps) are (suc place) = filed_link ps are.1 place
 
+-- blocks with their filters are told by both
+same_placed : (ps qs : List Placed) → map (λ (p : Placed). p.block) ps ≡ map (λ (p : Placed). p.block) qs → map (λ (p : Placed). p.filter) ps ≡ map (λ (p : Placed). p.filter) qs → ps ≡ qs
+same_placed [] [] blocks filters = refl
+same_placed [] (q ∷ qs) blocks filters = absurd (cc blocks)
+same_placed (p ∷ ps) [] blocks filters = absurd (cc blocks)
+same_placed (p ∷ ps) (q ∷ qs) blocks filters = let block : p.block ≡ q.block = cc blocks in let filter : p.filter ≡ q.filter = cc filters in
+    let more : map (λ (p : Placed). p.block) ps ≡ map (λ (p : Placed). p.block) qs = cc blocks in let rest : map (λ (p : Placed). p.filter) ps ≡ map (λ (p : Placed). p.filter) qs = cc filters in
+    let all = same_placed ps qs more rest in λ t. record { block = block t; filter = filter t } ∷ all t
+
+-- a root tells the chain that it names
+pub same_chain : (shape : Shape) (cells cells2 : List ℕ) (roots roots2 : ℕ → Named) (root size bucket : ℕ) (ps qs : List Placed) → NamesChain shape cells roots root size bucket ps
+    → NamesChain shape cells2 roots2 root size bucket qs → (roots2 root).chain ≡ (roots root).chain → qs ≡ ps
+same_chain shape cells cells2 roots roots2 root size bucket ps qs one two same =
+    let links = sym two.named ∙ (same ∙ one.named) in
+    let read = sym (filed_read shape cells2 size bucket qs two.filed) ∙ (ap (read_all filter_in) links ∙ filed_read shape cells size bucket ps one.filed) in
+    let filters : map (λ (p : Placed). p.filter) qs ≡ map (λ (p : Placed). p.filter) ps = cc read in
+    same_placed qs ps (sym (link_blocks shape cells2 (map (λ (p : Placed). p.block) qs)) ∙ (ap (map (λ (l : Link). l.block)) links ∙ link_blocks shape cells (map (λ (p : Placed). p.block) ps))) filters
+
 module _ (writer : Masks) (shape : Shape) (cells : List ℕ) (roots : ℕ → Named) (named : AreNamed writer shape cells roots) (slot : ℕ) where
   module _ (kept : KeptMask) (stands : StandsAt writer slot kept) where
     -- the slot's root is read as the mask that stands
@@ -88,7 +107,7 @@ module _ (writer : Masks) (shape : Shape) (cells : List ℕ) (roots : ℕ → Na
     pub mask_storable : IsStorableMask kept.mask
     mask_storable = (named.masks slot kept stands).there.storable
 
-    chain_named : (bucket : ℕ) → bucket < kept.mask.size → NamesChain shape cells roots (bucket_root kept.mask bucket) kept.mask.size bucket (chain_at writer slot bucket)
+    pub chain_named : (bucket : ℕ) → bucket < kept.mask.size → NamesChain shape cells roots (bucket_root kept.mask bucket) kept.mask.size bucket (chain_at writer slot bucket)
     chain_named bucket less = named.buckets (bucket_root kept.mask bucket) (record { slot = slot; bucket = bucket; kept = kept; stands = stands; within = less; same = refl })
 
     -- each part of a bucket's chain can be linked to

@@ -1,6 +1,6 @@
 -- What stands at a writer of masks: the words in which its calls speak of what it is seen as (this project's own).
 use Rattle.block_codec.specs.declared.places.TheConstants.{MASK_SLOTS, POOL_BLOCKS, ROWS}
-use Rattle.std.specs.Prelude.{◌≡◌, ℕ, ◌<◌, ◌≤◌, List, [], ◌∷◌, length, map, slice_index_or, Option, Some, None, All, eqb}
+use Rattle.std.specs.Prelude.{◌≡◌, ◌≢◌, ℕ, ◌<◌, ◌≤◌, List, [], ◌∷◌, length, map, slice_index_or, Option, Some, None, All, eqb}
 use Rattle.std.specs.List.{IsDistinct}
 use Rattle.store_history.specs.declared.history.Named.{Named}
 use Rattle.pin_store.specs.declared.shape.Shape.{Shape}
@@ -26,17 +26,21 @@ abbrev pub chain_in : Option Standing → ℕ → List Placed
 chain_in None bucket = []
 chain_in (Some standing) bucket = slice_index_or standing.chains bucket []
 
+-- all that stands at a slot
+abbrev pub standing_at : Masks → ℕ → Option Standing
+standing_at writer slot = slice_index_or writer.at slot None
+
 -- the mask that stands at each slot, and the block of its record
 abbrev pub masks_of : Masks → List (Option KeptMask)
 masks_of writer = map mask_in writer.at
 
 -- the order of the filters of the mask at a slot, where it is told
 abbrev pub order_at : Masks → ℕ → Option Order
-order_at writer slot = order_in (slice_index_or writer.at slot None)
+order_at writer slot = order_in (standing_at writer slot)
 
 -- the filters of a bucket of the mask at a slot, in their blocks, the latest first
 abbrev pub chain_at : Masks → ℕ → ℕ → List Placed
-chain_at writer slot bucket = chain_in (slice_index_or writer.at slot None) bucket
+chain_at writer slot bucket = chain_in (standing_at writer slot) bucket
 
 -- this mask stands at the slot, with its record in this block
 abbrev pub StandsAt : Masks → ℕ → KeptMask → Type 0
@@ -45,6 +49,10 @@ StandsAt writer slot kept = slice_index_or (masks_of writer) slot None ≡ Some 
 -- no mask stands at the slot
 abbrev pub IsEmptyAt : Masks → ℕ → Type 0
 IsEmptyAt writer slot = slice_index_or (masks_of writer) slot None ≡ None
+
+-- at all other slots there stands what stood there, block by block
+abbrev pub OthersStay : Masks → Masks → ℕ → Type 0
+OthersStay before after slot = (other : ℕ) → other ≢ slot → standing_at after other ≡ standing_at before other
 
 -- the mask at the slot has these filters, in the order in which they came, and no edit after `last` has
 -- brought one of them: each bucket has its own, the latest first

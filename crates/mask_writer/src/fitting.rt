@@ -22,7 +22,7 @@ impl MaskWriter {
     ghost use Rattle.mask_mirror.specs.Given.{AreGiven};
     ghost use Rattle.mask_mirror.specs.Linked.{placed, resized, raise_commits};
     ghost use Rattle.mask_mirror.specs.Forgetting.{bucket_blocks};
-    ghost use Rattle.mask_writer.specs.Standing.{masks_of, order_at, StandsAt, Holds, AreNamed, AreFree};
+    ghost use Rattle.mask_writer.specs.Standing.{masks_of, order_at, StandsAt, Holds, OthersStay, AreNamed, AreFree};
 
     /// Gives the mask at a slot another number of buckets, in the given rows: fills the first given blocks with its
     /// filters, in order, and the one behind them with the new record, and makes the commits that name them: to
@@ -78,6 +78,7 @@ impl MaskWriter {
         ensures order { order_at self.new slot ≡ order_at self.old slot }
         ensures list { (last : ℕ) (fs : List StoredFilter) → Holds self.old slot last fs
             → Holds self.new slot last fs }
+        ensures untouched { OthersStay self.old self.new slot }
         ensures lists { (other last : ℕ) (fs : List StoredFilter) → other ≢ slot → Holds self.old other last fs
             → Holds self.new other last fs }
         ensures left { (kept : KeptMask) → StandsAt self.old slot kept → (self.new.left_blocks

@@ -55,7 +55,7 @@ impl MaskWriter {
     ghost use Rattle.mask_mirror.specs.Changing.{root_for, insert_at};
     ghost use Rattle.mask_mirror.specs.Forgetting.{bucket_blocks};
     ghost use Rattle.mask_writer.specs.Telling.{joined};
-    ghost use Rattle.mask_writer.specs.Standing.{masks_of, order_at, StandsAt, IsEmptyAt, Holds, AreNamed};
+    ghost use Rattle.mask_writer.specs.Standing.{masks_of, order_at, StandsAt, IsEmptyAt, Holds, OthersStay, AreNamed};
 
     /// Takes the room for the masks of a store of this shape. No mask stands. No other call takes memory.
     pub fn with_room(alloc: Global, _shape: Shape) -> Result<MaskWriter, NoMemory>
@@ -119,6 +119,7 @@ impl MaskWriter {
         // the mask has one filter more, the last, where no edit of this number or a later one brought one of them
         ensures list { (last : ℕ) (fs : List StoredFilter) → Holds self.old slot last fs → last < edit
             → Holds self.new slot edit (fs ++ filter.now ∷ []) }
+        ensures untouched { OthersStay self.old self.new slot }
         ensures lists { (other last : ℕ) (fs : List StoredFilter) → other ≢ slot → Holds self.old other last fs
             → Holds self.new other last fs }
         ensures left { (self.new.left_blocks ≡ []) × (self.new.left_rows ≡ []) }
@@ -149,6 +150,7 @@ impl MaskWriter {
         ensures gone { masks_of self.new ≡ slice_set (masks_of self.old) slot None }
         ensures kept { (shape : Shape) (cells : List ℕ) (roots : ℕ → Named) → AreNamed self.old shape cells roots
             → AreNamed self.new shape cells roots }
+        ensures untouched { OthersStay self.old self.new slot }
         ensures lists { (other last : ℕ) (fs : List StoredFilter) → other ≢ slot → Holds self.old other last fs
             → Holds self.new other last fs }
         ensures blocks { (kept : KeptMask) (shape : Shape) (cells : List ℕ) (roots : ℕ → Named)

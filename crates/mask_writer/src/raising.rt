@@ -12,7 +12,7 @@ ghost use Rattle.mask_table.specs.Buckets.{IsAmong};
 ghost use Rattle.mask_mirror.specs.Given.{AreGiven};
 ghost use Rattle.mask_mirror.specs.Linked.{placed, raise_commits};
 ghost use Rattle.mask_writer.specs.Telling.{begun};
-ghost use Rattle.mask_writer.specs.Standing.{masks_of, order_at, IsEmptyAt, Holds, AreNamed, AreFree};
+ghost use Rattle.mask_writer.specs.Standing.{masks_of, order_at, IsEmptyAt, Holds, OthersStay, AreNamed, AreFree};
 
 use crate::blocks::Blocks;
 use crate::mask_writer::MaskWriter;
@@ -72,6 +72,7 @@ impl MaskWriter {
             (Some (record { block = slice_index given.now.blocks 1; mask = mask.now })) }
         ensures order { order_at self.new slot ≡ begun (order_at self.old slot) (filter.now ∷ []) edit }
         ensures list { Holds self.new slot edit (filter.now ∷ []) }
+        ensures untouched { OthersStay self.old self.new slot }
         ensures lists { (other last : ℕ) (fs : List StoredFilter) → other ≢ slot → Holds self.old other last fs
             → Holds self.new other last fs }
         ensures left { (self.new.left_blocks ≡ []) × (self.new.left_rows ≡ []) }
@@ -135,6 +136,7 @@ impl MaskWriter {
             (Some (record { block = slice_index given.now.blocks (length filters.now); mask = mask.now })) }
         ensures order { order_at self.new slot ≡ begun (order_at self.old slot) filters.now edit }
         ensures list { Holds self.new slot edit filters.now }
+        ensures untouched { OthersStay self.old self.new slot }
         ensures lists { (other last : ℕ) (fs : List StoredFilter) → other ≢ slot → Holds self.old other last fs
             → Holds self.new other last fs }
         ensures left { (self.new.left_blocks ≡ []) × (self.new.left_rows ≡ []) }

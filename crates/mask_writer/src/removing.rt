@@ -27,7 +27,7 @@ impl MaskWriter {
     ghost use Rattle.mask_mirror.specs.Given.{AreGiven};
     ghost use Rattle.mask_mirror.specs.Changing.{FilterAt, root_for, remove_at, replace_at, HasNone};
     ghost use Rattle.mask_writer.specs.Telling.{without, exchanged};
-    ghost use Rattle.mask_writer.specs.Standing.{masks_of, order_at, StandsAt, Holds, AreNamed};
+    ghost use Rattle.mask_writer.specs.Standing.{masks_of, order_at, StandsAt, Holds, OthersStay, AreNamed};
 
     /// How many filters stand in front of the one with a handle in its bucket of the mask at a slot, which has such a filter: so many blocks are
     /// to be given to the removal of that filter. Nothing else is changed, and no commit is made.
@@ -88,6 +88,7 @@ impl MaskWriter {
         ensures list { (last : ℕ) (earlier : List StoredFilter) (filter : StoredFilter) (later : List StoredFilter)
             → Holds self.old slot last (earlier ++ filter ∷ later) → filter.handle ≡ handle → HasNone handle (earlier ++ later)
             → Holds self.new slot last (earlier ++ later) }
+        ensures untouched { OthersStay self.old self.new slot }
         ensures lists { (other last : ℕ) (fs : List StoredFilter) → other ≢ slot → Holds self.old other last fs
             → Holds self.new other last fs }
         ensures left_rows { self.new.left_rows ≡ [] }
@@ -153,6 +154,7 @@ impl MaskWriter {
         ensures list { (last : ℕ) (earlier : List StoredFilter) (old : StoredFilter) (later : List StoredFilter)
             → Holds self.old slot last (earlier ++ old ∷ later) → old.handle ≡ filter.now.handle → old.key.words ≡ filter.now.key.words
             → HasNone filter.now.handle (earlier ++ later) → Holds self.new slot last (earlier ++ filter.now ∷ later) }
+        ensures untouched { OthersStay self.old self.new slot }
         ensures lists { (other last : ℕ) (fs : List StoredFilter) → other ≢ slot → Holds self.old other last fs
             → Holds self.new other last fs }
         ensures left_rows { self.new.left_rows ≡ [] }

@@ -4,10 +4,12 @@ use Rattle.pin_store.specs.Calls.{seen_by, sheet_of}
 use Rattle.block_codec.specs.declared.filter.StoredFilter.{StoredFilter}
 use Rattle.mask_mirror.specs.declared.mirror.KeptMask.{KeptMask}
 use Rattle.mask_mirror.specs.Lists.{HasFilters}
+use Rattle.mask_mirror.specs.Linked.{placed}
 use Rattle.mask_writer.specs.Masks.{Order, Standing, Masks}
 use Rattle.mask_writer.specs.Telling.{begun, ended, joined, without, exchanged}
 use Rattle.mask_writer.proofs.Showing.{seen_as, masks_are, stands_kept, stands_shown, order_is, rows_kept, named_kept, named_shown, holds_kept}
 use Rattle.mask_writer.proofs.Editing.{told_again, order_after, holds_after, holds_others, begun_edit, ended_edit, joined_edit, without_edit, exchanged_edit, same_edit, joined_list, without_list, exchanged_list, same_list, told_before}
+use Rattle.mask_writer.proofs.Untouched.{others_stay, slots_same, slots_set, one_root, raised_roots}
 use Rattle.mask_writer.proofs.mask_writer.MaskWriter.build.Goals as goal
 
 pub make_mask-requires-clause-rows : goal.make_mask-requires-clause-rows
@@ -46,3 +48,12 @@ pub returns-clause-lists : goal.returns-clause-lists
 returns-clause-lists g c = let w = c.args.self.now in let m = c.self.inside.mirror in let os = c.self.inside.told.orders in let at = ap (λ (v : Masks). v.at) (sym c.self.view_is) in let slot = c.args.slot in let old = c.args.writer.now.place in let shape = c.args.store.now.shape in let m2 = c.make_mask.new.mirror in let os2 = c.with-self-inside.result.orders in let new = c.make_mask.new.writer.place in let w2 = seen_as m2 os2 c.clear.new.self c.clear-2.new.self in
     let e = begun_edit m m2 os os2 slot c.requires.slot c.self.invariant (shape, (sheet_of new).cells, root_of (seen_by new), c.make_mask.ensures.kept) c.make_mask.ensures.lists c.args.filters.now c.args.edit (c.with-self-inside.ensures ∙ ap (λ (fs : List StoredFilter). set os slot (begun (get_or os slot None) fs c.args.edit)) c.as_slice-all.ensures) (subst (HasFilters m2 slot c.args.edit) c.as_slice-all.ensures c.make_mask.ensures.list) in
     holds_others m m2 os os2 slot (begun (get_or os slot None) c.args.filters.now c.args.edit) e w2 refl w at
+
+pub returns-clause-untouched : goal.returns-clause-untouched
+returns-clause-untouched g c = let w = c.args.self.now in let m = c.self.inside.mirror in let os = c.self.inside.told.orders in let at = ap (λ (v : Masks). v.at) (sym c.self.view_is) in let slot = c.args.slot in let old = c.args.writer.now.place in let shape = c.args.store.now.shape in let m2 = c.make_mask.new.mirror in let os2 = c.with-self-inside.result.orders in let new = c.make_mask.new.writer.place in let w2 = seen_as m2 os2 c.clear.new.self c.clear-2.new.self in
+    let e = begun_edit m m2 os os2 slot c.requires.slot c.self.invariant (shape, (sheet_of new).cells, root_of (seen_by new), c.make_mask.ensures.kept) c.make_mask.ensures.lists c.args.filters.now c.args.edit (c.with-self-inside.ensures ∙ ap (λ (fs : List StoredFilter). set os slot (begun (get_or os slot None) fs c.args.edit)) c.as_slice-all.ensures) (subst (HasFilters m2 slot c.args.edit) c.as_slice-all.ensures c.make_mask.ensures.list) in
+    let bs = c.as_slice.result.now in let fs = c.as_slice-all.result.now in let b = get_or bs (length fs) 0 in
+    let keeps = named_kept w m os at shape (sheet_of old).cells (root_of (seen_by old)) c.self.invariant c.requires.kept in
+    others_stay m m2 os os2 slot (begun (get_or os slot None) c.args.filters.now c.args.edit) e w w2 at refl shape (sheet_of old).cells (sheet_of new).cells (root_of (seen_by old)) (root_of (seen_by new)) keeps c.make_mask.ensures.kept
+    (raised_roots m shape (sheet_of old).cells (seen_by old) (seen_by new) slot keeps c.requires.slot c.args.mask.now b (placed bs fs) c.args.edit c.requires.mask (rows_kept w m os at c.args.mask.now.rows c.requires.rows) c.make_mask.ensures.seen)
+    (slots_set m m2 slot (Some (record { block = b; mask = c.args.mask.now })) c.make_mask.ensures.masks)

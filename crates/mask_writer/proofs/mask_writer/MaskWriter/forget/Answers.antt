@@ -10,6 +10,7 @@ use Rattle.mask_writer.specs.Masks.{Order, Standing, Masks}
 use Rattle.mask_writer.specs.Telling.{begun, ended, joined, without, exchanged}
 use Rattle.mask_writer.proofs.Showing.{seen_as, masks_are, stands_kept, stands_shown, order_is, rows_kept, named_kept, named_shown, holds_kept, lists_forgotten}
 use Rattle.mask_writer.proofs.Editing.{told_again, order_after, holds_after, holds_others, begun_edit, ended_edit, joined_edit, without_edit, exchanged_edit, same_edit, joined_list, without_list, exchanged_list, same_list, told_before}
+use Rattle.mask_writer.proofs.Untouched.{others_stay, slots_same, slots_set, one_root, raised_roots}
 use Rattle.mask_writer.proofs.mask_writer.MaskWriter.forget.Goals as goal
 
 pub gather_mask-requires-clause-stands : goal.gather_mask-requires-clause-stands
@@ -45,3 +46,8 @@ returns-clause-blocks c = λ kept shape cells roots stands named. let w = c.args
 pub returns-clause-rows : goal.returns-clause-rows
 returns-clause-rows c = λ kept stands. let w = c.args.self.now in let m = c.self.inside.mirror in let os = c.self.inside.told.orders in let at = ap (λ (v : Masks). v.at) (sym c.self.view_is) in let slot = c.args.slot in
     c.gather_mask.ensures.rows kept (stands_kept w m os at slot kept stands)
+
+pub returns-clause-untouched : goal.returns-clause-untouched
+returns-clause-untouched c = let w = c.args.self.now in let m = c.self.inside.mirror in let os = c.self.inside.told.orders in let at = ap (λ (v : Masks). v.at) (sym c.self.view_is) in let slot = c.args.slot in let m2 = c.place.new.self in let os2 = c.with_none-self-inside.result.orders in let w2 = seen_as m2 os2 c.gather_mask.new.left c.gather_mask.new.rows in let f = c.place.ensures in
+    let k = c.self.invariant.kept in let kept2 : (shape : Shape) × (cells : List ℕ) × (roots : ℕ → Named) × IsKept m2 shape cells roots = (k.0, k.1, k.2, kept_forgotten m m2 slot c.requires.slot f.slots f.first f.next f.filters k.0 k.1 k.2 k.3) in let e = ended_edit m m2 os os2 slot c.requires.slot c.self.invariant kept2 (lists_forgotten m m2 slot f.slots f.first f.next f.filters f.ages) c.with_none-self-inside.ensures in
+    others_stay m m2 os os2 slot None e w w2 at refl k.0 k.1 k.1 k.2 k.2 k.3 kept2.3 (λ root b away. refl) (slots_set m m2 slot None f.slots)

@@ -1,13 +1,15 @@
-use Rattle.std.proofs.Common.{◌≡◌, ◌∙◌, ℕ, ◌+◌, ◌<◌, List, [], ◌∷◌, ◌++◌, map, set, get_or, Option, Some, None, refl, sym, ap, subst, length}
+use Rattle.std.proofs.Common.{◌≡◌, ◌∙◌, ℕ, ◌+◌, ◌<◌, List, [], ◌∷◌, ◌++◌, map, set, get_or, Option, Some, None, refl, sym, ap, subst, length, arith, get_or-set_same}
 use Rattle.store_history.specs.History.{root_of}
 use Rattle.pin_store.specs.Calls.{seen_by, sheet_of}
 use Rattle.block_codec.specs.declared.filter.StoredFilter.{StoredFilter}
 use Rattle.mask_mirror.specs.declared.mirror.KeptMask.{KeptMask}
-use Rattle.mask_mirror.specs.Linked.{resized}
+use Rattle.mask_mirror.specs.Linked.{placed, resized}
+use Rattle.mask_mirror.specs.Kept.{Stands}
 use Rattle.mask_writer.specs.Masks.{Order, Standing, Masks}
 use Rattle.mask_writer.specs.Telling.{begun, ended, joined, without, exchanged}
 use Rattle.mask_writer.proofs.Showing.{seen_as, masks_are, stands_kept, stands_shown, order_is, rows_kept, named_kept, named_shown, holds_kept, holds_again}
 use Rattle.mask_writer.proofs.Editing.{told_again, order_after, holds_after, holds_others, begun_edit, ended_edit, joined_edit, without_edit, exchanged_edit, same_edit, joined_list, without_list, exchanged_list, same_list, told_before}
+use Rattle.mask_writer.proofs.Untouched.{others_stay, slots_same, slots_set, one_root, raised_roots}
 use Rattle.mask_writer.proofs.mask_writer.MaskWriter.resize.Goals as goal
 
 pub resize_mask-requires-clause-rows : goal.resize_mask-requires-clause-rows
@@ -67,3 +69,15 @@ returns-clause-lists g c = let w = c.args.self.now in let m = c.self.inside.mirr
 pub returns-clause-left : goal.returns-clause-left
 returns-clause-left g c = λ kept stands. let w = c.args.self.now in let m = c.self.inside.mirror in let os = c.self.inside.told.orders in let at = ap (λ (v : Masks). v.at) (sym c.self.view_is) in let slot = c.args.slot in
     c.resize_mask.ensures.left kept (stands_kept w m os at slot kept stands)
+
+pub returns-clause-untouched : goal.returns-clause-untouched
+returns-clause-untouched g c = let w = c.args.self.now in let m = c.self.inside.mirror in let os = c.self.inside.told.orders in let at = ap (λ (v : Masks). v.at) (sym c.self.view_is) in let slot = c.args.slot in let old = c.args.writer.now.place in let shape = c.args.store.now.shape in let m2 = c.resize_mask.new.mirror in let os2 = os in let new = c.resize_mask.new.writer.place in let w2 = seen_as m2 os2 c.resize_mask.new.left_blocks c.resize_mask.new.left_rows in
+    let e = same_edit m m2 os os2 slot c.requires.slot c.self.invariant (shape, (sheet_of new).cells, root_of (seen_by new), c.resize_mask.ensures.kept) c.resize_mask.ensures.lists refl c.resize_mask.ensures.list in
+    let r = c.requires.there in let here = stands_kept w m os at slot r.0 r.3 in let has = holds_kept w m os at c.self.invariant slot r.1 r.2 r.4 in
+    let mask = resized r.0.mask c.args.size c.args.given.now.rows in let b = get_or c.args.given.now.blocks (length r.2) 0 in
+    let masks = c.resize_mask.ensures.masks r.0 r.1 r.2 here has in let long = m.slots_long in let small = c.requires.slot in
+    let there : Stands m2 slot (record { block = b; mask = mask }) = ap (λ (xs : List (Option KeptMask)). get_or xs slot None) masks ∙ get_or-set_same m.slots.items slot (Some (record { block = b; mask = mask })) None (omega arith) in
+    let keeps = named_kept w m os at shape (sheet_of old).cells (root_of (seen_by old)) c.self.invariant c.requires.kept in
+    others_stay m m2 os os2 slot (get_or os slot None) e w w2 at refl shape (sheet_of old).cells (sheet_of new).cells (root_of (seen_by old)) (root_of (seen_by new)) keeps c.resize_mask.ensures.kept
+    (raised_roots m shape (sheet_of old).cells (seen_by old) (seen_by new) slot keeps c.requires.slot mask b (placed c.args.given.now.blocks r.2) c.args.stamp (c.resize_mask.ensures.kept.masks slot (record { block = b; mask = mask }) there).there.storable (rows_kept w m os at c.args.given.now.rows c.requires.rows) (c.resize_mask.ensures.seen r.0 r.1 r.2 here has))
+    (slots_set m m2 slot (Some (record { block = b; mask = mask })) masks)
