@@ -1,5 +1,5 @@
 -- A writer whose masks were edited at one slot: its orders stay those of the ages, and what is seen of it.
-use Rattle.std.proofs.Common.{◌≡◌, ◌≢◌, ◌∙◌, ℕ, ◌+◌, ◌<◌, ◌≤◌, Bool, true, false, eqb, List, [], ◌∷◌, ◌++◌, length, set, get_or, Option, Some, None, refl, sym, ap, subst, arith, eqb-true, get_or-set_other, get_or-set_same}
+use Rattle.std.proofs.Common.{◌≡◌, ◌≢◌, ◌∙◌, ℕ, ◌<◌, ◌≤◌, Bool, true, false, eqb, List, [], ◌∷◌, ◌++◌, length, set, get_or, Option, Some, None, refl, sym, ap, subst, arith, eqb-true, get_or-set_other, get_or-set_same}
 use Rattle.std.proofs.lemmas.Bool.{eqb-false}
 use Rattle.std.proofs.lemmas.List.{length-set, set-get_or}
 use Rattle.store_history.specs.declared.history.Named.{Named}
@@ -13,9 +13,9 @@ use Rattle.mask_mirror.specs.Changing.{HasNone}
 use Rattle.mask_writer.specs.Masks.{Order, Masks}
 use Rattle.mask_writer.specs.Telling.{begun, ended, joined, without, exchanged}
 use Rattle.mask_writer.specs.Shown.{all_standing, IsTold}
-use Rattle.mask_writer.specs.Standing.{order_at, StandsAt, Holds}
+use Rattle.mask_writer.specs.Standing.{order_at, Holds}
 use Rattle.mask_writer.proofs.Telling.{joined_known, joined_from, without_from, without_known, exchanged_from, exchanged_known, key_is}
-use Rattle.mask_writer.proofs.Showing.{stands_kept, order_is, holds_kept, holds_shown}
+use Rattle.mask_writer.proofs.Showing.{stands_kept, order_is, holds_shown}
 
 -- what becomes of the arrays and of the orders as the mask at a slot is edited, and its order comes to be another
 pub record IsEdit (mirror mirror2 : Mirror) (orders orders2 : List (Option Order)) (slot : ℕ) (after : Option Order) : Type 0 where

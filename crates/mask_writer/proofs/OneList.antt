@@ -1,6 +1,5 @@
 -- A mask has its filters in one order alone.
-use Rattle.std.proofs.Common.{◌≡◌, ◌∙◌, ℕ, zero, suc, ◌+◌, ◌<◌, ◌≤◌, ◌⊎◌, inl, inr, Bool, true, false, cond, eqb, List, [], ◌∷◌, length, map, get_or, slice_get, Option, Some, refl, sym, ap, subst, arith, eq-eqb}
-use Rattle.std.proofs.lemmas.Option.{slice_get_within}
+use Rattle.std.proofs.Common.{◌≡◌, ◌∙◌, ℕ, zero, suc, ◌+◌, ◌<◌, ◌≤◌, ◌⊎◌, inl, inr, Bool, true, false, cond, eqb, List, [], ◌∷◌, map, get_or, slice_get, Option, Some, refl, sym, ap, subst, arith, eq-eqb}
 use Rattle.store_history.specs.declared.history.Named.{Named}
 use Rattle.pin_store.specs.declared.shape.Shape.{Shape}
 use Rattle.block_codec.specs.declared.filter.StoredFilter.{StoredFilter}

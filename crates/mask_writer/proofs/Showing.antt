@@ -7,7 +7,6 @@ use Rattle.store_history.specs.declared.history.Named.{Named}
 use Rattle.pin_store.specs.declared.shape.Shape.{Shape}
 use Rattle.pin_store.specs.Layout.{block_words, links_of, first_of, block_in}
 use Rattle.block_codec.specs.declared.filter.StoredFilter.{StoredFilter}
-use Rattle.block_codec.specs.declared.mask.StoredMask.{StoredMask}
 use Rattle.block_codec.specs.Filters.{IsFilterBlock}
 use Rattle.mask_table.specs.Buckets.{bucket_root, bucket_of}
 use Rattle.mask_mirror.specs.declared.mirror.Mirror.{Mirror}
@@ -15,7 +14,7 @@ use Rattle.mask_mirror.specs.declared.mirror.KeptMask.{KeptMask}
 use Rattle.mask_mirror.specs.Kept.{bucket_at, Stands, Spells, HoldFilters, HoldsChain, BucketAt, KeepsBucket, IsKept}
 use Rattle.mask_mirror.specs.Given.{AreFreeRows}
 use Rattle.mask_mirror.specs.Linked.{Placed}
-use Rattle.mask_mirror.specs.Lists.{Dated, age_of, kept_in, dated_in, HasFilters}
+use Rattle.mask_mirror.specs.Lists.{Dated, age_of, kept_in, HasFilters}
 use Rattle.mask_mirror.proofs.Chains.{one_behind}
 use Rattle.mask_mirror.proofs.Spelling.{few_blocks}
 use Rattle.mask_mirror.proofs.Dates.{rises_higher}
@@ -25,7 +24,7 @@ use Rattle.mask_order.proofs.Placing.{dated_filters}
 use Rattle.mask_writer.proofs.OneList.{one_list}
 use Rattle.mask_writer.specs.Masks.{Order, Standing, Masks}
 use Rattle.mask_writer.specs.Shown.{with_block, followed, chain_of, standing_of, all_standing, IsTold}
-use Rattle.mask_writer.specs.Standing.{mask_in, order_in, chain_in, masks_of, order_at, chain_at, StandsAt, Holds, IsFiled, first_in, AreFiled, BucketOf, NamesChain, AreNamed, AreFree}
+use Rattle.mask_writer.specs.Standing.{mask_in, order_in, chain_in, masks_of, order_at, chain_at, StandsAt, Holds, first_in, AreFiled, BucketOf, NamesChain, AreNamed, AreFree}
 
 -- ---- slot by slot
 at_slot : (mirror : Mirror) (slots : List (Option KeptMask)) (orders : List (Option Order)) (k : ℕ)

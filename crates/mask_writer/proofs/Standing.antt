@@ -1,6 +1,6 @@
 -- What follows from the words for what stands at a writer: a slot has one mask and one list of filters, and what
 -- roots name is read as these.
-use Rattle.std.proofs.Common.{◌≡◌, ◌∙◌, ℕ, zero, suc, ◌<◌, ◌≤◌, List, [], ◌∷◌, length, map, drop, slice_get, get_or, Option, Some, refl, sym, ap, subst, arith}
+use Rattle.std.proofs.Common.{◌≡◌, ◌∙◌, ℕ, zero, suc, ◌<◌, ◌≤◌, List, [], ◌∷◌, length, map, drop, slice_get, get_or, Some, refl, sym, ap, subst, arith}
 use Rattle.std.specs.List.{All}
 use Rattle.std.proofs.lemmas.List.{length-map}
 use Rattle.std.proofs.lemmas.Option.{slice_get-get_or}
@@ -17,7 +17,7 @@ use Rattle.block_codec.specs.Blocks.{IsLink}
 use Rattle.block_codec.specs.Masks.{IsStorableMask}
 use Rattle.block_reading.specs.Read.{filter_in, mask_of_words}
 use Rattle.block_reading.proofs.MaskReads.{mask_block_reads}
-use Rattle.mask_table.specs.Buckets.{IsAmong, mask_root, bucket_root, bucket_for, bucket_of}
+use Rattle.mask_table.specs.Buckets.{mask_root, bucket_root, bucket_for, bucket_of}
 use Rattle.mask_table.proofs.Buckets.{in_bucket}
 use Rattle.mask_mirror.specs.declared.mirror.KeptMask.{KeptMask}
 use Rattle.mask_mirror.specs.Linked.{Placed}

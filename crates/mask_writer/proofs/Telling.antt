@@ -1,10 +1,9 @@
 -- What is told of the order of a mask's filters as an edit is made, and what was known of it before.
-use Rattle.std.proofs.Common.{◌≡◌, ◌≢◌, ◌∙◌, ℕ, zero, suc, ◌<◌, ◌≤◌, Bool, true, false, not, ◌&&◌, ltb, eqb, List, [], ◌∷◌, ◌++◌, Option, Some, None, if◌then◌else◌, refl, sym, ap, ltb-true, lt-ltb, eqb-true, eq-eqb, ne_eqb}
+use Rattle.std.proofs.Common.{◌≡◌, ◌≢◌, ◌∙◌, ℕ, zero, suc, ◌<◌, Bool, true, false, not, ◌&&◌, ltb, eqb, List, [], ◌∷◌, ◌++◌, Option, Some, None, if◌then◌else◌, refl, ap, ltb-true, lt-ltb, eqb-true, eq-eqb, ne_eqb}
 use Rattle.std.specs.Prelude.{option_map, bytes_eq, slice_get}
 use Rattle.std.proofs.lemmas.Bool.{eqb-false}
 use Rattle.std.proofs.lemmas.Slice.Eq.{bytes_eq-Decides}
 use Rattle.block_codec.specs.declared.filter.StoredFilter.{StoredFilter}
-use Rattle.mask_table.specs.Buckets.{IsAmong}
 use Rattle.mask_mirror.specs.Changing.{HasNone}
 use Rattle.mask_writer.specs.Masks.{Order}
 use Rattle.mask_writer.specs.Telling.{joined, lacks, rewritten, with_filters, without, exchanged}
@@ -113,7 +112,7 @@ module _ (meets : StoredFilter → Bool) (handle : ℕ) (more : List StoredFilte
       ∙ (λ t. if met t && lack t then Some (more ++ later) else None)
   rewritten_known (f ∷ fs) old later named met none =
       ap (λ (t : Bool). if t then (if meets f && lacks handle (fs ++ old ∷ later) then Some (more ++ (fs ++ old ∷ later)) else None) else option_map (λ hs. f ∷ hs) (rewritten meets handle more (fs ++ old ∷ later)))
-          (ne_eqb f.handle handle (none f (0, refl)))
+      (ne_eqb f.handle handle (none f (0, refl)))
       ∙ ap (option_map (λ hs. f ∷ hs)) (rewritten_known fs old later named met (λ g i. none g (suc i.0, i.1)))
 
 -- ---- the order with one filter rewritten

@@ -1,6 +1,6 @@
 -- What stands at other slots is seen as before: the commits of an edit name the roots of no other mask, and these
 -- tell its chains.
-use Rattle.std.proofs.Common.{◌≡◌, ◌≢◌, ◌∙◌, ℕ, ◌+◌, ◌<◌, ◌≤◌, List, [], ◌∷◌, ◌++◌, map, set, get_or, Option, Some, None, refl, sym, ap, subst, arith, get_or-set_other}
+use Rattle.std.proofs.Common.{◌≡◌, ◌≢◌, ◌∙◌, ℕ, ◌<◌, List, [], ◌∷◌, ◌++◌, map, set, get_or, Option, Some, None, refl, sym, ap, subst, arith, get_or-set_other}
 use Rattle.std.specs.List.{range_with_len}
 use Rattle.std.proofs.lemmas.List.FromFn.{fill_by_all, get_or-map-range_with_len, length-map-range_with_len}
 use Rattle.store_history.specs.declared.history.Named.{Named}
@@ -10,7 +10,7 @@ use Rattle.store_history.proofs.Histories.{root_other}
 use Rattle.pin_store.specs.declared.shape.Shape.{Shape}
 use Rattle.block_codec.specs.declared.mask.StoredMask.{StoredMask}
 use Rattle.block_codec.specs.Masks.{IsStorableMask}
-use Rattle.mask_table.specs.Buckets.{mask_root, bucket_root}
+use Rattle.mask_table.specs.Buckets.{bucket_root}
 use Rattle.mask_mirror.specs.declared.mirror.Mirror.{Mirror}
 use Rattle.mask_mirror.specs.declared.mirror.KeptMask.{KeptMask}
 use Rattle.mask_mirror.specs.Kept.{Stands, BucketAt, IsKept}
@@ -21,7 +21,7 @@ use Rattle.mask_build.proofs.Aside.{bucket_aside}
 use Rattle.mask_build.proofs.Committing.{commits_all, other_root}
 use Rattle.mask_writer.specs.Masks.{Order, Masks}
 use Rattle.mask_writer.specs.Shown.{chain_of, standing_of, all_standing}
-use Rattle.mask_writer.specs.Standing.{standing_at, OthersStay}
+use Rattle.mask_writer.specs.Standing.{OthersStay}
 use Rattle.mask_writer.proofs.Showing.{slot_is, chain_is, stands_shown, named_shown}
 use Rattle.mask_writer.proofs.Standing.{chain_named, same_chain}
 use Rattle.mask_writer.proofs.Editing.{IsEdit, order_other}

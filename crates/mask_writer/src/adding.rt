@@ -52,12 +52,12 @@ pub(crate) fn insert_filter<L: Law, E: EditName<L::Entry>>(
         (root_of (seen_by writer.old.place)) }
     requires lawful { (kept : KeptMask) → Stands mirror.old slot kept → L.keeps
         (seen_by writer.old.place ++ insert_at (seen_by writer.old.place) (root_for kept.mask filter.now)
-            (slice_index given.now.blocks 0) filter.now edit E.edit ∷ [])
+        (slice_index given.now.blocks 0) filter.now edit E.edit ∷ [])
         (base_of (sheet_of writer.old.place)) }
     ensures store { IsSeatOf store.now writer.new.place }
     ensures seen { (kept : KeptMask) → Stands mirror.old slot kept → seen_by writer.new.place
         ≡ seen_by writer.old.place ++ insert_at (seen_by writer.old.place) (root_for kept.mask filter.now)
-            (slice_index given.now.blocks 0) filter.now edit E.edit ∷ [] }
+        (slice_index given.now.blocks 0) filter.now edit E.edit ∷ [] }
     ensures sheet { IsSameButCells (sheet_of writer.old.place) (sheet_of writer.new.place) }
     ensures others { (other : ℕ) → other ≢ slice_index given.now.blocks 0 → other < store.now.shape.blocks
         → block_words store.now.shape (sheet_of writer.new.place).cells other
@@ -67,7 +67,8 @@ pub(crate) fn insert_filter<L: Law, E: EditName<L::Entry>>(
     ensures masks { mirror.new.slots.items ≡ mirror.old.slots.items }
     ensures list { (last : ℕ) (fs : List StoredFilter) → HasFilters mirror.old slot last fs → last < edit
         → HasFilters mirror.new slot edit (fs ++ filter.now ∷ []) }
-    ensures lists { (other last : ℕ) (fs : List StoredFilter) → other ≢ slot → HasFilters mirror.old other last fs
+    ensures lists { (other last : ℕ) (fs : List StoredFilter) → other ≢ slot
+        → HasFilters mirror.old other last fs
         → HasFilters mirror.new other last fs }
 {
     let block = given.blocks.as_slice()[0];

@@ -24,13 +24,13 @@ impl MaskWriter {
     ghost use Rattle.mask_mirror.specs.Forgetting.{bucket_blocks};
     ghost use Rattle.mask_writer.specs.Standing.{masks_of, order_at, StandsAt, Holds, OthersStay, AreNamed, AreFree};
 
-    /// Gives the mask at a slot another number of buckets, in the given rows: fills the first given blocks with its
-    /// filters, in order, and the one behind them with the new record, and makes the commits that name them: to
-    /// the root of each bucket, the empty ones too, and then to the slot's. They carry no number. The old blocks
-    /// and rows have left then.
+    /// Gives the mask at a slot another number of buckets, in the given rows: fills the first given blocks
+    /// with its filters, in order, and the one behind them with the new record, and makes the commits that
+    /// name them: to the root of each bucket, the empty ones too, and then to the slot's. They carry no
+    /// number. The old blocks and rows have left then.
     ///
-    /// A mask stands at the slot, its filters are kept in order, and no mask has one of the given rows. The law must
-    /// hold of all commits with each first part of these.
+    /// A mask stands at the slot, its filters are kept in order, and no mask has one of the given rows. The
+    /// law must hold of all commits with each first part of these.
     pub fn resize<L: Law, E: EditName<L::Entry>>(
         &mut self,
         writer: &mut Writer<L>,
@@ -46,7 +46,8 @@ impl MaskWriter {
         requires slot { slot < MASK_SLOTS }
         requires size { IsTrue (is_size size) × (size ≡ 16 * length given.now.rows) }
         requires rows { AreFree self.old given.now.rows }
-        requires there { (kept : KeptMask) × (last : ℕ) × (fs : List StoredFilter) × StandsAt self.old slot kept
+        requires there { (kept : KeptMask) × (last : ℕ) × (fs : List StoredFilter)
+            × StandsAt self.old slot kept
             × Holds self.old slot last fs }
         requires many { (last : ℕ) (fs : List StoredFilter) → Holds self.old slot last fs
             → length given.now.blocks ≡ length fs + 1 }
@@ -57,14 +58,14 @@ impl MaskWriter {
         requires lawful { (kept : KeptMask) (last : ℕ) (fs : List StoredFilter) (n : ℕ)
             → StandsAt self.old slot kept → Holds self.old slot last fs
             → L.keeps (seen_by writer.old.place ++ take n (raise_commits slot
-                (resized kept.mask size given.now.rows) (slice_index given.now.blocks (length fs))
-                (placed given.now.blocks fs) stamp))
+            (resized kept.mask size given.now.rows) (slice_index given.now.blocks (length fs))
+            (placed given.now.blocks fs) stamp))
             (base_of (sheet_of writer.old.place)) }
         ensures store { IsSeatOf store.now writer.new.place }
         ensures seen { (kept : KeptMask) (last : ℕ) (fs : List StoredFilter) → StandsAt self.old slot kept
             → Holds self.old slot last fs → seen_by writer.new.place ≡ seen_by writer.old.place
             ++ raise_commits slot (resized kept.mask size given.now.rows)
-                (slice_index given.now.blocks (length fs)) (placed given.now.blocks fs) stamp }
+            (slice_index given.now.blocks (length fs)) (placed given.now.blocks fs) stamp }
         ensures sheet { IsSameButCells (sheet_of writer.old.place) (sheet_of writer.new.place) }
         ensures others { (other : ℕ) → (IsAmong other given.now.blocks → ⊥) → other < store.now.shape.blocks
             → block_words store.now.shape (sheet_of writer.new.place).cells other
@@ -73,16 +74,19 @@ impl MaskWriter {
             (root_of (seen_by writer.new.place)) }
         ensures masks { (kept : KeptMask) (last : ℕ) (fs : List StoredFilter) → StandsAt self.old slot kept
             → Holds self.old slot last fs → masks_of self.new ≡ slice_set (masks_of self.old) slot
-                (Some (record { block = slice_index given.now.blocks (length fs);
-                    mask = resized kept.mask size given.now.rows })) }
+            (Some (record {
+              block = slice_index given.now.blocks (length fs);
+              mask = resized kept.mask size given.now.rows;
+            })) }
         ensures order { order_at self.new slot ≡ order_at self.old slot }
         ensures list { (last : ℕ) (fs : List StoredFilter) → Holds self.old slot last fs
             → Holds self.new slot last fs }
         ensures untouched { OthersStay self.old self.new slot }
-        ensures lists { (other last : ℕ) (fs : List StoredFilter) → other ≢ slot → Holds self.old other last fs
+        ensures lists { (other last : ℕ) (fs : List StoredFilter) → other ≢ slot
+            → Holds self.old other last fs
             → Holds self.new other last fs }
         ensures left { (kept : KeptMask) → StandsAt self.old slot kept → (self.new.left_blocks
-                ≡ kept.block ∷ bucket_blocks (root_of (seen_by writer.old.place)) kept.mask kept.mask.size)
+            ≡ kept.block ∷ bucket_blocks (root_of (seen_by writer.old.place)) kept.mask kept.mask.size)
             × (self.new.left_rows ≡ kept.mask.rows) }
     {
         resize_mask::<L, E>(

@@ -2,8 +2,8 @@
 ghost use Rattle.std.specs.Prelude.{◌≡◌, ◌≤◌, ℕ, None, IfOk};
 ghost use Rattle.mask_mirror.specs.declared.mirror.KeptMask.{KeptMask};
 
-use crate::blocks::Blocks;
 use crate::adding::insert_filter;
+use crate::blocks::Blocks;
 use crate::told::{Ended, Joined, Told};
 use block_codec::StoredFilter;
 use mask_mirror::{Mirror, NumberRoom, gather_mask};
@@ -33,9 +33,9 @@ impl Model for MaskWriter {
     ghost Value = { Masks };
 
     ghost view = { λ w. record {
-        at = all_standing w.mirror w.mirror.slots.items w.told.orders;
-        left_blocks = w.left_blocks;
-        left_rows = w.left_rows;
+      at = all_standing w.mirror w.mirror.slots.items w.told.orders;
+      left_blocks = w.left_blocks;
+      left_rows = w.left_rows;
     } };
 
     ghost invariant = { λ w. IsTold w.mirror w.told.orders };
@@ -76,8 +76,8 @@ impl MaskWriter {
         })
     }
 
-    /// Puts a filter into the mask at a slot: fills the given block, and makes the one commit that names it in
-    /// front of the chain of its bucket. The commit carries the edit that `E` names, under its number.
+    /// Puts a filter into the mask at a slot: fills the given block, and makes the one commit that names it
+    /// in front of the chain of its bucket. The commit carries the edit that `E` names, under its number.
     ///
     /// The mask has no filter with that handle or key. The law must hold of all commits with this one.
     pub fn insert<L: Law, E: EditName<L::Entry>>(
@@ -102,12 +102,12 @@ impl MaskWriter {
             (root_of (seen_by writer.old.place)) }
         requires lawful { (kept : KeptMask) → StandsAt self.old slot kept → L.keeps
             (seen_by writer.old.place ++ insert_at (seen_by writer.old.place) (root_for kept.mask filter.now)
-                (slice_index given.now.blocks 0) filter.now edit E.edit ∷ [])
+            (slice_index given.now.blocks 0) filter.now edit E.edit ∷ [])
             (base_of (sheet_of writer.old.place)) }
         ensures store { IsSeatOf store.now writer.new.place }
         ensures seen { (kept : KeptMask) → StandsAt self.old slot kept → seen_by writer.new.place
             ≡ seen_by writer.old.place ++ insert_at (seen_by writer.old.place) (root_for kept.mask filter.now)
-                (slice_index given.now.blocks 0) filter.now edit E.edit ∷ [] }
+            (slice_index given.now.blocks 0) filter.now edit E.edit ∷ [] }
         ensures sheet { IsSameButCells (sheet_of writer.old.place) (sheet_of writer.new.place) }
         ensures others { (other : ℕ) → other ≢ slice_index given.now.blocks 0 → other < store.now.shape.blocks
             → block_words store.now.shape (sheet_of writer.new.place).cells other
@@ -116,11 +116,13 @@ impl MaskWriter {
             (root_of (seen_by writer.new.place)) }
         ensures masks { masks_of self.new ≡ masks_of self.old }
         ensures order { order_at self.new slot ≡ joined (order_at self.old slot) (filter.now ∷ []) edit }
-        // the mask has one filter more, the last, where no edit of this number or a later one brought one of them
+        // the mask has one filter more, the last, where no edit of this number or a later one brought one of
+        // them
         ensures list { (last : ℕ) (fs : List StoredFilter) → Holds self.old slot last fs → last < edit
             → Holds self.new slot edit (fs ++ filter.now ∷ []) }
         ensures untouched { OthersStay self.old self.new slot }
-        ensures lists { (other last : ℕ) (fs : List StoredFilter) → other ≢ slot → Holds self.old other last fs
+        ensures lists { (other last : ℕ) (fs : List StoredFilter) → other ≢ slot
+            → Holds self.old other last fs
             → Holds self.new other last fs }
         ensures left { (self.new.left_blocks ≡ []) × (self.new.left_rows ≡ []) }
     {
@@ -140,18 +142,20 @@ impl MaskWriter {
         self.told = self.told.with::<Joined>(slot, one, edit);
     }
 
-    /// Takes the mask at a slot out of the writer. It makes no commit: the caller sees to it that no head names
-    /// the slot any more.
+    /// Takes the mask at a slot out of the writer. It makes no commit: the caller sees to it that no head
+    /// names the slot any more.
     pub fn forget(&mut self, slot: u32)
         requires slot { slot < MASK_SLOTS }
         requires stands { (kept : KeptMask) × StandsAt self.old slot kept }
         requires kept { (shape : Shape) × (cells : List ℕ) × (roots : ℕ → Named)
             × AreNamed self.old shape cells roots }
         ensures gone { masks_of self.new ≡ slice_set (masks_of self.old) slot None }
-        ensures kept { (shape : Shape) (cells : List ℕ) (roots : ℕ → Named) → AreNamed self.old shape cells roots
+        ensures kept { (shape : Shape) (cells : List ℕ) (roots : ℕ → Named)
+            → AreNamed self.old shape cells roots
             → AreNamed self.new shape cells roots }
         ensures untouched { OthersStay self.old self.new slot }
-        ensures lists { (other last : ℕ) (fs : List StoredFilter) → other ≢ slot → Holds self.old other last fs
+        ensures lists { (other last : ℕ) (fs : List StoredFilter) → other ≢ slot
+            → Holds self.old other last fs
             → Holds self.new other last fs }
         ensures blocks { (kept : KeptMask) (shape : Shape) (cells : List ℕ) (roots : ℕ → Named)
             → StandsAt self.old slot kept → AreNamed self.old shape cells roots

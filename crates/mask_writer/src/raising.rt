@@ -26,12 +26,12 @@ use store_history::{EditName, Law};
 use tc_base::Point;
 
 impl MaskWriter {
-    /// Makes a mask with one filter at a slot: fills the first given block with the filter and the second with the
-    /// mask's record, and makes the commits that name them: to the root of each bucket, the empty ones too, and
-    /// then to the slot's. They carry no number, and `edit` is their stamp.
+    /// Makes a mask with one filter at a slot: fills the first given block with the filter and the second
+    /// with the mask's record, and makes the commits that name them: to the root of each bucket, the empty
+    /// ones too, and then to the slot's. They carry no number, and `edit` is their stamp.
     ///
-    /// No mask stands at the slot, and none has one of the mask's rows. The law must hold of all commits with each
-    /// first part of these.
+    /// No mask stands at the slot, and none has one of the mask's rows. The law must hold of all commits with
+    /// each first part of these.
     pub fn create<L: Law, E: EditName<L::Entry>>(
         &mut self,
         writer: &mut Writer<L>,
@@ -51,12 +51,13 @@ impl MaskWriter {
         requires rows { AreFree self.old mask.now.rows }
         requires storable { IsStorableFilter filter.now }
         requires many { length given.now.blocks ≡ 2 }
-        requires given { AreGiven (base_of (sheet_of writer.old.place)) (seen_by writer.old.place) given.now.blocks }
+        requires given { AreGiven (base_of (sheet_of writer.old.place))
+            (seen_by writer.old.place) given.now.blocks }
         requires kept { AreNamed self.old store.now.shape (sheet_of writer.old.place).cells
             (root_of (seen_by writer.old.place)) }
         requires lawful { (n : ℕ) → L.keeps (seen_by writer.old.place
-                ++ take n (raise_commits slot mask.now (slice_index given.now.blocks 1)
-                (placed given.now.blocks (filter.now ∷ [])) edit))
+            ++ take n (raise_commits slot mask.now (slice_index given.now.blocks 1)
+            (placed given.now.blocks (filter.now ∷ [])) edit))
             (base_of (sheet_of writer.old.place)) }
         ensures store { IsSeatOf store.now writer.new.place }
         ensures seen { seen_by writer.new.place ≡ seen_by writer.old.place
@@ -73,7 +74,8 @@ impl MaskWriter {
         ensures order { order_at self.new slot ≡ begun (order_at self.old slot) (filter.now ∷ []) edit }
         ensures list { Holds self.new slot edit (filter.now ∷ []) }
         ensures untouched { OthersStay self.old self.new slot }
-        ensures lists { (other last : ℕ) (fs : List StoredFilter) → other ≢ slot → Holds self.old other last fs
+        ensures lists { (other last : ℕ) (fs : List StoredFilter) → other ≢ slot
+            → Holds self.old other last fs
             → Holds self.new other last fs }
         ensures left { (self.new.left_blocks ≡ []) × (self.new.left_rows ≡ []) }
     {
@@ -94,8 +96,8 @@ impl MaskWriter {
         self.told = self.told.with::<Begun>(slot, one, edit);
     }
 
-    /// Makes a mask with some filters at a slot, one or more, as `create` does with one: the first given blocks are
-    /// for the filters, in order, and the one behind them for the mask's record.
+    /// Makes a mask with some filters at a slot, one or more, as `create` does with one: the first given
+    /// blocks are for the filters, in order, and the one behind them for the mask's record.
     pub fn build<L: Law, E: EditName<L::Entry>>(
         &mut self,
         writer: &mut Writer<L>,
@@ -115,12 +117,13 @@ impl MaskWriter {
         requires rows { AreFree self.old mask.now.rows }
         requires storable { All IsStorableFilter filters.now }
         requires many { length given.now.blocks ≡ length filters.now + 1 }
-        requires given { AreGiven (base_of (sheet_of writer.old.place)) (seen_by writer.old.place) given.now.blocks }
+        requires given { AreGiven (base_of (sheet_of writer.old.place))
+            (seen_by writer.old.place) given.now.blocks }
         requires kept { AreNamed self.old store.now.shape (sheet_of writer.old.place).cells
             (root_of (seen_by writer.old.place)) }
         requires lawful { (n : ℕ) → L.keeps (seen_by writer.old.place
-                ++ take n (raise_commits slot mask.now (slice_index given.now.blocks (length filters.now))
-                (placed given.now.blocks filters.now) edit))
+            ++ take n (raise_commits slot mask.now (slice_index given.now.blocks (length filters.now))
+            (placed given.now.blocks filters.now) edit))
             (base_of (sheet_of writer.old.place)) }
         ensures store { IsSeatOf store.now writer.new.place }
         ensures seen { seen_by writer.new.place ≡ seen_by writer.old.place
@@ -137,7 +140,8 @@ impl MaskWriter {
         ensures order { order_at self.new slot ≡ begun (order_at self.old slot) filters.now edit }
         ensures list { Holds self.new slot edit filters.now }
         ensures untouched { OthersStay self.old self.new slot }
-        ensures lists { (other last : ℕ) (fs : List StoredFilter) → other ≢ slot → Holds self.old other last fs
+        ensures lists { (other last : ℕ) (fs : List StoredFilter) → other ≢ slot
+            → Holds self.old other last fs
             → Holds self.new other last fs }
         ensures left { (self.new.left_blocks ≡ []) × (self.new.left_rows ≡ []) }
     {

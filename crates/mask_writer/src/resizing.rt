@@ -54,8 +54,9 @@ fn behind_first(blocks: &[u32]) -> &[u32]
     &blocks[1..]
 }
 
-// Lays the filters of the mask at a slot once more, in order, into given blocks, for a mask whose rows are free, and
-// answers how many they are. The blocks and rows that the mask at the slot has are told as those that leave.
+// Lays the filters of the mask at a slot once more, in order, into given blocks, for a mask whose rows are
+// free, and answers how many they are. The blocks and rows that the mask at the slot has are told as those
+// that leave.
 fn relay<L: Law>(
     room: &mut NumberRoom,
     left_blocks: &mut NumberRoom,
@@ -86,16 +87,17 @@ fn relay<L: Law>(
         → block_words store.now.shape (sheet_of writer.new.place).cells other
         ≡ block_words store.now.shape (sheet_of writer.old.place).cells other }
     ensures masks { mirror.new.slots.items ≡ mirror.old.slots.items }
-    ensures count { (last : ℕ) (fs : List StoredFilter) → HasFilters mirror.old slot last fs → result ≡ length fs }
+    ensures count { (last : ℕ) (fs : List StoredFilter) → HasFilters mirror.old slot last fs
+        → result ≡ length fs }
     ensures laid { (last : ℕ) (fs : List StoredFilter) (has : HasFilters mirror.old slot last fs)
         → IsLaid mirror.new store.now.shape (sheet_of writer.new.place).cells mask.now
-            (laid_in blocks.now has.dated) }
+        (laid_in blocks.now has.dated) }
     ensures kept { IsKept mirror.new store.now.shape (sheet_of writer.new.place).cells
         (root_of (seen_by writer.new.place)) }
     ensures lists { (other last : ℕ) (fs : List StoredFilter) → HasFilters mirror.old other last fs
         → HasFilters mirror.new other last fs }
     ensures left { (kept : KeptMask) → Stands mirror.old slot kept → (left_blocks.new
-            ≡ kept.block ∷ bucket_blocks (root_of (seen_by writer.old.place)) kept.mask kept.mask.size)
+        ≡ kept.block ∷ bucket_blocks (root_of (seen_by writer.old.place)) kept.mask kept.mask.size)
         × (left_rows.new ≡ kept.mask.rows) }
 {
     left_blocks.clear();
@@ -109,9 +111,9 @@ fn relay<L: Law>(
     from.len()
 }
 
-/// Gives the mask that is kept for a slot another number of buckets, in the given rows: fills the first given blocks
-/// with its filters, in order, and the one behind them with the new record, and makes the commits that name
-/// them. The law must hold of all commits with each first part of these.
+/// Gives the mask that is kept for a slot another number of buckets, in the given rows: fills the first given
+/// blocks with its filters, in order, and the one behind them with the new record, and makes the commits that
+/// name them. The law must hold of all commits with each first part of these.
 pub(crate) fn resize_mask<L: Law, E: EditName<L::Entry>>(
     room: &mut NumberRoom,
     left_blocks: &mut NumberRoom,
@@ -134,19 +136,22 @@ pub(crate) fn resize_mask<L: Law, E: EditName<L::Entry>>(
         × HasFilters mirror.old slot last fs }
     requires many { (last : ℕ) (fs : List StoredFilter) → HasFilters mirror.old slot last fs
         → length given.now.blocks ≡ length fs + 1 }
-    requires given { AreGiven (base_of (sheet_of writer.old.place)) (seen_by writer.old.place) given.now.blocks }
+    requires given { AreGiven (base_of (sheet_of writer.old.place))
+        (seen_by writer.old.place) given.now.blocks }
     requires kept { IsKept mirror.old store.now.shape (sheet_of writer.old.place).cells
         (root_of (seen_by writer.old.place)) }
-    requires lawful { (kept : KeptMask) (last : ℕ) (fs : List StoredFilter) (n : ℕ) → Stands mirror.old slot kept
+    requires lawful { (kept : KeptMask) (last : ℕ) (fs : List StoredFilter) (n : ℕ)
+        → Stands mirror.old slot kept
         → HasFilters mirror.old slot last fs
-        → L.keeps (seen_by writer.old.place ++ take n (raise_commits slot (resized kept.mask size given.now.rows)
-            (slice_index given.now.blocks (length fs)) (placed given.now.blocks fs) stamp))
+        → L.keeps (seen_by writer.old.place
+        ++ take n (raise_commits slot (resized kept.mask size given.now.rows)
+        (slice_index given.now.blocks (length fs)) (placed given.now.blocks fs) stamp))
         (base_of (sheet_of writer.old.place)) }
     ensures store { IsSeatOf store.now writer.new.place }
     ensures seen { (kept : KeptMask) (last : ℕ) (fs : List StoredFilter) → Stands mirror.old slot kept
         → HasFilters mirror.old slot last fs → seen_by writer.new.place ≡ seen_by writer.old.place
-        ++ raise_commits slot (resized kept.mask size given.now.rows) (slice_index given.now.blocks (length fs))
-            (placed given.now.blocks fs) stamp }
+        ++ raise_commits slot (resized kept.mask size given.now.rows)
+        (slice_index given.now.blocks (length fs)) (placed given.now.blocks fs) stamp }
     ensures sheet { IsSameButCells (sheet_of writer.old.place) (sheet_of writer.new.place) }
     ensures others { (other : ℕ) → (IsAmong other given.now.blocks → ⊥) → other < store.now.shape.blocks
         → block_words store.now.shape (sheet_of writer.new.place).cells other
@@ -155,18 +160,40 @@ pub(crate) fn resize_mask<L: Law, E: EditName<L::Entry>>(
         (root_of (seen_by writer.new.place)) }
     ensures masks { (kept : KeptMask) (last : ℕ) (fs : List StoredFilter) → Stands mirror.old slot kept
         → HasFilters mirror.old slot last fs → mirror.new.slots.items ≡ slice_set mirror.old.slots.items slot
-            (Some (record { block = slice_index given.now.blocks (length fs);
-                mask = resized kept.mask size given.now.rows })) }
+        (Some (record {
+          block = slice_index given.now.blocks (length fs);
+          mask = resized kept.mask size given.now.rows;
+        })) }
     ensures list { (last : ℕ) (fs : List StoredFilter) → HasFilters mirror.old slot last fs
         → HasFilters mirror.new slot last fs }
-    ensures lists { (other last : ℕ) (fs : List StoredFilter) → other ≢ slot → HasFilters mirror.old other last fs
+    ensures lists { (other last : ℕ) (fs : List StoredFilter) → other ≢ slot
+        → HasFilters mirror.old other last fs
         → HasFilters mirror.new other last fs }
     ensures left { (kept : KeptMask) → Stands mirror.old slot kept → (left_blocks.new
-            ≡ kept.block ∷ bucket_blocks (root_of (seen_by writer.old.place)) kept.mask kept.mask.size)
+        ≡ kept.block ∷ bucket_blocks (root_of (seen_by writer.old.place)) kept.mask kept.mask.size)
         × (left_rows.new ≡ kept.mask.rows) }
 {
     let mask = resized_mask(mirror, slot, size, given.rows.as_slice());
     let blocks = given.blocks.as_slice();
-    let count = relay(room, left_blocks, left_rows, mirror, writer, store, slot, &mask, blocks);
-    raise::<L, E>(room, mirror, writer, store, slot, mask, blocks[count], stamp);
+    let count = relay(
+        room,
+        left_blocks,
+        left_rows,
+        mirror,
+        writer,
+        store,
+        slot,
+        &mask,
+        blocks,
+    );
+    raise::<L, E>(
+        room,
+        mirror,
+        writer,
+        store,
+        slot,
+        mask,
+        blocks[count],
+        stamp,
+    );
 }

@@ -1,16 +1,13 @@
-use Rattle.std.proofs.Common.{◌≡◌, ◌∙◌, ℕ, ◌+◌, ◌<◌, List, [], ◌∷◌, ◌++◌, map, set, get_or, Option, Some, None, refl, sym, ap, subst}
+use Rattle.std.proofs.Common.{◌∙◌, ℕ, List, set, Option, None, refl, sym, ap}
 use Rattle.store_history.specs.declared.history.Named.{Named}
 use Rattle.pin_store.specs.declared.shape.Shape.{Shape}
 use Rattle.mask_mirror.specs.Kept.{IsKept}
-use Rattle.pin_store.specs.Calls.{seen_by, sheet_of}
-use Rattle.block_codec.specs.declared.filter.StoredFilter.{StoredFilter}
 use Rattle.mask_mirror.specs.declared.mirror.KeptMask.{KeptMask}
 use Rattle.mask_mirror.proofs.Forgetting.{kept_forgotten}
-use Rattle.mask_writer.specs.Masks.{Order, Standing, Masks}
-use Rattle.mask_writer.specs.Telling.{begun, ended, joined, without, exchanged}
-use Rattle.mask_writer.proofs.Showing.{seen_as, masks_are, stands_kept, stands_shown, order_is, rows_kept, named_kept, named_shown, holds_kept, lists_forgotten}
-use Rattle.mask_writer.proofs.Editing.{told_again, order_after, holds_after, holds_others, begun_edit, ended_edit, joined_edit, without_edit, exchanged_edit, same_edit, joined_list, without_list, exchanged_list, same_list, told_before}
-use Rattle.mask_writer.proofs.Untouched.{others_stay, slots_same, slots_set, one_root, raised_roots}
+use Rattle.mask_writer.specs.Masks.{Masks}
+use Rattle.mask_writer.proofs.Showing.{seen_as, masks_are, stands_kept, named_kept, named_shown, lists_forgotten}
+use Rattle.mask_writer.proofs.Editing.{told_again, holds_others, ended_edit}
+use Rattle.mask_writer.proofs.Untouched.{others_stay, slots_set}
 use Rattle.mask_writer.proofs.mask_writer.MaskWriter.forget.Goals as goal
 
 pub gather_mask-requires-clause-stands : goal.gather_mask-requires-clause-stands

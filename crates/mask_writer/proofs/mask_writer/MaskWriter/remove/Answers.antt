@@ -1,15 +1,14 @@
-use Rattle.std.proofs.Common.{◌≡◌, ◌∙◌, ℕ, ◌+◌, ◌<◌, List, [], ◌∷◌, ◌++◌, map, set, get_or, Option, Some, None, refl, sym, ap, subst}
+use Rattle.std.proofs.Common.{◌∙◌, List, [], get_or, Option, None, refl, sym, ap}
 use Rattle.store_history.specs.History.{root_of}
 use Rattle.pin_store.specs.Calls.{seen_by, sheet_of}
-use Rattle.block_codec.specs.declared.filter.StoredFilter.{StoredFilter}
 use Rattle.mask_mirror.specs.declared.mirror.KeptMask.{KeptMask}
 use Rattle.mask_mirror.specs.Kept.{BucketAt}
 use Rattle.mask_mirror.specs.Changing.{remove_at}
-use Rattle.mask_writer.specs.Masks.{Order, Standing, Masks}
-use Rattle.mask_writer.specs.Telling.{begun, ended, joined, without, exchanged}
-use Rattle.mask_writer.proofs.Showing.{seen_as, masks_are, stands_kept, stands_shown, order_is, rows_kept, named_kept, named_shown, holds_kept}
-use Rattle.mask_writer.proofs.Editing.{told_again, order_after, holds_after, holds_others, begun_edit, ended_edit, joined_edit, without_edit, exchanged_edit, same_edit, joined_list, without_list, exchanged_list, same_list, told_before}
-use Rattle.mask_writer.proofs.Untouched.{others_stay, slots_same, slots_set, one_root, raised_roots}
+use Rattle.mask_writer.specs.Masks.{Order, Masks}
+use Rattle.mask_writer.specs.Telling.{without}
+use Rattle.mask_writer.proofs.Showing.{seen_as, masks_are, stands_kept, stands_shown, order_is, named_kept, named_shown}
+use Rattle.mask_writer.proofs.Editing.{told_again, order_after, holds_others, without_edit, without_list}
+use Rattle.mask_writer.proofs.Untouched.{others_stay, slots_same, one_root}
 use Rattle.mask_writer.proofs.mask_writer.MaskWriter.remove.Goals as goal
 
 pub take_out-requires-clause-there : goal.take_out-requires-clause-there

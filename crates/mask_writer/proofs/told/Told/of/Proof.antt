@@ -13,7 +13,7 @@ use contract.Running.{tables}
 use contract.Monad.{fact, fact_i}
 use denote.Exit.{yes}
 use denote.RattleType.{RattleType, owns}
-use denote.Signature.{types_at, plain, named_lft}
+use denote.Signature.{types_at, plain}
 use denote.Steps.{nothing}
 use denote.Param.{param, bounded}
 use denote.Builtin.{RefOf}
