@@ -9,6 +9,7 @@ use Rattle.flow_mask.specs.Hashes.{hash_of}
 use Rattle.flow_mask.specs.Sizes.{size_of}
 use Rattle.store_history.specs.declared.history.Commit.{Commit}
 use Rattle.store_history.specs.declared.history.Link.{Link}
+use Rattle.store_history.specs.declared.history.Named.{Named}
 use Rattle.store_history.specs.History.{root_of, first_block}
 use Rattle.store_history.specs.Reads.{in_front, read_all}
 use Rattle.pin_store.specs.declared.shape.Shape.{Shape}
@@ -33,6 +34,7 @@ use Rattle.lone_mask.specs.declared.change.Change.{Change}
 use Rattle.lone_mask.specs.declared.change.Change.TheVariants as changes
 use Rattle.lone_mask.specs.Lone.{changed, point_of, now, HaveOwnKeys, Follows}
 use Rattle.lone_commits.specs.Handles.{HaveOwnHandles}
+use Rattle.lone_commits.specs.ReadAs.{AreReadAs}
 use Rattle.mask_order.proofs.Records.{stored_record}
 use Rattle.lone_commits.proofs.Tested.{has_handle, few_have, own_left, split_count, none_out, one_out, one_place}
 use Rattle.lone_commits.proofs.InBuckets.{bucket_more, bucket_still, bucket_around, bucket_filter, two_buckets}
@@ -64,10 +66,20 @@ reads_at (l ∷ ls) (g ∷ gs) n f all e = pick (filter_in l.words) (read_all fi
       long = ap suc r.long;
     }
 
-module _ (h : List (Commit Change)) (mirror : Mirror) (shape : Shape) (cells : List ℕ) (kept : KeptMask) (last : ℕ)
-    (keeps : IsKept mirror shape cells (root_of h)) (stands : Stands mirror 0 kept) (has : HasFilters mirror 0 last (now h)) where
+-- what is kept of a mask is what its roots are read as
+pub kept_read : (mirror : Mirror) (shape : Shape) (cells : List ℕ) (roots : ℕ → Named) (slot : ℕ) (kept : KeptMask) (last : ℕ) (fs : List StoredFilter)
+    → IsKept mirror shape cells roots → Stands mirror slot kept → HasFilters mirror slot last fs → AreReadAs roots slot kept.mask fs
+kept_read mirror shape cells roots slot kept last fs keeps stands has = record {
+  storable = (keeps.masks slot kept stands).there.storable;
+  mask_read = stored_record mirror shape cells roots slot kept keeps stands;
+  bucket_read = kept_reads mirror shape cells roots slot kept stands keeps last fs has;
+  link = kept_link mirror shape cells roots slot kept stands keeps;
+  fit = kept_fit mirror shape cells roots slot kept stands keeps last fs has;
+}
+
+module _ (h : List (Commit Change)) (mask : StoredMask) (are : AreReadAs (root_of h) 0 mask (now h)) where
   abbrev size : ℕ
-  size = kept.mask.size
+  size = mask.size
 
   -- ---- a filter comes
   module _ (fits : size ≡ size_of (length (now h))) (filter : StoredFilter) (b : ℕ) (fit : FitsBlock filter) (own : HaveOwnKeys (now h ++ filter ∷ [])) where
@@ -75,29 +87,29 @@ module _ (h : List (Commit Change)) (mirror : Mirror) (shape : Shape) (cells : L
     home = bucket_for size filter.key.words
 
     at_home : home < size
-    at_home = mod_below (hash_of filter.key.words) size (some_buckets kept.mask (keeps.masks 0 kept stands).there.storable)
+    at_home = mod_below (hash_of filter.key.words) size (some_buckets mask are.storable)
 
-    pub insertion_follows : Follows h (insert_at h (root_for kept.mask filter) b filter (point_of h + 1) (changes.Put filter))
-    insertion_follows = let chain = (root_of h (bucket_root kept.mask home)).chain in inr (inl record {
+    pub insertion_follows : Follows h (insert_at h (root_for mask filter) b filter (point_of h + 1) (changes.Put filter))
+    insertion_follows = let chain = (root_of h (bucket_root mask home)).chain in inr (inl record {
       change = changes.Put filter;
       carries = refl;
       stamp = refl;
-      mask = kept.mask;
-      record_now = stored_record mirror shape cells (root_of h) 0 kept keeps stands;
+      mask = mask;
+      record_now = are.mask_read;
       bucket = home;
       within = at_home;
       root = refl;
-      reads = inserted_reads b filter chain (bucket_of size home (now h)) fit (kept_link mirror shape cells (root_of h) 0 kept stands keeps home 0 at_home)
-          (kept_reads mirror shape cells (root_of h) 0 kept stands keeps last (now h) has home at_home) ∙ ap Some (sym (bucket_more size home (now h) filter refl));
+      reads = inserted_reads b filter chain (bucket_of size home (now h)) fit (are.link home 0 at_home)
+          (are.bucket_read home at_home) ∙ ap Some (sym (bucket_more size home (now h) filter refl));
       others = λ other away. bucket_still size other (now h) filter (λ e. away (sym e));
       fits = fits;
       own_keys = own;
     })
 
   -- ---- a filter goes
-  module _ (handle root : ℕ) (front : List StoredFilter) (old : StoredFilter) (at : FilterAt (root_of h) kept.mask handle root front old) (own : HaveOwnHandles (now h)) where
+  module _ (handle root : ℕ) (front : List StoredFilter) (old : StoredFilter) (at : FilterAt (root_of h) mask handle root front old) (own : HaveOwnHandles (now h)) where
     abbrev chain : List Link
-    chain = (root_of h (bucket_root kept.mask at.bucket)).chain
+    chain = (root_of h (bucket_root mask at.bucket)).chain
 
     abbrev those : ℕ → List StoredFilter
     those k = bucket_of size k (now h)
@@ -109,7 +121,7 @@ module _ (h : List (Commit Change)) (mirror : Mirror) (shape : Shape) (cells : L
     found = eq-eqb old.handle handle at.named
 
     bucket_reads : read_all filter_in chain ≡ Some (those at.bucket)
-    bucket_reads = kept_reads mirror shape cells (root_of h) 0 kept stands keeps last (now h) has at.bucket at.within
+    bucket_reads = are.bucket_read at.bucket at.within
 
     -- its bucket, in front of it and behind it
     parts : (later : List StoredFilter) × (those at.bucket ≡ front ++ old ∷ later)
@@ -140,7 +152,7 @@ module _ (h : List (Commit Change)) (mirror : Mirror) (shape : Shape) (cells : L
     -- the filters in front fit into blocks
     front_fits : All FitsBlock front
     front_fits = let every = All-from_recursion FitsBlock (those at.bucket) (bucket_every FitsBlock size at.bucket (now h)
-        (recursion_from_All FitsBlock (now h) (kept_fit mirror shape cells (root_of h) 0 kept stands keeps last (now h) has))) in
+        (recursion_from_All FitsBlock (now h) are.fit)) in
         subst (All FitsBlock) (ap (take (length front)) parts.1 ∙ take-append_seam front (old ∷ parts.0)) (All-take FitsBlock (length front) (those at.bucket) every)
 
     pub removal_follows : size ≡ size_of (length (now h)) → HaveOwnKeys (now h) → (given : List ℕ) → length front ≤ length given → ((place b : ℕ) → slice_get given place ≡ Some b → b < 16384)
@@ -149,14 +161,14 @@ module _ (h : List (Commit Change)) (mirror : Mirror) (shape : Shape) (cells : L
       change = changes.Take handle;
       carries = refl;
       stamp = refl;
-      mask = kept.mask;
-      record_now = stored_record mirror shape cells (root_of h) 0 kept keeps stands;
+      mask = mask;
+      record_now = are.mask_read;
       bucket = at.bucket;
       within = at.within;
       root = at.is_root;
       reads = rewritten_reads given front behind parts.0 (record { filters = front_fits; enough = enough; low = λ place b e. let less = low place b e in omega arith })
           (subst (λ (r : ℕ). IsLink (first_block (drop (length front + 1) (root_of h r).chain))) (sym at.is_root)
-          (kept_link mirror shape cells (root_of h) 0 kept stands keeps at.bucket (length front + 1) at.within))
+          (are.link at.bucket (length front + 1) at.within))
           (read_behind filter_in (root_of h root).chain front old parts.0 (ap (λ (r : ℕ). read_all filter_in (root_of h r).chain) at.is_root ∙ (bucket_reads ∙ ap Some parts.1)))
           ∙ ap Some out_of;
       others = still;
@@ -182,13 +194,13 @@ module _ (h : List (Commit Change)) (mirror : Mirror) (shape : Shape) (cells : L
             absurd (omega arith)
 
   -- ---- each filter is found
-  pub each_found : (old : StoredFilter) → IsAmong old (now h) → (root : ℕ) × (front : List StoredFilter) × FilterAt (root_of h) kept.mask old.handle root front old
+  pub each_found : (old : StoredFilter) → IsAmong old (now h) → (root : ℕ) × (front : List StoredFilter) × FilterAt (root_of h) mask old.handle root front old
   each_found old among = let home = bucket_for size old.key.words in
-      let within = mod_below (hash_of old.key.words) size (some_buckets kept.mask (keeps.masks 0 kept stands).there.storable) in
+      let within = mod_below (hash_of old.key.words) size (some_buckets mask are.storable) in
       let place = in_bucket size home (now h) old among.0 refl among.1 in
-      let chain = (root_of h (bucket_root kept.mask home)).chain in
-      let r = reads_at chain (bucket_of size home (now h)) place.0 old (kept_reads mirror shape cells (root_of h) 0 kept stands keeps last (now h) has home within) place.1 in (
-        bucket_root kept.mask home,
+      let chain = (root_of h (bucket_root mask home)).chain in
+      let r = reads_at chain (bucket_of size home (now h)) place.0 old (are.bucket_read home within) place.1 in (
+        bucket_root mask home,
         take place.0 (bucket_of size home (now h)),
         record {
           bucket = home;

@@ -1,1 +1,4 @@
+pub mod Masks
+pub mod Telling
+pub mod Shown
 pub mod Standing

@@ -11,10 +11,12 @@ ghost use Rattle.block_codec.specs.Masks.{IsStorableMask};
 ghost use Rattle.mask_table.specs.Buckets.{IsAmong};
 ghost use Rattle.mask_mirror.specs.Given.{AreGiven};
 ghost use Rattle.mask_mirror.specs.Linked.{placed, raise_commits};
-ghost use Rattle.mask_writer.specs.Standing.{masks_of, IsEmptyAt, Holds, AreNamed, AreFree, blocks_left, rows_left};
+ghost use Rattle.mask_writer.specs.Telling.{begun};
+ghost use Rattle.mask_writer.specs.Standing.{masks_of, order_at, IsEmptyAt, Holds, OthersStay, AreNamed, AreFree};
 
 use crate::blocks::Blocks;
 use crate::mask_writer::MaskWriter;
+use crate::told::Begun;
 use block_codec::{StoredFilter, StoredMask};
 use mask_build::make_mask;
 use mask_mirror::StoredFilters;
@@ -24,11 +26,12 @@ use store_history::{EditName, Law};
 use tc_base::Point;
 
 impl MaskWriter {
-    /// Makes a mask with one filter at a slot: fills the first given block with the filter and the second with the mask's record, and makes
-    /// the commits that name them: to the root of each bucket, the empty ones too, and then to the slot's. They carry no number, and `edit` is
-    /// their stamp.
+    /// Makes a mask with one filter at a slot: fills the first given block with the filter and the second
+    /// with the mask's record, and makes the commits that name them: to the root of each bucket, the empty
+    /// ones too, and then to the slot's. They carry no number, and `edit` is their stamp.
     ///
-    /// No mask stands at the slot, and none has one of the mask's rows. The law must hold of all commits with each first part of these.
+    /// No mask stands at the slot, and none has one of the mask's rows. The law must hold of all commits with
+    /// each first part of these.
     pub fn create<L: Law, E: EditName<L::Entry>>(
         &mut self,
         writer: &mut Writer<L>,
@@ -40,27 +43,41 @@ impl MaskWriter {
         edit: Point,
     )
         requires store { IsSeatOf store.now writer.old.place }
-        requires shape { (store.now.shape.words ≡ BLOCK_WORDS) × (POOL_BLOCKS ≤ store.now.shape.blocks) × (ROOTS ≤ store.now.shape.roots) }
+        requires shape { (store.now.shape.words ≡ BLOCK_WORDS) × (POOL_BLOCKS ≤ store.now.shape.blocks)
+            × (ROOTS ≤ store.now.shape.roots) }
         requires slot { slot < MASK_SLOTS }
         requires empty { IsEmptyAt self.old slot }
         requires mask { IsStorableMask mask.now }
         requires rows { AreFree self.old mask.now.rows }
         requires storable { IsStorableFilter filter.now }
         requires many { length given.now.blocks ≡ 2 }
-        requires given { AreGiven (base_of (sheet_of writer.old.place)) (seen_by writer.old.place) given.now.blocks }
-        requires kept { AreNamed self.old store.now.shape (sheet_of writer.old.place).cells (root_of (seen_by writer.old.place)) }
-        requires lawful { (n : ℕ) → L.keeps (seen_by writer.old.place ++ take n (raise_commits slot mask.now (slice_index given.now.blocks 1) (placed given.now.blocks (filter.now ∷ [])) edit))
+        requires given { AreGiven (base_of (sheet_of writer.old.place))
+            (seen_by writer.old.place) given.now.blocks }
+        requires kept { AreNamed self.old store.now.shape (sheet_of writer.old.place).cells
+            (root_of (seen_by writer.old.place)) }
+        requires lawful { (n : ℕ) → L.keeps (seen_by writer.old.place
+            ++ take n (raise_commits slot mask.now (slice_index given.now.blocks 1)
+            (placed given.now.blocks (filter.now ∷ [])) edit))
             (base_of (sheet_of writer.old.place)) }
         ensures store { IsSeatOf store.now writer.new.place }
-        ensures seen { seen_by writer.new.place ≡ seen_by writer.old.place ++ raise_commits slot mask.now (slice_index given.now.blocks 1) (placed given.now.blocks (filter.now ∷ [])) edit }
+        ensures seen { seen_by writer.new.place ≡ seen_by writer.old.place
+            ++ raise_commits slot mask.now (slice_index given.now.blocks 1)
+            (placed given.now.blocks (filter.now ∷ [])) edit }
         ensures sheet { IsSameButCells (sheet_of writer.old.place) (sheet_of writer.new.place) }
         ensures others { (other : ℕ) → (IsAmong other given.now.blocks → ⊥) → other < store.now.shape.blocks
-            → block_words store.now.shape (sheet_of writer.new.place).cells other ≡ block_words store.now.shape (sheet_of writer.old.place).cells other }
-        ensures kept { AreNamed self.new store.now.shape (sheet_of writer.new.place).cells (root_of (seen_by writer.new.place)) }
-        ensures masks { masks_of self.new ≡ slice_set (masks_of self.old) slot (Some (record { block = slice_index given.now.blocks 1; mask = mask.now })) }
+            → block_words store.now.shape (sheet_of writer.new.place).cells other
+            ≡ block_words store.now.shape (sheet_of writer.old.place).cells other }
+        ensures kept { AreNamed self.new store.now.shape (sheet_of writer.new.place).cells
+            (root_of (seen_by writer.new.place)) }
+        ensures masks { masks_of self.new ≡ slice_set (masks_of self.old) slot
+            (Some (record { block = slice_index given.now.blocks 1; mask = mask.now })) }
+        ensures order { order_at self.new slot ≡ begun (order_at self.old slot) (filter.now ∷ []) edit }
         ensures list { Holds self.new slot edit (filter.now ∷ []) }
-        ensures lists { (other last : ℕ) (fs : List StoredFilter) → other ≢ slot → Holds self.old other last fs → Holds self.new other last fs }
-        ensures left { (blocks_left self.new ≡ []) × (rows_left self.new ≡ []) }
+        ensures untouched { OthersStay self.old self.new slot }
+        ensures lists { (other last : ℕ) (fs : List StoredFilter) → other ≢ slot
+            → Holds self.old other last fs
+            → Holds self.new other last fs }
+        ensures left { (self.new.left_blocks ≡ []) × (self.new.left_rows ≡ []) }
     {
         let one = slice::from_ref(filter);
         make_mask::<L, E>(
@@ -76,10 +93,11 @@ impl MaskWriter {
         );
         self.left_blocks.clear();
         self.left_rows.clear();
+        self.told = self.told.with::<Begun>(slot, one, edit);
     }
 
-    /// Makes a mask with some filters at a slot, one or more, as `create` does with one: the first given blocks are for the filters, in order, and
-    /// the one behind them for the mask's record.
+    /// Makes a mask with some filters at a slot, one or more, as `create` does with one: the first given
+    /// blocks are for the filters, in order, and the one behind them for the mask's record.
     pub fn build<L: Law, E: EditName<L::Entry>>(
         &mut self,
         writer: &mut Writer<L>,
@@ -91,27 +109,41 @@ impl MaskWriter {
         edit: Point,
     )
         requires store { IsSeatOf store.now writer.old.place }
-        requires shape { (store.now.shape.words ≡ BLOCK_WORDS) × (POOL_BLOCKS ≤ store.now.shape.blocks) × (ROOTS ≤ store.now.shape.roots) }
+        requires shape { (store.now.shape.words ≡ BLOCK_WORDS) × (POOL_BLOCKS ≤ store.now.shape.blocks)
+            × (ROOTS ≤ store.now.shape.roots) }
         requires slot { slot < MASK_SLOTS }
         requires empty { IsEmptyAt self.old slot }
         requires mask { IsStorableMask mask.now }
         requires rows { AreFree self.old mask.now.rows }
         requires storable { All IsStorableFilter filters.now }
         requires many { length given.now.blocks ≡ length filters.now + 1 }
-        requires given { AreGiven (base_of (sheet_of writer.old.place)) (seen_by writer.old.place) given.now.blocks }
-        requires kept { AreNamed self.old store.now.shape (sheet_of writer.old.place).cells (root_of (seen_by writer.old.place)) }
-        requires lawful { (n : ℕ) → L.keeps (seen_by writer.old.place ++ take n (raise_commits slot mask.now (slice_index given.now.blocks (length filters.now)) (placed given.now.blocks filters.now) edit))
+        requires given { AreGiven (base_of (sheet_of writer.old.place))
+            (seen_by writer.old.place) given.now.blocks }
+        requires kept { AreNamed self.old store.now.shape (sheet_of writer.old.place).cells
+            (root_of (seen_by writer.old.place)) }
+        requires lawful { (n : ℕ) → L.keeps (seen_by writer.old.place
+            ++ take n (raise_commits slot mask.now (slice_index given.now.blocks (length filters.now))
+            (placed given.now.blocks filters.now) edit))
             (base_of (sheet_of writer.old.place)) }
         ensures store { IsSeatOf store.now writer.new.place }
-        ensures seen { seen_by writer.new.place ≡ seen_by writer.old.place ++ raise_commits slot mask.now (slice_index given.now.blocks (length filters.now)) (placed given.now.blocks filters.now) edit }
+        ensures seen { seen_by writer.new.place ≡ seen_by writer.old.place
+            ++ raise_commits slot mask.now (slice_index given.now.blocks (length filters.now))
+            (placed given.now.blocks filters.now) edit }
         ensures sheet { IsSameButCells (sheet_of writer.old.place) (sheet_of writer.new.place) }
         ensures others { (other : ℕ) → (IsAmong other given.now.blocks → ⊥) → other < store.now.shape.blocks
-            → block_words store.now.shape (sheet_of writer.new.place).cells other ≡ block_words store.now.shape (sheet_of writer.old.place).cells other }
-        ensures kept { AreNamed self.new store.now.shape (sheet_of writer.new.place).cells (root_of (seen_by writer.new.place)) }
-        ensures masks { masks_of self.new ≡ slice_set (masks_of self.old) slot (Some (record { block = slice_index given.now.blocks (length filters.now); mask = mask.now })) }
+            → block_words store.now.shape (sheet_of writer.new.place).cells other
+            ≡ block_words store.now.shape (sheet_of writer.old.place).cells other }
+        ensures kept { AreNamed self.new store.now.shape (sheet_of writer.new.place).cells
+            (root_of (seen_by writer.new.place)) }
+        ensures masks { masks_of self.new ≡ slice_set (masks_of self.old) slot
+            (Some (record { block = slice_index given.now.blocks (length filters.now); mask = mask.now })) }
+        ensures order { order_at self.new slot ≡ begun (order_at self.old slot) filters.now edit }
         ensures list { Holds self.new slot edit filters.now }
-        ensures lists { (other last : ℕ) (fs : List StoredFilter) → other ≢ slot → Holds self.old other last fs → Holds self.new other last fs }
-        ensures left { (blocks_left self.new ≡ []) × (rows_left self.new ≡ []) }
+        ensures untouched { OthersStay self.old self.new slot }
+        ensures lists { (other last : ℕ) (fs : List StoredFilter) → other ≢ slot
+            → Holds self.old other last fs
+            → Holds self.new other last fs }
+        ensures left { (self.new.left_blocks ≡ []) × (self.new.left_rows ≡ []) }
     {
         let all = filters.as_slice();
         make_mask::<L, E>(
@@ -127,5 +159,6 @@ impl MaskWriter {
         );
         self.left_blocks.clear();
         self.left_rows.clear();
+        self.told = self.told.with::<Begun>(slot, all, edit);
     }
 }

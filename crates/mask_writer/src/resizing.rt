@@ -1,16 +1,28 @@
 //! Masks that get another number of buckets.
-ghost use Rattle.block_codec.specs.declared.places.TheConstants.{MASK_SLOTS};
-ghost use Rattle.std.specs.Prelude.{◌≡◌, ◌<◌, ◌≤◌, ℕ, length, drop};
+ghost use Rattle.block_codec.specs.declared.places.TheConstants.{BLOCK_WORDS, MASK_SLOTS, POOL_BLOCKS, ROOTS};
+ghost use Rattle.std.specs.Prelude.{◌≡◌, ◌≢◌, ◌<◌, ◌≤◌, ◌+◌, ◌*◌, ◌++◌, ◌∷◌, ℕ, List, length, take, drop};
+ghost use Rattle.std.specs.Prelude.{slice_index, slice_set, Some, IsTrue};
+ghost use Rattle.store_history.specs.History.{root_of};
+ghost use Rattle.pin_store.specs.Layout.{block_words};
+ghost use Rattle.pin_store.specs.Sheets.{base_of, IsSameButCells};
+ghost use Rattle.pin_store.specs.Calls.{seen_by, sheet_of, IsSeatOf};
+ghost use Rattle.flow_mask.specs.Sizes.{is_size};
+ghost use Rattle.block_codec.specs.declared.filter.StoredFilter.{StoredFilter};
 ghost use Rattle.block_codec.specs.declared.mask.StoredMask.{StoredMask};
+ghost use Rattle.block_codec.specs.Masks.{IsStorableMask};
+ghost use Rattle.mask_table.specs.Buckets.{IsAmong};
 ghost use Rattle.mask_mirror.specs.declared.mirror.KeptMask.{KeptMask};
-ghost use Rattle.mask_mirror.specs.Kept.{Stands};
-ghost use Rattle.mask_mirror.specs.Linked.{resized};
+ghost use Rattle.mask_mirror.specs.Kept.{Stands, IsKept};
+ghost use Rattle.mask_mirror.specs.Given.{AreGiven, AreFreeRows};
+ghost use Rattle.mask_mirror.specs.Lists.{HasFilters};
+ghost use Rattle.mask_mirror.specs.Linked.{placed, resized, raise_commits};
+ghost use Rattle.mask_mirror.specs.Forgetting.{bucket_blocks};
+ghost use Rattle.mask_build.specs.Laid.{laid_in, IsLaid};
 
 use crate::blocks::Blocks;
-use crate::mask_writer::MaskWriter;
 use block_codec::StoredMask;
 use mask_build::{clear_buckets, lay_copies, raise, rows_of};
-use mask_mirror::{Mirror, gather_mask};
+use mask_mirror::{Mirror, NumberRoom, gather_mask};
 use mask_order::in_order;
 use pin_store::{Store, Writer};
 use store_history::{EditName, Law};
@@ -42,128 +54,146 @@ fn behind_first(blocks: &[u32]) -> &[u32]
     &blocks[1..]
 }
 
-impl MaskWriter {
-    ghost use Rattle.block_codec.specs.declared.places.TheConstants.{BLOCK_WORDS, MASK_SLOTS, POOL_BLOCKS, ROOTS};
-    ghost use Rattle.std.specs.Prelude.{◌≢◌, ◌+◌, ◌*◌, ◌++◌, ◌∷◌, List, take, slice_index, slice_set, Some, IsTrue};
-    ghost use Rattle.store_history.specs.History.{root_of};
-    ghost use Rattle.pin_store.specs.Layout.{block_words};
-    ghost use Rattle.pin_store.specs.Sheets.{base_of, IsSameButCells};
-    ghost use Rattle.pin_store.specs.Calls.{seen_by, sheet_of, IsSeatOf};
-    ghost use Rattle.flow_mask.specs.Sizes.{is_size};
-    ghost use Rattle.block_codec.specs.declared.filter.StoredFilter.{StoredFilter};
-    ghost use Rattle.block_codec.specs.Masks.{IsStorableMask};
-    ghost use Rattle.mask_table.specs.Buckets.{IsAmong};
-    ghost use Rattle.mask_mirror.specs.Kept.{IsKept};
-    ghost use Rattle.mask_mirror.specs.Given.{AreGiven, AreFreeRows};
-    ghost use Rattle.mask_mirror.specs.Lists.{HasFilters};
-    ghost use Rattle.mask_mirror.specs.Linked.{placed, raise_commits};
-    ghost use Rattle.mask_mirror.specs.Forgetting.{bucket_blocks};
-    ghost use Rattle.mask_build.specs.Laid.{laid_in, IsLaid};
-    ghost use Rattle.mask_writer.specs.Standing.{masks_of, StandsAt, Holds, AreNamed, AreFree, blocks_left, rows_left};
+// Lays the filters of the mask at a slot once more, in order, into given blocks, for a mask whose rows are
+// free, and answers how many they are. The blocks and rows that the mask at the slot has are told as those
+// that leave.
+fn relay<L: Law>(
+    room: &mut NumberRoom,
+    left_blocks: &mut NumberRoom,
+    left_rows: &mut NumberRoom,
+    mirror: &mut Mirror,
+    writer: &mut Writer<L>,
+    store: &Store<L>,
+    slot: u32,
+    mask: &StoredMask,
+    blocks: &[u32],
+) -> usize
+    requires store { IsSeatOf store.now writer.old.place }
+    requires shape { (store.now.shape.words ≡ BLOCK_WORDS) × (POOL_BLOCKS ≤ store.now.shape.blocks) }
+    requires slot { slot < MASK_SLOTS }
+    requires mask { IsStorableMask mask.now }
+    requires rows { AreFreeRows mirror.old mask.now.rows }
+    requires there { (kept : KeptMask) × (last : ℕ) × (fs : List StoredFilter) × Stands mirror.old slot kept
+        × HasFilters mirror.old slot last fs }
+    requires many { (last : ℕ) (fs : List StoredFilter) → HasFilters mirror.old slot last fs
+        → length blocks.now ≡ length fs + 1 }
+    requires given { AreGiven (base_of (sheet_of writer.old.place)) (seen_by writer.old.place) blocks.now }
+    requires kept { IsKept mirror.old store.now.shape (sheet_of writer.old.place).cells
+        (root_of (seen_by writer.old.place)) }
+    ensures store { IsSeatOf store.now writer.new.place }
+    ensures seen { seen_by writer.new.place ≡ seen_by writer.old.place }
+    ensures sheet { IsSameButCells (sheet_of writer.old.place) (sheet_of writer.new.place) }
+    ensures others { (other : ℕ) → (IsAmong other blocks.now → ⊥) → other < store.now.shape.blocks
+        → block_words store.now.shape (sheet_of writer.new.place).cells other
+        ≡ block_words store.now.shape (sheet_of writer.old.place).cells other }
+    ensures masks { mirror.new.slots.items ≡ mirror.old.slots.items }
+    ensures count { (last : ℕ) (fs : List StoredFilter) → HasFilters mirror.old slot last fs
+        → result ≡ length fs }
+    ensures laid { (last : ℕ) (fs : List StoredFilter) (has : HasFilters mirror.old slot last fs)
+        → IsLaid mirror.new store.now.shape (sheet_of writer.new.place).cells mask.now
+        (laid_in blocks.now has.dated) }
+    ensures kept { IsKept mirror.new store.now.shape (sheet_of writer.new.place).cells
+        (root_of (seen_by writer.new.place)) }
+    ensures lists { (other last : ℕ) (fs : List StoredFilter) → HasFilters mirror.old other last fs
+        → HasFilters mirror.new other last fs }
+    ensures left { (kept : KeptMask) → Stands mirror.old slot kept → (left_blocks.new
+        ≡ kept.block ∷ bucket_blocks (root_of (seen_by writer.old.place)) kept.mask kept.mask.size)
+        × (left_rows.new ≡ kept.mask.rows) }
+{
+    left_blocks.clear();
+    left_rows.clear();
+    gather_mask(left_blocks, left_rows, mirror, slot);
+    let filled = behind_first(left_blocks.as_slice());
+    in_order(room, mirror, slot, filled);
+    clear_buckets(mirror, mask);
+    let from = room.as_slice();
+    lay_copies(mirror, writer, store, mask, from, blocks);
+    from.len()
+}
 
-    // Lays the filters of the mask at a slot once more, in order, into given blocks, for a mask whose rows are free, and answers how many
-    // they are. The blocks and rows that the mask at the slot has are told as those that leave.
-    fn relay<L: Law>(
-        &mut self,
-        writer: &mut Writer<L>,
-        store: &Store<L>,
-        slot: u32,
-        mask: &StoredMask,
-        blocks: &[u32],
-    ) -> usize
-        requires store { IsSeatOf store.now writer.old.place }
-        requires shape { (store.now.shape.words ≡ BLOCK_WORDS) × (POOL_BLOCKS ≤ store.now.shape.blocks) }
-        requires slot { slot < MASK_SLOTS }
-        requires mask { IsStorableMask mask.now }
-        requires rows { AreFreeRows self.old.mirror mask.now.rows }
-        requires there { (kept : KeptMask) × (last : ℕ) × (fs : List StoredFilter) × Stands self.old.mirror slot kept × HasFilters self.old.mirror slot last fs }
-        requires many { (last : ℕ) (fs : List StoredFilter) → HasFilters self.old.mirror slot last fs → length blocks.now ≡ length fs + 1 }
-        requires given { AreGiven (base_of (sheet_of writer.old.place)) (seen_by writer.old.place) blocks.now }
-        requires kept { IsKept self.old.mirror store.now.shape (sheet_of writer.old.place).cells (root_of (seen_by writer.old.place)) }
-        ensures store { IsSeatOf store.now writer.new.place }
-        ensures seen { seen_by writer.new.place ≡ seen_by writer.old.place }
-        ensures sheet { IsSameButCells (sheet_of writer.old.place) (sheet_of writer.new.place) }
-        ensures others { (other : ℕ) → (IsAmong other blocks.now → ⊥) → other < store.now.shape.blocks
-            → block_words store.now.shape (sheet_of writer.new.place).cells other ≡ block_words store.now.shape (sheet_of writer.old.place).cells other }
-        ensures masks { self.new.mirror.slots.items ≡ self.old.mirror.slots.items }
-        ensures count { (last : ℕ) (fs : List StoredFilter) → HasFilters self.old.mirror slot last fs → result ≡ length fs }
-        ensures laid { (last : ℕ) (fs : List StoredFilter) (has : HasFilters self.old.mirror slot last fs)
-            → IsLaid self.new.mirror store.now.shape (sheet_of writer.new.place).cells mask.now (laid_in blocks.now has.dated) }
-        ensures kept { IsKept self.new.mirror store.now.shape (sheet_of writer.new.place).cells (root_of (seen_by writer.new.place)) }
-        ensures lists { (other last : ℕ) (fs : List StoredFilter) → HasFilters self.old.mirror other last fs → HasFilters self.new.mirror other last fs }
-        ensures left { (kept : KeptMask) → Stands self.old.mirror slot kept → (self.new.left_blocks ≡ kept.block ∷ bucket_blocks (root_of (seen_by writer.old.place)) kept.mask kept.mask.size)
-            × (self.new.left_rows ≡ kept.mask.rows) }
-    {
-        self.left_blocks.clear();
-        self.left_rows.clear();
-        gather_mask(
-            &mut self.left_blocks,
-            &mut self.left_rows,
-            &self.mirror,
-            slot,
-        );
-        let filled = behind_first(self.left_blocks.as_slice());
-        in_order(&mut self.chain, &self.mirror, slot, filled);
-        clear_buckets(&mut self.mirror, mask);
-        let from = self.chain.as_slice();
-        lay_copies(&mut self.mirror, writer, store, mask, from, blocks);
-        from.len()
-    }
-
-    /// Gives the mask at a slot another number of buckets, in the given rows: fills the first given blocks with its filters, in order, and the one
-    /// behind them with the new record, and makes the commits that name them: to the root of each bucket, the empty ones too, and then to the
-    /// slot's. They carry no number. The old blocks and rows have left then.
-    ///
-    /// A mask stands at the slot, its filters are kept in order, and no mask has one of the given rows. The law must hold of all commits with
-    /// each first part of these.
-    pub fn resize<L: Law, E: EditName<L::Entry>>(
-        &mut self,
-        writer: &mut Writer<L>,
-        store: &Store<L>,
-        slot: u32,
-        size: u32,
-        given: &Blocks,
-        stamp: Point,
-    )
-        requires store { IsSeatOf store.now writer.old.place }
-        requires shape { (store.now.shape.words ≡ BLOCK_WORDS) × (POOL_BLOCKS ≤ store.now.shape.blocks) × (ROOTS ≤ store.now.shape.roots) }
-        requires slot { slot < MASK_SLOTS }
-        requires size { IsTrue (is_size size) × (size ≡ 16 * length given.now.rows) }
-        requires rows { AreFree self.old given.now.rows }
-        requires there { (kept : KeptMask) × (last : ℕ) × (fs : List StoredFilter) × StandsAt self.old slot kept × Holds self.old slot last fs }
-        requires many { (last : ℕ) (fs : List StoredFilter) → Holds self.old slot last fs → length given.now.blocks ≡ length fs + 1 }
-        requires given { AreGiven (base_of (sheet_of writer.old.place)) (seen_by writer.old.place) given.now.blocks }
-        requires kept { AreNamed self.old store.now.shape (sheet_of writer.old.place).cells (root_of (seen_by writer.old.place)) }
-        requires lawful { (kept : KeptMask) (last : ℕ) (fs : List StoredFilter) (n : ℕ) → StandsAt self.old slot kept → Holds self.old slot last fs
-            → L.keeps (seen_by writer.old.place ++ take n (raise_commits slot (resized kept.mask size given.now.rows) (slice_index given.now.blocks (length fs)) (placed given.now.blocks fs) stamp))
-            (base_of (sheet_of writer.old.place)) }
-        ensures store { IsSeatOf store.now writer.new.place }
-        ensures seen { (kept : KeptMask) (last : ℕ) (fs : List StoredFilter) → StandsAt self.old slot kept → Holds self.old slot last fs
-            → seen_by writer.new.place ≡ seen_by writer.old.place
-            ++ raise_commits slot (resized kept.mask size given.now.rows) (slice_index given.now.blocks (length fs)) (placed given.now.blocks fs) stamp }
-        ensures sheet { IsSameButCells (sheet_of writer.old.place) (sheet_of writer.new.place) }
-        ensures others { (other : ℕ) → (IsAmong other given.now.blocks → ⊥) → other < store.now.shape.blocks
-            → block_words store.now.shape (sheet_of writer.new.place).cells other ≡ block_words store.now.shape (sheet_of writer.old.place).cells other }
-        ensures kept { AreNamed self.new store.now.shape (sheet_of writer.new.place).cells (root_of (seen_by writer.new.place)) }
-        ensures masks { (kept : KeptMask) (last : ℕ) (fs : List StoredFilter) → StandsAt self.old slot kept → Holds self.old slot last fs
-            → masks_of self.new ≡ slice_set (masks_of self.old) slot (Some (record { block = slice_index given.now.blocks (length fs); mask = resized kept.mask size given.now.rows })) }
-        ensures list { (last : ℕ) (fs : List StoredFilter) → Holds self.old slot last fs → Holds self.new slot last fs }
-        ensures lists { (other last : ℕ) (fs : List StoredFilter) → other ≢ slot → Holds self.old other last fs → Holds self.new other last fs }
-        ensures left { (kept : KeptMask) → StandsAt self.old slot kept → (blocks_left self.new ≡ kept.block ∷ bucket_blocks (root_of (seen_by writer.old.place)) kept.mask kept.mask.size)
-            × (rows_left self.new ≡ kept.mask.rows) }
-    {
-        let mask = resized_mask(&self.mirror, slot, size, given.rows.as_slice());
-        let blocks = given.blocks.as_slice();
-        let count = self.relay(writer, store, slot, &mask, blocks);
-        raise::<L, E>(
-            &mut self.chain,
-            &mut self.mirror,
-            writer,
-            store,
-            slot,
-            mask,
-            blocks[count],
-            stamp,
-        );
-    }
+/// Gives the mask that is kept for a slot another number of buckets, in the given rows: fills the first given
+/// blocks with its filters, in order, and the one behind them with the new record, and makes the commits that
+/// name them. The law must hold of all commits with each first part of these.
+pub(crate) fn resize_mask<L: Law, E: EditName<L::Entry>>(
+    room: &mut NumberRoom,
+    left_blocks: &mut NumberRoom,
+    left_rows: &mut NumberRoom,
+    mirror: &mut Mirror,
+    writer: &mut Writer<L>,
+    store: &Store<L>,
+    slot: u32,
+    size: u32,
+    given: &Blocks,
+    stamp: Point,
+)
+    requires store { IsSeatOf store.now writer.old.place }
+    requires shape { (store.now.shape.words ≡ BLOCK_WORDS) × (POOL_BLOCKS ≤ store.now.shape.blocks)
+        × (ROOTS ≤ store.now.shape.roots) }
+    requires slot { slot < MASK_SLOTS }
+    requires size { IsTrue (is_size size) × (size ≡ 16 * length given.now.rows) }
+    requires rows { AreFreeRows mirror.old given.now.rows }
+    requires there { (kept : KeptMask) × (last : ℕ) × (fs : List StoredFilter) × Stands mirror.old slot kept
+        × HasFilters mirror.old slot last fs }
+    requires many { (last : ℕ) (fs : List StoredFilter) → HasFilters mirror.old slot last fs
+        → length given.now.blocks ≡ length fs + 1 }
+    requires given { AreGiven (base_of (sheet_of writer.old.place))
+        (seen_by writer.old.place) given.now.blocks }
+    requires kept { IsKept mirror.old store.now.shape (sheet_of writer.old.place).cells
+        (root_of (seen_by writer.old.place)) }
+    requires lawful { (kept : KeptMask) (last : ℕ) (fs : List StoredFilter) (n : ℕ)
+        → Stands mirror.old slot kept
+        → HasFilters mirror.old slot last fs
+        → L.keeps (seen_by writer.old.place
+        ++ take n (raise_commits slot (resized kept.mask size given.now.rows)
+        (slice_index given.now.blocks (length fs)) (placed given.now.blocks fs) stamp))
+        (base_of (sheet_of writer.old.place)) }
+    ensures store { IsSeatOf store.now writer.new.place }
+    ensures seen { (kept : KeptMask) (last : ℕ) (fs : List StoredFilter) → Stands mirror.old slot kept
+        → HasFilters mirror.old slot last fs → seen_by writer.new.place ≡ seen_by writer.old.place
+        ++ raise_commits slot (resized kept.mask size given.now.rows)
+        (slice_index given.now.blocks (length fs)) (placed given.now.blocks fs) stamp }
+    ensures sheet { IsSameButCells (sheet_of writer.old.place) (sheet_of writer.new.place) }
+    ensures others { (other : ℕ) → (IsAmong other given.now.blocks → ⊥) → other < store.now.shape.blocks
+        → block_words store.now.shape (sheet_of writer.new.place).cells other
+        ≡ block_words store.now.shape (sheet_of writer.old.place).cells other }
+    ensures kept { IsKept mirror.new store.now.shape (sheet_of writer.new.place).cells
+        (root_of (seen_by writer.new.place)) }
+    ensures masks { (kept : KeptMask) (last : ℕ) (fs : List StoredFilter) → Stands mirror.old slot kept
+        → HasFilters mirror.old slot last fs → mirror.new.slots.items ≡ slice_set mirror.old.slots.items slot
+        (Some (record {
+          block = slice_index given.now.blocks (length fs);
+          mask = resized kept.mask size given.now.rows;
+        })) }
+    ensures list { (last : ℕ) (fs : List StoredFilter) → HasFilters mirror.old slot last fs
+        → HasFilters mirror.new slot last fs }
+    ensures lists { (other last : ℕ) (fs : List StoredFilter) → other ≢ slot
+        → HasFilters mirror.old other last fs
+        → HasFilters mirror.new other last fs }
+    ensures left { (kept : KeptMask) → Stands mirror.old slot kept → (left_blocks.new
+        ≡ kept.block ∷ bucket_blocks (root_of (seen_by writer.old.place)) kept.mask kept.mask.size)
+        × (left_rows.new ≡ kept.mask.rows) }
+{
+    let mask = resized_mask(mirror, slot, size, given.rows.as_slice());
+    let blocks = given.blocks.as_slice();
+    let count = relay(
+        room,
+        left_blocks,
+        left_rows,
+        mirror,
+        writer,
+        store,
+        slot,
+        &mask,
+        blocks,
+    );
+    raise::<L, E>(
+        room,
+        mirror,
+        writer,
+        store,
+        slot,
+        mask,
+        blocks[count],
+        stamp,
+    );
 }

@@ -8,7 +8,7 @@ use Rattle.store_history.specs.declared.history.Commit.{Commit}
 use Rattle.block_codec.specs.declared.mask.StoredMask.{StoredMask}
 use Rattle.block_codec.specs.Masks.{IsStorableMask}
 use Rattle.mask_table.specs.Buckets.{bucket_root}
-use Rattle.mask_writer.specs.declared.mask_writer.MaskWriter.{MaskWriter}
+use Rattle.mask_writer.specs.Masks.{Masks}
 use Rattle.mask_mirror.specs.Linked.{placed, raise_commits}
 use Rattle.mask_order.specs.Fitting.{FitsBlock}
 use Rattle.lone_mask.specs.declared.change.Change.{Change}
@@ -42,7 +42,7 @@ first_storable = record { size = refl; rows = refl; each_row = All-cons (λ (row
 pub first_fits : FitsBlock first_filter
 first_fits = record { storable = record { handle = (omega arith, omega arith); actions = All-nil _ }; key = refl; few = omega arith }
 
-pub first_rows : (writer : MaskWriter) → ((slot : ℕ) → get_or (masks_of writer) slot None ≡ None) → AreFree writer (0 ∷ [])
+pub first_rows : (writer : Masks) → ((slot : ℕ) → get_or (masks_of writer) slot None ≡ None) → AreFree writer (0 ∷ [])
 first_rows writer empty = record {
   different = range_distinct 0 1;
   pool = All-cons (λ (row : ℕ). row < 8192) 0 [] (omega arith) (All-nil (λ (row : ℕ). row < 8192));
@@ -62,7 +62,7 @@ first_lawful_with h mask given filter b n new is blocks first =
 pub none_below : AreBelow [] 0
 none_below l named = absurd (nothing_named 0 l named)
 
-pub first_tried : (writer writer2 : MaskWriter) (shape : Shape) (p p2 : Seat (Unit {0}) (View Change)) (mask : StoredMask) (given : List ℕ) (filter : StoredFilter)
+pub first_tried : (writer writer2 : Masks) (shape : Shape) (p p2 : Seat (Unit {0}) (View Change)) (mask : StoredMask) (given : List ℕ) (filter : StoredFilter)
     → seen_by p ≡ [] → base_of (sheet_of p) ≡ 0 → mask ≡ first_mask → given ≡ range_with_len 0 2 → filter ≡ first_filter → ((slot : ℕ) → get_or (masks_of writer) slot None ≡ None)
     → seen_by p2 ≡ seen_by p ++ raise_commits 0 mask (get_or given 1 0) (placed given (filter ∷ [])) 0 → IsSameButCells (sheet_of p) (sheet_of p2) → AreNamed writer2 shape (sheet_of p2).cells (root_of (seen_by p2))
     → masks_of writer2 ≡ set (masks_of writer) 0 (Some (record { block = get_or given 1 0; mask = mask })) → Holds writer2 0 0 (filter ∷ [])

@@ -4,4 +4,5 @@ pub mod Counting
 pub mod Beginning
 pub mod Raising
 pub mod Taking
+pub mod Reading
 pub mod Resizing

@@ -13,7 +13,7 @@ use Rattle.pin_store.specs.Calls.{seen_by, sheet_of, IsUnnamed}
 use Rattle.flow_mask.specs.Sizes.{size_of}
 use Rattle.block_codec.specs.declared.filter.StoredFilter.{StoredFilter}
 use Rattle.mask_table.specs.Buckets.{bucket_for}
-use Rattle.mask_writer.specs.declared.mask_writer.MaskWriter.{MaskWriter}
+use Rattle.mask_writer.specs.Masks.{Masks}
 use Rattle.mask_mirror.specs.declared.mirror.KeptMask.{KeptMask}
 use Rattle.mask_writer.specs.Standing.{masks_of, StandsAt, Holds, AreNamed}
 use Rattle.mask_mirror.specs.Changing.{root_for, insert_at}
@@ -30,6 +30,7 @@ use Rattle.lone_commits.specs.Ledger.{AreBelow, RowsBelow}
 use Rattle.lone_commits.proofs.Rewriting.{insertion_follows}
 use Rattle.lone_commits.proofs.Spending.{below_more, insertion_below, rows_still}
 use Rattle.trial_mask.specs.Trial.{TriedWith, IsOther}
+use Rattle.trial_mask.proofs.Reading.{writer_read}
 
 -- ---- a list with one filter more
 end_case : (fs : List StoredFilter) (x : StoredFilter) (i : ℕ) (f : StoredFilter) → slice_get (fs ++ x ∷ []) i ≡ Some f → (slice_get fs i ≡ Some f) ⊎ ((i ≡ length fs) × (f ≡ x))
@@ -72,7 +73,7 @@ pub own_handles : (fs : List StoredFilter) (filter : StoredFilter) → HaveOwnHa
 own_handles fs filter own all = own_more (λ (f : StoredFilter). f.handle) fs filter own (λ place f e. (other_at fs filter all place f e).0)
 
 -- ---- the commit, and the trial after it
-module _ (writer : MaskWriter) (fs : List StoredFilter) (blocks rows size point : ℕ) (shape : Shape) (p : Seat (Unit {0}) (View Change))
+module _ (writer : Masks) (fs : List StoredFilter) (blocks rows size point : ℕ) (shape : Shape) (p : Seat (Unit {0}) (View Change))
     (tried : TriedWith writer fs blocks rows size point shape p) (rest : size ≡ size_of (length fs)) (filter : StoredFilter) (fit : FitsBlock filter) (all : All (IsOther filter) fs)
     (b : ℕ) (at : b ≡ blocks) where
   abbrev h : List (Commit Change)
@@ -85,7 +86,7 @@ module _ (writer : MaskWriter) (fs : List StoredFilter) (blocks rows size point 
       let fits : kept.mask.size ≡ size_of (length (now h)) = ap (λ (k : KeptMask). k.mask.size) same ∙ (tried.sized ∙ (rest ∙ ap (λ (l : List StoredFilter). size_of (length l)) (sym tried.changes))) in
       let own = subst (λ (l : List StoredFilter). HaveOwnKeys (l ++ filter ∷ [])) (sym tried.changes) (own_keys fs filter tried.keys all) in
       subst (λ (k : ℕ). Follows h (insert_at h (root_for kept.mask filter) b filter (k + 1) (changes.Put filter))) tried.edits
-      (insertion_follows h writer.mirror shape (sheet_of p).cells kept point tried.kept stands has fits filter b fit own)
+      (insertion_follows h kept.mask (writer_read writer shape (sheet_of p).cells (root_of h) 0 kept point (now h) tried.kept stands has) fits filter b fit own)
     where
       some_same : Some kept ≡ Some tried.mask → kept ≡ tried.mask
       some_same e = cc e
@@ -98,7 +99,7 @@ module _ (writer : MaskWriter) (fs : List StoredFilter) (blocks rows size point 
   pub put_lawful : (kept : KeptMask) → StandsAt writer 0 kept → Keeps (h ++ insert_at h (root_for kept.mask filter) b filter (point + 1) (changes.Put filter) ∷ []) 0
   put_lawful kept stands = keeps_more h 0 (insert_at h (root_for kept.mask filter) b filter (point + 1) (changes.Put filter)) tried.lawful (put_follows kept stands)
 
-  pub put_tried : (writer2 : MaskWriter) (p2 : Seat (Unit {0}) (View Change)) → blocks < 16384
+  pub put_tried : (writer2 : Masks) (p2 : Seat (Unit {0}) (View Change)) → blocks < 16384
       → seen_by p2 ≡ h ++ insert_at h (root_for tried.mask.mask filter) b filter (point + 1) (changes.Put filter) ∷ []
       → IsSameButCells (sheet_of p) (sheet_of p2) → AreNamed writer2 shape (sheet_of p2).cells (root_of (seen_by p2)) → masks_of writer2 ≡ masks_of writer
       → Holds writer2 0 (point + 1) (fs ++ filter ∷ []) → TriedWith writer2 (fs ++ filter ∷ []) (blocks + 1) rows size (point + 1) shape p2

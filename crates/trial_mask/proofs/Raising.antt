@@ -2,6 +2,7 @@
 use Rattle.std.proofs.Common.{◌≡◌, ◌∙◌, ℕ, ◌<◌, ◌≤◌, Bool, true, false, eqb, List, ◌++◌, length, get_or, set, slice_get, Option, Some, None, refl, sym, ap, subst, arith, eqb-true, get_or-set_other, get_or-set_same}
 use Rattle.std.specs.Prelude.{All}
 use Rattle.std.proofs.lemmas.Bool.{eqb-false}
+use Rattle.std.proofs.lemmas.List.{length-set}
 use Rattle.atomic_table.specs.declared.shared.Seat.{Seat}
 use Rattle.store_history.specs.declared.history.Commit.{Commit}
 use Rattle.store_history.specs.History.{root_of}
@@ -12,7 +13,7 @@ use Rattle.pin_store.specs.Calls.{seen_by, sheet_of}
 use Rattle.block_codec.specs.declared.filter.StoredFilter.{StoredFilter}
 use Rattle.block_codec.specs.declared.mask.StoredMask.{StoredMask}
 use Rattle.block_codec.specs.Masks.{IsStorableMask}
-use Rattle.mask_writer.specs.declared.mask_writer.MaskWriter.{MaskWriter}
+use Rattle.mask_writer.specs.Masks.{Masks}
 use Rattle.mask_mirror.specs.declared.mirror.KeptMask.{KeptMask}
 use Rattle.mask_writer.proofs.Standing.{slots_count}
 use Rattle.mask_writer.specs.Standing.{masks_of, Holds, AreNamed}
@@ -36,7 +37,7 @@ alone_at slots kept slot other only e = pick (eqb slot 0) refl
     pick true is = eqb-true slot 0 is
     pick false is = only slot other (sym (get_or-set_other slots 0 slot (Some kept) None (eqb-false slot 0 is)) ∙ e)
 
-module _ (writer writer2 : MaskWriter) (fs : List StoredFilter) (blocks rows point : ℕ) (shape : Shape) (p p2 : Seat (Unit {0}) (View Change)) (mask : StoredMask) (b : ℕ) (given : List ℕ) where
+module _ (writer writer2 : Masks) (fs : List StoredFilter) (blocks rows point : ℕ) (shape : Shape) (p p2 : Seat (Unit {0}) (View Change)) (mask : StoredMask) (b : ℕ) (given : List ℕ) where
   abbrev h : List (Commit Change)
   h = seen_by p
 
@@ -51,7 +52,9 @@ module _ (writer writer2 : MaskWriter) (fs : List StoredFilter) (blocks rows poi
       → RowsBelow h rows → rows ≤ 8192 → HaveOwnKeys fs → HaveOwnHandles fs → All FitsBlock fs
       → TriedWith writer2 fs blocks rows mask.size point shape p2
   raised_tried lawful base seen sheet kept masks only has words is serial all changes edits below low own few unused few_rows keys handles fit =
-      let long = slots_count writer in let some : 0 < length (masks_of writer) = omega arith in
+      let long = slots_count writer2 shape (sheet_of p2).cells (root_of (seen_by p2)) kept in
+      let same = ap length masks ∙ length-set (masks_of writer) 0 (Some (record { block = b; mask = mask })) in
+      let some : 0 < length (masks_of writer) = omega (arith, long, same) in
       let named : AreBelow (h ++ cs) blocks = along_all (λ x. AreBelow x blocks) (ChainBelow blocks) (below_more blocks) h cs below (mask_below blocks 0 mask b point given fs low own) in
       let used : RowsBelow (h ++ cs) rows = along_all (λ x. RowsBelow x rows) (SpendsBelow rows) (rows_more rows) h cs unused (mask_spends rows mask b (placed given fs) point is serial (ap length words) all) in
       record {

@@ -19,11 +19,11 @@ use Rattle.block_codec.specs.declared.filter.StoredFilter.{StoredFilter}
 use Rattle.block_codec.specs.declared.mask.StoredMask.{StoredMask}
 use Rattle.block_codec.specs.Masks.{IsStorableMask}
 use Rattle.mask_table.specs.Buckets.{IsAmong}
-use Rattle.mask_writer.specs.declared.mask_writer.MaskWriter.{MaskWriter}
+use Rattle.mask_writer.specs.Masks.{Masks}
 use Rattle.mask_mirror.specs.declared.mirror.KeptMask.{KeptMask}
 use Rattle.mask_writer.specs.Standing.{masks_of, StandsAt, Holds, AreNamed, AreFree}
 use Rattle.mask_mirror.specs.Linked.{placed, resized, raise_commits}
-use Rattle.mask_writer.proofs.Standing.{one_mask, record_read}
+use Rattle.mask_writer.proofs.Standing.{one_mask, one_list, record_read}
 use Rattle.mask_order.specs.Fitting.{FitInto}
 use Rattle.lone_mask.specs.declared.change.Change.{Change}
 use Rattle.store_history.proofs.Lists.{some_is}
@@ -32,7 +32,6 @@ use Rattle.lone_commits.proofs.Spending.{mask_fresh}
 use Rattle.lone_commits.proofs.WholeMask.{mask_follows, buckets_apart}
 use Rattle.trial_mask.specs.Trial.{TriedWith}
 use Rattle.trial_mask.proofs.Fresh.{range_distinct, range_within}
-use Rattle.mask_order.proofs.OneList.{one_list}
 use Rattle.trial_mask.proofs.Raising.{raised_tried}
 
 -- what holds of all numbers of a range
@@ -43,7 +42,7 @@ range_all P a n each = All-from_get_or P (range_with_len a n) 0
 sixteens : (size : ℕ) → IsTrue (is_size size) → size ≡ 16 * (size / 16)
 sixteens size is = grind (arith, nat_tests)
 
-module _ (writer : MaskWriter) (fs : List StoredFilter) (blocks rows size point : ℕ) (shape : Shape) (p : Seat (Unit {0}) (View Change)) (tried : TriedWith writer fs blocks rows size point shape p) where
+module _ (writer : Masks) (fs : List StoredFilter) (blocks rows size point : ℕ) (shape : Shape) (p : Seat (Unit {0}) (View Change)) (tried : TriedWith writer fs blocks rows size point shape p) where
   abbrev h : List (Commit Change)
   h = seen_by p
 
@@ -59,7 +58,7 @@ module _ (writer : MaskWriter) (fs : List StoredFilter) (blocks rows size point 
   })
 
   same_list : (last : ℕ) (gs : List StoredFilter) → Holds writer 0 last gs → fs ≡ gs
-  same_list last gs has = one_list writer.mirror shape (sheet_of p).cells (root_of h) tried.kept 0 point last fs gs tried.has has
+  same_list last gs has = one_list writer 0 point last fs gs tried.has has
 
   module _ (given : List ℕ) (fresh : given ≡ range_with_len blocks (length fs + 1)) where
     pub many_given : (last : ℕ) (gs : List StoredFilter) → Holds writer 0 last gs → length given ≡ length gs + 1
@@ -94,7 +93,7 @@ module _ (writer : MaskWriter) (fs : List StoredFilter) (blocks rows size point 
           (mask_follows h mask given tried.lawful (mask_fresh h mask rows tried.rows_below is above) (buckets_apart mask is distinct) (get_or given (length gs) 0)
           (fits ∙ ap (λ (l : List StoredFilter). size_of (length l)) (sym tried.changes)) (ap (λ (k : KeptMask). k.mask.mask.words) same ∙ tried.words) is serial same_serial into n))
 
-      pub resized_tried : (writer2 : MaskWriter) (p2 : Seat (Unit {0}) (View Change))
+      pub resized_tried : (writer2 : Masks) (p2 : Seat (Unit {0}) (View Change))
           → seen_by p2 ≡ h ++ raise_commits 0 (resized tried.mask.mask size2 rows2) (get_or given (length fs) 0) (placed given fs) point
           → IsSameButCells (sheet_of p) (sheet_of p2) → AreNamed writer2 shape (sheet_of p2).cells (root_of (seen_by p2))
           → masks_of writer2 ≡ set (masks_of writer) 0 (Some (record { block = get_or given (length fs) 0; mask = resized tried.mask.mask size2 rows2 }))

@@ -13,10 +13,10 @@ use Rattle.pin_store.specs.Calls.{seen_by, sheet_of}
 use Rattle.flow_mask.specs.Sizes.{size_of}
 use Rattle.block_codec.specs.declared.filter.StoredFilter.{StoredFilter}
 use Rattle.mask_table.specs.Buckets.{bucket_for, bucket_of}
-use Rattle.mask_writer.specs.declared.mask_writer.MaskWriter.{MaskWriter}
+use Rattle.mask_writer.specs.Masks.{Masks}
 use Rattle.mask_mirror.specs.declared.mirror.KeptMask.{KeptMask}
 use Rattle.mask_writer.specs.Standing.{masks_of, StandsAt, Holds, AreNamed}
-use Rattle.mask_mirror.proofs.Dates.{rises_higher}
+use Rattle.mask_writer.proofs.Standing.{held_later}
 use Rattle.mask_mirror.proofs.Keeping.{same_base}
 use Rattle.mask_order.specs.Fitting.{FitsBlock}
 use Rattle.mask_mirror.specs.Changing.{FilterAt, HasNone, remove_at}
@@ -32,6 +32,7 @@ use Rattle.lone_commits.proofs.Rewriting.{removal_follows, found_there, each_fou
 use Rattle.trial_mask.specs.Trial.{TriedWith}
 use Rattle.trial_mask.proofs.Fresh.{range_within}
 use Rattle.trial_mask.proofs.Putting.{OwnMarks}
+use Rattle.trial_mask.proofs.Reading.{writer_read}
 
 split_next : (fs : List StoredFilter) (place : ℕ) (f : StoredFilter) → slice_get fs place ≡ Some f → fs ≡ take place fs ++ f ∷ drop (suc place) fs
 split_next [] place f e = absurd (cc e)
@@ -74,18 +75,7 @@ module _ {X : Type 0} (mark : StoredFilter → X) (fs : List StoredFilter) (plac
       pick (inl r) = let low = r.0 in let one = own k place g f r.1 is same in absurd (omega arith)
       pick (inr r) = let high = r.0 in let one = own (suc k) place g f r.1 is same in absurd (omega arith)
 
--- no edit after a later one brought one of them either
-has_later : (writer : MaskWriter) (slot last later : ℕ) (fs : List StoredFilter) → last ≤ later → Holds writer slot last fs → Holds writer slot later fs
-has_later writer slot last later fs low has = record {
-  kept = has.kept;
-  stands = has.stands;
-  dated = has.dated;
-  filters = has.filters;
-  rise = rises_higher 0 _ _ has.dated (omega arith) has.rise;
-  buckets = has.buckets;
-}
-
-module _ (writer : MaskWriter) (fs : List StoredFilter) (blocks rows size point : ℕ) (shape : Shape) (p : Seat (Unit {0}) (View Change))
+module _ (writer : Masks) (fs : List StoredFilter) (blocks rows size point : ℕ) (shape : Shape) (p : Seat (Unit {0}) (View Change))
     (tried : TriedWith writer fs blocks rows size point shape p) (place : ℕ) (f : StoredFilter) (is : slice_get fs place ≡ Some f) where
   abbrev h : List (Commit Change)
   h = seen_by p
@@ -98,7 +88,7 @@ module _ (writer : MaskWriter) (fs : List StoredFilter) (blocks rows size point 
 
   -- the filter is found
   pub take_there : (kept : KeptMask) × (root : ℕ) × (front : List StoredFilter) × (filter : StoredFilter) × StandsAt writer 0 kept × FilterAt (root_of h) kept.mask f.handle root front filter
-  take_there = let found = each_found h writer.mirror shape (sheet_of p).cells tried.mask point tried.kept tried.stands has f
+  take_there = let found = each_found h tried.mask.mask (writer_read writer shape (sheet_of p).cells (root_of h) 0 tried.mask point (now h) tried.kept tried.stands has) f
       (place, subst (λ (l : List StoredFilter). slice_get l place ≡ Some f) (sym tried.changes) is) in
       (tried.mask, found.0, found.1, f, tried.stands, found.2)
 
@@ -115,7 +105,7 @@ module _ (writer : MaskWriter) (fs : List StoredFilter) (blocks rows size point 
 
     -- as many blocks are given as filters stand in front
     pub take_many : length given ≡ length front
-    take_many = let found = found_there h writer.mirror shape (sheet_of p).cells kept point tried.kept stands has f.handle root front filter at own (take place fs) f (drop (place + 1) fs) (tried.changes ∙ split_at fs place f is) refl in
+    take_many = let found = found_there h kept.mask (writer_read writer shape (sheet_of p).cells (root_of h) 0 kept point (now h) tried.kept stands has) f.handle root front filter at own (take place fs) f (drop (place + 1) fs) (tried.changes ∙ split_at fs place f is) refl in
         ap length fresh ∙ (length-range_with_len blocks count ∙ (counted
         ∙ (ap (λ (s : ℕ). length (bucket_of s (bucket_for s f.key.words) (drop (place + 1) fs))) (sym size_is) ∙ sym (ap length found.0))))
 
@@ -123,14 +113,14 @@ module _ (writer : MaskWriter) (fs : List StoredFilter) (blocks rows size point 
     pub take_lawful : size ≡ size_of (length fs) → blocks + count ≤ 16384 → Keeps (h ++ remove_at h root given front (point + 1) (changes.Take f.handle) ∷ []) 0
     take_lawful rest room = keeps_more h 0 (remove_at h root given front (point + 1) (changes.Take f.handle)) tried.lawful
         (subst (λ (k : ℕ). Follows h (remove_at h root given front (k + 1) (changes.Take f.handle))) tried.edits
-        (removal_follows h writer.mirror shape (sheet_of p).cells kept point tried.kept stands has f.handle root front filter at own
+        (removal_follows h kept.mask (writer_read writer shape (sheet_of p).cells (root_of h) 0 kept point (now h) tried.kept stands has) f.handle root front filter at own
         (size_is ∙ (rest ∙ ap (λ (l : List StoredFilter). size_of (length l)) (sym tried.changes))) (subst HaveOwnKeys (sym tried.changes) tried.keys) given enough
         (λ place b e. let r = range_within blocks count place b (subst (λ (g : List ℕ). slice_get g place ≡ Some b) fresh e) in omega (arith, r))))
       where
         enough : length front ≤ length given
         enough = let many = take_many in omega (arith, many)
 
-    pub take_tried : size ≡ size_of (length fs) → blocks + count ≤ 16384 → (writer2 : MaskWriter) (p2 : Seat (Unit {0}) (View Change))
+    pub take_tried : size ≡ size_of (length fs) → blocks + count ≤ 16384 → (writer2 : Masks) (p2 : Seat (Unit {0}) (View Change))
         → seen_by p2 ≡ h ++ remove_at h root given front (point + 1) (changes.Take f.handle) ∷ []
         → IsSameButCells (sheet_of p) (sheet_of p2) → AreNamed writer2 shape (sheet_of p2).cells (root_of (seen_by p2)) → masks_of writer2 ≡ masks_of writer
         → ((last : ℕ) (earlier : List StoredFilter) (filter : StoredFilter) (later : List StoredFilter) → Holds writer 0 last (earlier ++ filter ∷ later)
@@ -155,7 +145,7 @@ module _ (writer : MaskWriter) (fs : List StoredFilter) (blocks rows size point 
           old_rows = tried.old_rows;
           changes = ap now seen ∙ (now_more h c (point + 1) (changes.Take f.handle) refl ∙ (ap (λ (l : List StoredFilter). changed l (changes.Take f.handle)) (tried.changes ∙ split)
               ∙ taken_out earlier f later (subst HaveOwnHandles split tried.handles)));
-          has = has_later writer2 0 point (point + 1) (earlier ++ later) (omega arith) (list point earlier f later (subst (Holds writer 0 point) split tried.has) refl
+          has = held_later writer2 0 point (point + 1) (earlier ++ later) (omega arith) (list point earlier f later (subst (Holds writer 0 point) split tried.has) refl
               (λ g among. left_none (λ (x : StoredFilter). x.handle) fs place tried.handles f is among.0 g among.1));
           edits = ap point_of seen ∙ (point_more h c (point + 1) (changes.Take f.handle) refl ∙ ap (λ (k : ℕ). k + 1) tried.edits);
           blocks_below = subst (λ (k : List (Commit Change)). AreBelow k (blocks + count)) (sym seen) below;

@@ -9,7 +9,7 @@ use Rattle.pin_store.specs.Sheets.{base_of}
 use Rattle.pin_store.specs.Calls.{seen_by, sheet_of}
 use Rattle.flow_mask.specs.Sizes.{size_of}
 use Rattle.block_codec.specs.declared.filter.StoredFilter.{StoredFilter}
-use Rattle.mask_writer.specs.declared.mask_writer.MaskWriter.{MaskWriter}
+use Rattle.mask_writer.specs.Masks.{Masks}
 use Rattle.mask_mirror.specs.declared.mirror.KeptMask.{KeptMask}
 use Rattle.mask_writer.specs.Standing.{StandsAt, Holds, AreNamed}
 use Rattle.mask_order.specs.Fitting.{FitsBlock}
@@ -21,7 +21,7 @@ use Rattle.trial_mask.specs.declared.trial.Trial.{Trial}
 
 -- THE TRIAL IS THE STORE'S, given part by part: the commits keep the law, one mask stands, at slot 0, and its filters are those of all changes
 -- so far. Blocks and rows from the two numbers on were never used.
-pub record TriedWith (writer : MaskWriter) (filters : List StoredFilter) (blocks rows size point : ℕ) (shape : Shape) (p : Seat (Unit {0}) (View Change)) : Type 0 where
+pub record TriedWith (writer : Masks) (filters : List StoredFilter) (blocks rows size point : ℕ) (shape : Shape) (p : Seat (Unit {0}) (View Change)) : Type 0 where
   pub lawful : Keeps (seen_by p) 0
   pub base : base_of (sheet_of p) ≡ 0
   pub kept : AreNamed writer shape (sheet_of p).cells (root_of (seen_by p))

@@ -1,90 +1,72 @@
-use Rattle.std.proofs.Common.{◌≡◌, ◌∙◌, ℕ, ◌+◌, ◌<◌, List, [], ◌∷◌, ◌++◌, length, get_or, Some, refl, sym, ap, subst, arith}
-use Rattle.std.proofs.lemmas.List.{get_or_default}
-use Rattle.store_history.specs.declared.history.Commit.{Commit}
+use Rattle.std.proofs.Common.{◌∙◌, List, [], ◌∷◌, set, get_or, Option, None, refl, sym, ap}
 use Rattle.store_history.specs.History.{root_of}
-use Rattle.pin_store.specs.Layout.{commit_of}
-use Rattle.pin_store.specs.Sheets.{base_of}
-use Rattle.pin_store.specs.Calls.{seen_by, sheet_of, IsUnnamed}
-use Rattle.pin_store.proofs.Sound.{base_low}
-use Rattle.mask_mirror.specs.Kept.{HoldsChain, BucketAt, IsKept, AreOwn}
+use Rattle.pin_store.specs.Calls.{seen_by, sheet_of}
+use Rattle.block_codec.specs.declared.filter.StoredFilter.{StoredFilter}
+use Rattle.mask_mirror.specs.declared.mirror.KeptMask.{KeptMask}
+use Rattle.mask_table.specs.Buckets.{bucket_for}
+use Rattle.mask_mirror.specs.Kept.{BucketAt}
 use Rattle.mask_mirror.specs.Changing.{root_for, insert_at}
-use Rattle.mask_mirror.proofs.Keeping.{same_base, same_kept, unnamed_now}
-use Rattle.mask_writer.proofs.Inserting.{chain_ready, commit_is, others_have, mask_has}
+use Rattle.mask_build.proofs.Aside.{bucket_within}
+use Rattle.mask_writer.specs.Masks.{Order, Masks}
+use Rattle.mask_writer.specs.Telling.{joined}
+use Rattle.mask_writer.proofs.Showing.{seen_as, masks_are, stands_kept, stands_shown, order_is, named_kept, named_shown}
+use Rattle.mask_writer.proofs.Editing.{told_again, order_after, holds_others, joined_edit, joined_list}
+use Rattle.mask_writer.proofs.Untouched.{others_stay, slots_same, one_root}
 use Rattle.mask_writer.proofs.mask_writer.MaskWriter.insert.Goals as goal
 
-pub place_in-place-requires-clause-storable : goal.place_in-place-requires-clause-storable
-place_in-place-requires-clause-storable g c = λ kept stands. (c.requires.kept.masks c.args.slot kept stands).there.storable
+pub insert_filter-requires-clause-stands : goal.insert_filter-requires-clause-stands
+insert_filter-requires-clause-stands g c = let w = c.args.self.now in let m = c.self.inside.mirror in let os = c.self.inside.told.orders in let at = ap (λ (v : Masks). v.at) (sym c.self.view_is) in let slot = c.args.slot in
+    let s = c.requires.stands in (s.0, stands_kept w m os at slot s.0 s.1)
 
-pub put_in_front-requires-clause-free : goal.put_in_front-requires-clause-free
-put_in_front-requires-clause-free g c = subst (IsUnnamed (base_of (sheet_of c.args.writer.now.place)) (seen_by c.args.writer.now.place)) (ap (λ (bs : List ℕ). get_or bs 0 0) (sym c.as_slice.ensures)) c.requires.free
+pub insert_filter-requires-clause-lawful : goal.insert_filter-requires-clause-lawful
+insert_filter-requires-clause-lawful g c = λ kept stands. let w = c.args.self.now in let m = c.self.inside.mirror in let os = c.self.inside.told.orders in let at = ap (λ (v : Masks). v.at) (sym c.self.view_is) in let slot = c.args.slot in
+    c.requires.lawful kept (stands_shown w m os at slot kept stands)
 
-pub rename-requires-clause-chain : goal.rename-requires-clause-chain
-rename-requires-clause-chain g c =
-    let mirror = c.args.self.now.mirror in let shape = c.args.store.now.shape in let h = seen_by c.args.writer.now.place in let old = sheet_of c.args.writer.now.place in
-    let b = get_or c.as_slice.result.now 0 0 in let given : get_or c.args.given.now.blocks 0 0 ≡ b = ap (λ (bs : List ℕ). get_or bs 0 0) (sym c.as_slice.ensures) in
-    let kept = c.requires.stands.0 in let stands = c.requires.stands.1 in let filter = c.args.filter.now in
-    let free = unnamed_now (base_of old) h b (base_low old c.args.writer.now.sound) (subst (IsUnnamed (base_of old) h) given c.requires.free) in
-    let place = c.place_in-place.result in let next = c.index-next.result.now in let at = c.place_in-place.ensures.place kept stands in
-    let inside : place < length mirror.first.items = (let long = mirror.first_long in let small = c.place_in-place.ensures.small in omega arith) in
-    let was = c.index-next.ensures ∙ get_or_default mirror.first.items place next 0 inside in
-    let p = c.put_in_front.ensures in let mirror2 = c.put_in_front.new.mirror in let new = sheet_of c.put_in_front.new.writer.place in
-    subst (λ (more : List (Commit g.row.L-Entry.Denot)). (own : BucketAt mirror2 (10243 + place)) × (blocks : List ℕ) × HoldsChain mirror2 shape new.cells own.kept.mask.size own.bucket (b + 1) blocks
-    × AreOwn mirror2 (root_of more) (10243 + place) blocks) (sym p.seen)
-    (chain_ready mirror mirror2 shape old.cells new.cells h c.args.slot b kept filter place next c.requires.kept stands free at was p.filled p.chain)
+pub insert_filter-requires-clause-kept : goal.insert_filter-requires-clause-kept
+insert_filter-requires-clause-kept g c = let w = c.args.self.now in let m = c.self.inside.mirror in let os = c.self.inside.told.orders in let at = ap (λ (v : Masks). v.at) (sym c.self.view_is) in let slot = c.args.slot in let old = c.args.writer.now.place in let shape = c.args.store.now.shape in
+    named_kept w m os at shape (sheet_of old).cells (root_of (seen_by old)) c.self.invariant c.requires.kept
 
-pub rename-requires-clause-lawful : goal.rename-requires-clause-lawful
-rename-requires-clause-lawful g c = λ blocks s.
-    let mirror = c.args.self.now.mirror in let shape = c.args.store.now.shape in let h = seen_by c.args.writer.now.place in let old = sheet_of c.args.writer.now.place in
-    let b = get_or c.as_slice.result.now 0 0 in let given : get_or c.args.given.now.blocks 0 0 ≡ b = ap (λ (bs : List ℕ). get_or bs 0 0) (sym c.as_slice.ensures) in
-    let kept = c.requires.stands.0 in let stands = c.requires.stands.1 in let filter = c.args.filter.now in
-    let free = unnamed_now (base_of old) h b (base_low old c.args.writer.now.sound) (subst (IsUnnamed (base_of old) h) given c.requires.free) in
-    let place = c.place_in-place.result in let next = c.index-next.result.now in let at = c.place_in-place.ensures.place kept stands in
-    let inside : place < length mirror.first.items = (let long = mirror.first_long in let small = c.place_in-place.ensures.small in omega arith) in
-    let was = c.index-next.ensures ∙ get_or_default mirror.first.items place next 0 inside in
-    let p = c.put_in_front.ensures in let mirror2 = c.put_in_front.new.mirror in let new = sheet_of c.put_in_front.new.writer.place in
-    let one = commit_is mirror mirror2 shape old.cells new.cells h c.args.slot b kept filter place next c.requires.kept stands free at was p.filled p.words p.chain blocks s c.args.edit g.E.EditName.edit ∙ ap (λ (k : ℕ). insert_at h (root_for kept.mask filter) k filter c.args.edit g.E.EditName.edit) (sym given) in
-    subst (g.L.Law.keeps (seen_by c.put_in_front.new.writer.place ++ commit_of shape new.cells (10243 + place) blocks c.args.edit (Some c.args.edit) g.E.EditName.edit ∷ [])) (sym (same_base old new p.sheet))
-    (subst (λ (k : List (Commit g.row.L-Entry.Denot)). g.L.Law.keeps k (base_of old)) (λ t. sym p.seen t ++ sym one t ∷ []) (c.requires.lawful kept stands))
+pub invariant_of-self : goal.invariant_of-self
+invariant_of-self g c = let w = c.args.self.now in let m = c.self.inside.mirror in let os = c.self.inside.told.orders in let at = ap (λ (v : Masks). v.at) (sym c.self.view_is) in let slot = c.args.slot in let old = c.args.writer.now.place in let shape = c.args.store.now.shape in let m2 = c.insert_filter.new.mirror in let os2 = c.with-self-inside.result.orders in let new = c.insert_filter.new.writer.place in
+    let e = joined_edit m m2 os os2 slot c.requires.slot c.self.invariant (shape, (sheet_of new).cells, root_of (seen_by new), c.insert_filter.ensures.kept) c.insert_filter.ensures.lists c.args.filter.now c.args.edit (c.with-self-inside.ensures ∙ ap (λ (fs : List StoredFilter). set os slot (joined (get_or os slot None) fs c.args.edit)) c.from_ref-one.ensures.value) c.insert_filter.ensures.list in
+    told_again m m2 os os2 slot (joined (get_or os slot None) (c.args.filter.now ∷ []) c.args.edit) e
+
+pub returns-clause-kept : goal.returns-clause-kept
+returns-clause-kept g c = let w = c.args.self.now in let m = c.self.inside.mirror in let os = c.self.inside.told.orders in let at = ap (λ (v : Masks). v.at) (sym c.self.view_is) in let slot = c.args.slot in let old = c.args.writer.now.place in let shape = c.args.store.now.shape in let m2 = c.insert_filter.new.mirror in let os2 = c.with-self-inside.result.orders in let new = c.insert_filter.new.writer.place in let w2 = seen_as m2 os2 c.clear.new.self c.clear-2.new.self in
+    named_shown w2 m2 os2 refl shape (sheet_of new).cells (root_of (seen_by new)) c.insert_filter.ensures.kept
 
 pub returns-clause-seen : goal.returns-clause-seen
-returns-clause-seen g c = λ more there.
-    let mirror = c.args.self.now.mirror in let shape = c.args.store.now.shape in let h = seen_by c.args.writer.now.place in let old = sheet_of c.args.writer.now.place in
-    let b = get_or c.as_slice.result.now 0 0 in let given : get_or c.args.given.now.blocks 0 0 ≡ b = ap (λ (bs : List ℕ). get_or bs 0 0) (sym c.as_slice.ensures) in
-    let kept = c.requires.stands.0 in let stands = c.requires.stands.1 in let filter = c.args.filter.now in
-    let free = unnamed_now (base_of old) h b (base_low old c.args.writer.now.sound) (subst (IsUnnamed (base_of old) h) given c.requires.free) in
-    let place = c.place_in-place.result in let next = c.index-next.result.now in let at = c.place_in-place.ensures.place kept stands in
-    let inside : place < length mirror.first.items = (let long = mirror.first_long in let small = c.place_in-place.ensures.small in omega arith) in
-    let was = c.index-next.ensures ∙ get_or_default mirror.first.items place next 0 inside in
-    let p = c.put_in_front.ensures in let mirror2 = c.put_in_front.new.mirror in let new = sheet_of c.put_in_front.new.writer.place in
-    let chain = chain_ready mirror mirror2 shape old.cells new.cells h c.args.slot b kept filter place next c.requires.kept stands free at was p.filled p.chain in
-    let same = same_kept mirror c.args.slot c.args.slot kept more refl stands there in
-    let one = commit_is mirror mirror2 shape old.cells new.cells h c.args.slot b kept filter place next c.requires.kept stands free at was p.filled p.words p.chain chain.1 chain.2.spelled c.args.edit g.E.EditName.edit ∙ (λ t. insert_at h (root_for (same t).mask filter) (sym given t) filter c.args.edit g.E.EditName.edit) in
-    c.rename.ensures.seen chain.1 chain.2.spelled ∙ (λ t. p.seen t ++ one t ∷ [])
+returns-clause-seen g c = λ kept stands. let w = c.args.self.now in let m = c.self.inside.mirror in let os = c.self.inside.told.orders in let at = ap (λ (v : Masks). v.at) (sym c.self.view_is) in let slot = c.args.slot in
+    c.insert_filter.ensures.seen kept (stands_kept w m os at slot kept stands)
+
+pub returns-clause-masks : goal.returns-clause-masks
+returns-clause-masks g c = let w = c.args.self.now in let m = c.self.inside.mirror in let os = c.self.inside.told.orders in let at = ap (λ (v : Masks). v.at) (sym c.self.view_is) in let slot = c.args.slot in let old = c.args.writer.now.place in let shape = c.args.store.now.shape in let m2 = c.insert_filter.new.mirror in let os2 = c.with-self-inside.result.orders in let new = c.insert_filter.new.writer.place in let w2 = seen_as m2 os2 c.clear.new.self c.clear-2.new.self in
+    masks_are w2 m2 os2 refl ∙ (c.insert_filter.ensures.masks ∙ sym (masks_are w m os at))
+
+pub returns-clause-order : goal.returns-clause-order
+returns-clause-order g c = let w = c.args.self.now in let m = c.self.inside.mirror in let os = c.self.inside.told.orders in let at = ap (λ (v : Masks). v.at) (sym c.self.view_is) in let slot = c.args.slot in let old = c.args.writer.now.place in let shape = c.args.store.now.shape in let m2 = c.insert_filter.new.mirror in let os2 = c.with-self-inside.result.orders in let new = c.insert_filter.new.writer.place in let w2 = seen_as m2 os2 c.clear.new.self c.clear-2.new.self in
+    let e = joined_edit m m2 os os2 slot c.requires.slot c.self.invariant (shape, (sheet_of new).cells, root_of (seen_by new), c.insert_filter.ensures.kept) c.insert_filter.ensures.lists c.args.filter.now c.args.edit (c.with-self-inside.ensures ∙ ap (λ (fs : List StoredFilter). set os slot (joined (get_or os slot None) fs c.args.edit)) c.from_ref-one.ensures.value) c.insert_filter.ensures.list in
+    let s = c.requires.stands in let here = stands_kept w m os at slot s.0 s.1 in
+    order_after m m2 os os2 slot (joined (get_or os slot None) (c.args.filter.now ∷ []) c.args.edit) e w2 refl s.0 (ap (λ (xs : List (Option KeptMask)). get_or xs slot None) c.insert_filter.ensures.masks ∙ here)
+    ∙ ap (λ (b : Option Order). joined b (c.args.filter.now ∷ []) c.args.edit) (sym (order_is w m os at slot s.0 here))
 
 pub returns-clause-list : goal.returns-clause-list
-returns-clause-list g c = λ last fs has later.
-    let mirror = c.args.self.now.mirror in let shape = c.args.store.now.shape in let h = seen_by c.args.writer.now.place in let old = sheet_of c.args.writer.now.place in
-    let b = get_or c.as_slice.result.now 0 0 in let given : get_or c.args.given.now.blocks 0 0 ≡ b = ap (λ (bs : List ℕ). get_or bs 0 0) (sym c.as_slice.ensures) in
-    let kept = c.requires.stands.0 in let stands = c.requires.stands.1 in let filter = c.args.filter.now in
-    let free = unnamed_now (base_of old) h b (base_low old c.args.writer.now.sound) (subst (IsUnnamed (base_of old) h) given c.requires.free) in
-    let place = c.place_in-place.result in let next = c.index-next.result.now in let at = c.place_in-place.ensures.place kept stands in
-    let inside : place < length mirror.first.items = (let long = mirror.first_long in let small = c.place_in-place.ensures.small in omega arith) in
-    let was = c.index-next.ensures ∙ get_or_default mirror.first.items place next 0 inside in
-    let p = c.put_in_front.ensures in let mirror2 = c.put_in_front.new.mirror in let new = sheet_of c.put_in_front.new.writer.place in
-    let keeps2 = subst (λ (more : List (Commit g.row.L-Entry.Denot)). IsKept mirror2 shape new.cells (root_of more)) p.seen p.kept in
-    mask_has mirror mirror2 shape old.cells new.cells h c.args.slot b kept filter place next c.requires.kept stands free at was p.filled c.first_age.result c.args.edit
-    c.rename.new.mirror c.rename.ensures.renamed keeps2 c.place_in-place.ensures.small p.dated c.first_age.ensures p.lists p.chain last fs has later
+returns-clause-list g c = let w = c.args.self.now in let m = c.self.inside.mirror in let os = c.self.inside.told.orders in let at = ap (λ (v : Masks). v.at) (sym c.self.view_is) in let slot = c.args.slot in let old = c.args.writer.now.place in let shape = c.args.store.now.shape in let m2 = c.insert_filter.new.mirror in let os2 = c.with-self-inside.result.orders in let new = c.insert_filter.new.writer.place in let w2 = seen_as m2 os2 c.clear.new.self c.clear-2.new.self in
+    let e = joined_edit m m2 os os2 slot c.requires.slot c.self.invariant (shape, (sheet_of new).cells, root_of (seen_by new), c.insert_filter.ensures.kept) c.insert_filter.ensures.lists c.args.filter.now c.args.edit (c.with-self-inside.ensures ∙ ap (λ (fs : List StoredFilter). set os slot (joined (get_or os slot None) fs c.args.edit)) c.from_ref-one.ensures.value) c.insert_filter.ensures.list in
+    joined_list m m2 os os2 slot c.requires.slot c.self.invariant (shape, (sheet_of new).cells, root_of (seen_by new), c.insert_filter.ensures.kept) c.insert_filter.ensures.lists w w2 at refl c.args.filter.now c.args.edit e
 
 pub returns-clause-lists : goal.returns-clause-lists
-returns-clause-lists g c = λ other last fs away has.
-    let mirror = c.args.self.now.mirror in let shape = c.args.store.now.shape in let h = seen_by c.args.writer.now.place in let old = sheet_of c.args.writer.now.place in
-    let b = get_or c.as_slice.result.now 0 0 in let given : get_or c.args.given.now.blocks 0 0 ≡ b = ap (λ (bs : List ℕ). get_or bs 0 0) (sym c.as_slice.ensures) in
-    let kept = c.requires.stands.0 in let stands = c.requires.stands.1 in let filter = c.args.filter.now in
-    let free = unnamed_now (base_of old) h b (base_low old c.args.writer.now.sound) (subst (IsUnnamed (base_of old) h) given c.requires.free) in
-    let place = c.place_in-place.result in let next = c.index-next.result.now in let at = c.place_in-place.ensures.place kept stands in
-    let inside : place < length mirror.first.items = (let long = mirror.first_long in let small = c.place_in-place.ensures.small in omega arith) in
-    let was = c.index-next.ensures ∙ get_or_default mirror.first.items place next 0 inside in
-    let p = c.put_in_front.ensures in let mirror2 = c.put_in_front.new.mirror in let new = sheet_of c.put_in_front.new.writer.place in
-    let keeps2 = subst (λ (more : List (Commit g.row.L-Entry.Denot)). IsKept mirror2 shape new.cells (root_of more)) p.seen p.kept in
-    others_have mirror mirror2 shape old.cells new.cells h c.args.slot b kept filter place next c.requires.kept stands free at was p.filled c.first_age.result c.args.edit
-    c.rename.new.mirror c.rename.ensures.renamed keeps2 c.place_in-place.ensures.small p.dated c.first_age.ensures p.lists other last fs away has
+returns-clause-lists g c = let w = c.args.self.now in let m = c.self.inside.mirror in let os = c.self.inside.told.orders in let at = ap (λ (v : Masks). v.at) (sym c.self.view_is) in let slot = c.args.slot in let old = c.args.writer.now.place in let shape = c.args.store.now.shape in let m2 = c.insert_filter.new.mirror in let os2 = c.with-self-inside.result.orders in let new = c.insert_filter.new.writer.place in let w2 = seen_as m2 os2 c.clear.new.self c.clear-2.new.self in
+    let e = joined_edit m m2 os os2 slot c.requires.slot c.self.invariant (shape, (sheet_of new).cells, root_of (seen_by new), c.insert_filter.ensures.kept) c.insert_filter.ensures.lists c.args.filter.now c.args.edit (c.with-self-inside.ensures ∙ ap (λ (fs : List StoredFilter). set os slot (joined (get_or os slot None) fs c.args.edit)) c.from_ref-one.ensures.value) c.insert_filter.ensures.list in
+    holds_others m m2 os os2 slot (joined (get_or os slot None) (c.args.filter.now ∷ []) c.args.edit) e w2 refl w at
+
+pub returns-clause-untouched : goal.returns-clause-untouched
+returns-clause-untouched g c = let w = c.args.self.now in let m = c.self.inside.mirror in let os = c.self.inside.told.orders in let at = ap (λ (v : Masks). v.at) (sym c.self.view_is) in let slot = c.args.slot in let old = c.args.writer.now.place in let shape = c.args.store.now.shape in let m2 = c.insert_filter.new.mirror in let os2 = c.with-self-inside.result.orders in let new = c.insert_filter.new.writer.place in let w2 = seen_as m2 os2 c.clear.new.self c.clear-2.new.self in
+    let e = joined_edit m m2 os os2 slot c.requires.slot c.self.invariant (shape, (sheet_of new).cells, root_of (seen_by new), c.insert_filter.ensures.kept) c.insert_filter.ensures.lists c.args.filter.now c.args.edit (c.with-self-inside.ensures ∙ ap (λ (fs : List StoredFilter). set os slot (joined (get_or os slot None) fs c.args.edit)) c.from_ref-one.ensures.value) c.insert_filter.ensures.list in
+    let s = c.requires.stands in let here = stands_kept w m os at slot s.0 s.1 in let filter = c.args.filter.now in
+    let is = (c.requires.kept.masks slot s.0 s.1).there.storable in
+    let own : BucketAt m (root_for s.0.mask filter) = record { slot = slot; bucket = bucket_for s.0.mask.size filter.key.words; kept = s.0; stands = here; within = bucket_within s.0.mask is filter.key.words; same = refl } in
+    let keeps = named_kept w m os at shape (sheet_of old).cells (root_of (seen_by old)) c.self.invariant c.requires.kept in
+    others_stay m m2 os os2 slot (joined (get_or os slot None) (c.args.filter.now ∷ []) c.args.edit) e w w2 at refl shape (sheet_of old).cells (sheet_of new).cells (root_of (seen_by old)) (root_of (seen_by new)) keeps c.insert_filter.ensures.kept
+    (one_root m shape (sheet_of old).cells (seen_by old) (seen_by new) slot keeps (insert_at (seen_by old) (root_for s.0.mask filter) (get_or c.args.given.now.blocks 0 0) filter c.args.edit g.E.EditName.edit) own refl (c.insert_filter.ensures.seen s.0 here))
+    (slots_same m m2 slot c.insert_filter.ensures.masks)

@@ -1,81 +1,81 @@
-use Rattle.std.proofs.Common.{rules, ◌∙◌, ℕ, ◌+◌, ◌≤◌, List, ◌++◌, length, take, set, get_or, Some, refl, sym, ap, subst, arith}
-use Rattle.std.proofs.lemmas.Option.{slice_get-get_or}
-use Rattle.store_history.specs.declared.history.Commit.{Commit}
+use Rattle.std.proofs.Common.{◌∙◌, List, set, get_or, Option, Some, None, refl, sym, ap, length, arith, get_or-set_same}
 use Rattle.store_history.specs.History.{root_of}
-use Rattle.pin_store.specs.Sheets.{base_of}
 use Rattle.pin_store.specs.Calls.{seen_by, sheet_of}
-use Rattle.block_codec.specs.declared.mask.StoredMask.{StoredMask}
-use Rattle.mask_table.specs.Buckets.{IsAmong}
-use Rattle.mask_mirror.specs.Given.{AreGiven, AreFreeRows}
-use Rattle.mask_mirror.specs.Lists.{age_of, Rises, HasFilters}
-use Rattle.mask_mirror.specs.Linked.{placed, raise_commits, resized}
-use Rattle.mask_mirror.proofs.Keeping.{same_base}
-use Rattle.mask_order.proofs.Buckets.{long_dated}
-use Rattle.mask_build.specs.Laid.{places, laid_in}
-use Rattle.mask_build.proofs.Aside.{free_rows_same}
-use Rattle.mask_build.proofs.Bringing.{few_given, laid_ready, laid_commits, filters_laid, dates_laid}
+use Rattle.mask_mirror.specs.declared.mirror.KeptMask.{KeptMask}
+use Rattle.mask_mirror.specs.Linked.{placed, resized}
+use Rattle.mask_mirror.specs.Kept.{Stands}
+use Rattle.mask_writer.specs.Masks.{Masks}
+use Rattle.mask_writer.proofs.Showing.{seen_as, masks_are, stands_kept, stands_shown, order_is, rows_kept, named_kept, named_shown, holds_kept, holds_again}
+use Rattle.mask_writer.proofs.Editing.{told_again, order_after, holds_others, same_edit, same_list}
+use Rattle.mask_writer.proofs.Untouched.{others_stay, slots_set, raised_roots}
 use Rattle.mask_writer.proofs.mask_writer.MaskWriter.resize.Goals as goal
 
-pub relay-count-requires-clause-many : goal.relay-count-requires-clause-many
-relay-count-requires-clause-many g c = λ last fs has. ap length c.as_slice-blocks.ensures ∙ c.requires.many last fs has
+pub resize_mask-requires-clause-rows : goal.resize_mask-requires-clause-rows
+resize_mask-requires-clause-rows g c = let w = c.args.self.now in let m = c.self.inside.mirror in let os = c.self.inside.told.orders in let at = ap (λ (v : Masks). v.at) (sym c.self.view_is) in let slot = c.args.slot in
+    rows_kept w m os at c.args.given.now.rows c.requires.rows
 
-pub bounds-blocks-count : goal.bounds-blocks-count
-bounds-blocks-count g c = let w = c.requires.there in let count = c.relay-count.ensures.count w.1 w.2 w.4 in let all = ap length c.as_slice-blocks.ensures ∙ c.requires.many w.1 w.2 w.4 in omega arith
+pub resize_mask-requires-clause-there : goal.resize_mask-requires-clause-there
+resize_mask-requires-clause-there g c = let w = c.args.self.now in let m = c.self.inside.mirror in let os = c.self.inside.told.orders in let at = ap (λ (v : Masks). v.at) (sym c.self.view_is) in let slot = c.args.slot in
+    let r = c.requires.there in (r.0, r.1, r.2, stands_kept w m os at slot r.0 r.3, holds_kept w m os at c.self.invariant slot r.1 r.2 r.4)
 
-pub raise-requires-clause-rows : goal.raise-requires-clause-rows
-raise-requires-clause-rows g c = let w = c.requires.there in let rows = ap (λ (m : StoredMask). m.rows) (c.resized_mask-mask.ensures w.0 w.3) ∙ c.as_slice.ensures in
-    subst (AreFreeRows c.relay-count.new.self.mirror) (sym rows) (free_rows_same c.args.self.now.mirror c.relay-count.new.self.mirror c.args.given.now.rows c.relay-count.ensures.masks c.requires.rows)
+pub resize_mask-requires-clause-many : goal.resize_mask-requires-clause-many
+resize_mask-requires-clause-many g c = λ last fs has. let w = c.args.self.now in let m = c.self.inside.mirror in let os = c.self.inside.told.orders in let at = ap (λ (v : Masks). v.at) (sym c.self.view_is) in let slot = c.args.slot in
+    let r = c.requires.there in c.requires.many r.1 fs (holds_again w m os at c.self.invariant slot r.1 last r.2 fs r.4 has)
 
-pub offset_bounds-blocks-count : goal.offset_bounds-blocks-count
-offset_bounds-blocks-count g c = let w = c.requires.there in let count = c.relay-count.ensures.count w.1 w.2 w.4 in let all = c.requires.many w.1 w.2 w.4 in
-    let few = few_given (base_of (sheet_of c.args.writer.now.place)) (seen_by c.args.writer.now.place) c.args.given.now.blocks c.requires.given in
-    let low : c.relay-count.result ≤ 16384 = omega arith in search rules
+pub resize_mask-requires-clause-kept : goal.resize_mask-requires-clause-kept
+resize_mask-requires-clause-kept g c = let w = c.args.self.now in let m = c.self.inside.mirror in let os = c.self.inside.told.orders in let at = ap (λ (v : Masks). v.at) (sym c.self.view_is) in let slot = c.args.slot in let old = c.args.writer.now.place in let shape = c.args.store.now.shape in
+    named_kept w m os at shape (sheet_of old).cells (root_of (seen_by old)) c.self.invariant c.requires.kept
 
-pub raise-requires-clause-lawful : goal.raise-requires-clause-lawful
-raise-requires-clause-lawful g c =
-    let w = c.requires.there in let kept = w.0 in let last = w.1 in let fs = w.2 in let stands = w.3 in let has = w.4 in
-    let mirror = c.args.self.now.mirror in let shape = c.args.store.now.shape in let old = sheet_of c.args.writer.now.place in let new = sheet_of c.relay-count.new.writer.place in let h = seen_by c.args.writer.now.place in
-    let gs = c.args.given.now.blocks in let bs = c.as_slice-blocks.result.now in let bs_is = c.as_slice-blocks.ensures in let ds = has.dated in let r = c.relay-count.ensures in let mask = c.resized_mask-mask.result in
-    let long = long_dated mirror shape old.cells (root_of h) c.args.slot kept stands c.requires.kept last fs has in
-    let same = c.resized_mask-mask.ensures kept stands ∙ ap (resized kept.mask c.args.size) c.as_slice.ensures in
-    let many = ap length bs_is ∙ c.requires.many last fs has in let count = r.count last fs has in
-    let one = laid_commits {E = g.row.L-Entry.Denot} (resized kept.mask c.args.size c.args.given.now.rows) mask c.args.slot (get_or bs c.relay-count.result 0) c.args.stamp bs ds fs same has.filters
-    ∙ (λ t. raise_commits c.args.slot (resized kept.mask c.args.size c.args.given.now.rows) (get_or (bs_is t) (count t) 0) (placed (bs_is t) fs) c.args.stamp) in (
-      laid_in bs ds,
-      laid_ready c.relay-count.new.self.mirror shape new.cells mask (base_of old) h bs ds (subst (AreGiven (base_of old) h) (sym bs_is) c.requires.given) (many ∙ ap (λ (n : ℕ). n + 1) (sym long)) (r.laid last fs has)
-          mask (base_of new) c.relay-count.result (seen_by c.relay-count.new.writer.place) refl (same_base old new r.sheet) r.seen (count ∙ sym long),
-      λ n. subst (g.L.Law.keeps (seen_by c.relay-count.new.writer.place ++ take n (raise_commits c.args.slot mask (get_or bs c.relay-count.result 0) (places (laid_in bs ds)) c.args.stamp))) (sym (same_base old new r.sheet))
-          (subst (λ (cs : List (Commit g.row.L-Entry.Denot)). g.L.Law.keeps cs (base_of old)) (λ t. sym r.seen t ++ take n (sym one t)) (c.requires.lawful kept last fs n stands has)),
-    )
+pub resize_mask-requires-clause-lawful : goal.resize_mask-requires-clause-lawful
+resize_mask-requires-clause-lawful g c = λ kept last fs n stands has. let w = c.args.self.now in let m = c.self.inside.mirror in let os = c.self.inside.told.orders in let at = ap (λ (v : Masks). v.at) (sym c.self.view_is) in let slot = c.args.slot in
+    let r = c.requires.there in c.requires.lawful kept r.1 fs n (stands_shown w m os at slot kept stands) (holds_again w m os at c.self.invariant slot r.1 last r.2 fs r.4 has)
+
+pub invariant_of-self : goal.invariant_of-self
+invariant_of-self g c = let w = c.args.self.now in let m = c.self.inside.mirror in let os = c.self.inside.told.orders in let at = ap (λ (v : Masks). v.at) (sym c.self.view_is) in let slot = c.args.slot in let old = c.args.writer.now.place in let shape = c.args.store.now.shape in let m2 = c.resize_mask.new.mirror in let os2 = os in let new = c.resize_mask.new.writer.place in let w2 = seen_as m2 os2 c.resize_mask.new.left_blocks c.resize_mask.new.left_rows in
+    let e = same_edit m m2 os os2 slot c.requires.slot c.self.invariant (shape, (sheet_of new).cells, root_of (seen_by new), c.resize_mask.ensures.kept) c.resize_mask.ensures.lists refl c.resize_mask.ensures.list in
+    told_again m m2 os os2 slot (get_or os slot None) e
 
 pub returns-clause-seen : goal.returns-clause-seen
-returns-clause-seen g c = λ kept last fs stands has.
-    let mirror = c.args.self.now.mirror in let shape = c.args.store.now.shape in let old = sheet_of c.args.writer.now.place in let new = sheet_of c.relay-count.new.writer.place in let h = seen_by c.args.writer.now.place in
-    let bs = c.as_slice-blocks.result.now in let bs_is = c.as_slice-blocks.ensures in let ds = has.dated in let r = c.relay-count.ensures in let mask = c.resized_mask-mask.result in
-    let long = long_dated mirror shape old.cells (root_of h) c.args.slot kept stands c.requires.kept last fs has in
-    let same = c.resized_mask-mask.ensures kept stands ∙ ap (resized kept.mask c.args.size) c.as_slice.ensures in
-    let many = ap length bs_is ∙ c.requires.many last fs has in let count = r.count last fs has in
-    let one = laid_commits {E = g.row.L-Entry.Denot} (resized kept.mask c.args.size c.args.given.now.rows) mask c.args.slot (get_or bs c.relay-count.result 0) c.args.stamp bs ds fs same has.filters
-    ∙ (λ t. raise_commits c.args.slot (resized kept.mask c.args.size c.args.given.now.rows) (get_or (bs_is t) (count t) 0) (placed (bs_is t) fs) c.args.stamp) in
-    c.raise.ensures.seen (laid_in bs ds)
-    (laid_ready c.relay-count.new.self.mirror shape new.cells mask (base_of old) h bs ds (subst (AreGiven (base_of old) h) (sym bs_is) c.requires.given) (many ∙ ap (λ (n : ℕ). n + 1) (sym long)) (r.laid last fs has)
-    mask (base_of new) c.relay-count.result (seen_by c.relay-count.new.writer.place) refl (same_base old new r.sheet) r.seen (count ∙ sym long))
-    ∙ (λ t. r.seen t ++ one t)
+returns-clause-seen g c = λ kept last fs stands has. let w = c.args.self.now in let m = c.self.inside.mirror in let os = c.self.inside.told.orders in let at = ap (λ (v : Masks). v.at) (sym c.self.view_is) in let slot = c.args.slot in
+    c.resize_mask.ensures.seen kept last fs (stands_kept w m os at slot kept stands) (holds_kept w m os at c.self.invariant slot last fs has)
 
-pub returns-clause-others : goal.returns-clause-others
-returns-clause-others g c = λ other apart low. let w = c.requires.there in let bs = c.as_slice-blocks.result.now in let count = c.relay-count.ensures.count w.1 w.2 w.4 in
-    let all = ap length c.as_slice-blocks.ensures ∙ c.requires.many w.1 w.2 w.4 in
-    let away : IsAmong other bs → ⊥ = subst (λ (xs : List ℕ). IsAmong other xs → ⊥) (sym c.as_slice-blocks.ensures) apart in
-    let block = slice_get-get_or bs c.relay-count.result 0 (omega arith) in
-    c.raise.ensures.others other (λ is. away (c.relay-count.result, block ∙ ap (λ (b : ℕ). Some b) (sym is))) low ∙ c.relay-count.ensures.others other away low
+pub returns-clause-kept : goal.returns-clause-kept
+returns-clause-kept g c = let w = c.args.self.now in let m = c.self.inside.mirror in let os = c.self.inside.told.orders in let at = ap (λ (v : Masks). v.at) (sym c.self.view_is) in let slot = c.args.slot in let old = c.args.writer.now.place in let shape = c.args.store.now.shape in let m2 = c.resize_mask.new.mirror in let os2 = os in let new = c.resize_mask.new.writer.place in let w2 = seen_as m2 os2 c.resize_mask.new.left_blocks c.resize_mask.new.left_rows in
+    named_shown w2 m2 os2 refl shape (sheet_of new).cells (root_of (seen_by new)) c.resize_mask.ensures.kept
 
 pub returns-clause-masks : goal.returns-clause-masks
-returns-clause-masks g c = λ kept last fs stands has. let same = c.resized_mask-mask.ensures kept stands ∙ ap (resized kept.mask c.args.size) c.as_slice.ensures in let count = c.relay-count.ensures.count last fs has in
-    c.raise.ensures.masks ∙ (λ t. set (c.relay-count.ensures.masks t) c.args.slot (Some (record { block = get_or (c.as_slice-blocks.ensures t) (count t) 0; mask = same t })))
+returns-clause-masks g c = λ kept last fs stands has. let w = c.args.self.now in let m = c.self.inside.mirror in let os = c.self.inside.told.orders in let at = ap (λ (v : Masks). v.at) (sym c.self.view_is) in let slot = c.args.slot in let old = c.args.writer.now.place in let shape = c.args.store.now.shape in let m2 = c.resize_mask.new.mirror in let os2 = os in let new = c.resize_mask.new.writer.place in let w2 = seen_as m2 os2 c.resize_mask.new.left_blocks c.resize_mask.new.left_rows in
+    masks_are w2 m2 os2 refl ∙ (c.resize_mask.ensures.masks kept last fs (stands_kept w m os at slot kept stands) (holds_kept w m os at c.self.invariant slot last fs has)
+    ∙ ap (λ (xs : List (Option KeptMask)). set xs slot (Some (record { block = get_or c.args.given.now.blocks (length fs) 0; mask = resized kept.mask c.args.size c.args.given.now.rows }))) (sym (masks_are w m os at)))
+
+pub returns-clause-order : goal.returns-clause-order
+returns-clause-order g c = let w = c.args.self.now in let m = c.self.inside.mirror in let os = c.self.inside.told.orders in let at = ap (λ (v : Masks). v.at) (sym c.self.view_is) in let slot = c.args.slot in let old = c.args.writer.now.place in let shape = c.args.store.now.shape in let m2 = c.resize_mask.new.mirror in let os2 = os in let new = c.resize_mask.new.writer.place in let w2 = seen_as m2 os2 c.resize_mask.new.left_blocks c.resize_mask.new.left_rows in
+    let e = same_edit m m2 os os2 slot c.requires.slot c.self.invariant (shape, (sheet_of new).cells, root_of (seen_by new), c.resize_mask.ensures.kept) c.resize_mask.ensures.lists refl c.resize_mask.ensures.list in
+    let r = c.requires.there in let has = c.resize_mask.ensures.list r.1 r.2 (holds_kept w m os at c.self.invariant slot r.1 r.2 r.4) in
+    order_after m m2 os os2 slot (get_or os slot None) e w2 refl has.kept has.stands ∙ sym (order_is w m os at slot r.0 (stands_kept w m os at slot r.0 r.3))
 
 pub returns-clause-list : goal.returns-clause-list
-returns-clause-list g c = λ last fs has. let w = c.requires.there in let bs = c.as_slice-blocks.result.now in let ds = has.dated in
-    let long = long_dated c.args.self.now.mirror c.args.store.now.shape (sheet_of c.args.writer.now.place).cells (root_of (seen_by c.args.writer.now.place)) c.args.slot w.0 w.3 c.requires.kept last fs has in
-    let many = ap length c.as_slice-blocks.ensures ∙ c.requires.many last fs has in
-    subst (HasFilters c.raise.new.mirror c.args.slot last) (filters_laid bs ds (omega arith) ∙ has.filters)
-    (c.raise.ensures.list last (laid_in bs ds) (c.relay-count.ensures.laid last fs has) (subst (Rises 0 (age_of (last + 1) 0)) (sym (dates_laid bs ds (omega arith))) has.rise))
+returns-clause-list g c = let w = c.args.self.now in let m = c.self.inside.mirror in let os = c.self.inside.told.orders in let at = ap (λ (v : Masks). v.at) (sym c.self.view_is) in let slot = c.args.slot in let old = c.args.writer.now.place in let shape = c.args.store.now.shape in let m2 = c.resize_mask.new.mirror in let os2 = os in let new = c.resize_mask.new.writer.place in let w2 = seen_as m2 os2 c.resize_mask.new.left_blocks c.resize_mask.new.left_rows in
+    let e = same_edit m m2 os os2 slot c.requires.slot c.self.invariant (shape, (sheet_of new).cells, root_of (seen_by new), c.resize_mask.ensures.kept) c.resize_mask.ensures.lists refl c.resize_mask.ensures.list in
+    same_list m m2 os os2 slot c.requires.slot c.self.invariant (shape, (sheet_of new).cells, root_of (seen_by new), c.resize_mask.ensures.kept) c.resize_mask.ensures.lists w w2 at refl e
+
+pub returns-clause-lists : goal.returns-clause-lists
+returns-clause-lists g c = let w = c.args.self.now in let m = c.self.inside.mirror in let os = c.self.inside.told.orders in let at = ap (λ (v : Masks). v.at) (sym c.self.view_is) in let slot = c.args.slot in let old = c.args.writer.now.place in let shape = c.args.store.now.shape in let m2 = c.resize_mask.new.mirror in let os2 = os in let new = c.resize_mask.new.writer.place in let w2 = seen_as m2 os2 c.resize_mask.new.left_blocks c.resize_mask.new.left_rows in
+    let e = same_edit m m2 os os2 slot c.requires.slot c.self.invariant (shape, (sheet_of new).cells, root_of (seen_by new), c.resize_mask.ensures.kept) c.resize_mask.ensures.lists refl c.resize_mask.ensures.list in
+    holds_others m m2 os os2 slot (get_or os slot None) e w2 refl w at
+
+pub returns-clause-left : goal.returns-clause-left
+returns-clause-left g c = λ kept stands. let w = c.args.self.now in let m = c.self.inside.mirror in let os = c.self.inside.told.orders in let at = ap (λ (v : Masks). v.at) (sym c.self.view_is) in let slot = c.args.slot in
+    c.resize_mask.ensures.left kept (stands_kept w m os at slot kept stands)
+
+pub returns-clause-untouched : goal.returns-clause-untouched
+returns-clause-untouched g c = let w = c.args.self.now in let m = c.self.inside.mirror in let os = c.self.inside.told.orders in let at = ap (λ (v : Masks). v.at) (sym c.self.view_is) in let slot = c.args.slot in let old = c.args.writer.now.place in let shape = c.args.store.now.shape in let m2 = c.resize_mask.new.mirror in let os2 = os in let new = c.resize_mask.new.writer.place in let w2 = seen_as m2 os2 c.resize_mask.new.left_blocks c.resize_mask.new.left_rows in
+    let e = same_edit m m2 os os2 slot c.requires.slot c.self.invariant (shape, (sheet_of new).cells, root_of (seen_by new), c.resize_mask.ensures.kept) c.resize_mask.ensures.lists refl c.resize_mask.ensures.list in
+    let r = c.requires.there in let here = stands_kept w m os at slot r.0 r.3 in let has = holds_kept w m os at c.self.invariant slot r.1 r.2 r.4 in
+    let mask = resized r.0.mask c.args.size c.args.given.now.rows in let b = get_or c.args.given.now.blocks (length r.2) 0 in
+    let masks = c.resize_mask.ensures.masks r.0 r.1 r.2 here has in let long = m.slots_long in let small = c.requires.slot in
+    let there : Stands m2 slot (record { block = b; mask = mask }) = ap (λ (xs : List (Option KeptMask)). get_or xs slot None) masks ∙ get_or-set_same m.slots.items slot (Some (record { block = b; mask = mask })) None (omega arith) in
+    let keeps = named_kept w m os at shape (sheet_of old).cells (root_of (seen_by old)) c.self.invariant c.requires.kept in
+    others_stay m m2 os os2 slot (get_or os slot None) e w w2 at refl shape (sheet_of old).cells (sheet_of new).cells (root_of (seen_by old)) (root_of (seen_by new)) keeps c.resize_mask.ensures.kept
+    (raised_roots m shape (sheet_of old).cells (seen_by old) (seen_by new) slot keeps c.requires.slot mask b (placed c.args.given.now.blocks r.2) c.args.stamp (c.resize_mask.ensures.kept.masks slot (record { block = b; mask = mask }) there).there.storable (rows_kept w m os at c.args.given.now.rows c.requires.rows) (c.resize_mask.ensures.seen r.0 r.1 r.2 here has))
+    (slots_set m m2 slot (Some (record { block = b; mask = mask })) masks)

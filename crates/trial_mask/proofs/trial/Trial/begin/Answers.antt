@@ -1,5 +1,6 @@
 use Rattle.std.proofs.Common.{◌≡◌, List, [], ◌∷◌, ◌++◌, ◌∙◌, get_or, sym, subst, arith}
 use Rattle.store_history.specs.declared.history.Commit.{Commit}
+use Rattle.store_history.specs.History.{root_of}
 use Rattle.block_codec.specs.declared.filter.StoredFilter.{StoredFilter}
 use Rattle.trial_mask.specs.Trial.{TriedWith}
 use Rattle.block_codec.specs.declared.mask.StoredMask.{StoredMask}
@@ -14,6 +15,9 @@ use Rattle.trial_mask.proofs.trial.Trial.begin.Goals as goal
 
 pub create-requires-clause-rows : goal.create-requires-clause-rows
 create-requires-clause-rows c = subst (λ (m : StoredMask). AreFree c.in_ok-masks.masks m.rows) (sym c.first_mask.ensures) (first_rows c.in_ok-masks.masks c.in_ok-masks.ensures.empty)
+
+pub create-requires-clause-kept : goal.create-requires-clause-kept
+create-requires-clause-kept c = let old = c.args.writer.now.place in c.in_ok-masks.ensures.kept c.args.store.now.shape (sheet_of old).cells (root_of (seen_by old))
 
 pub create-requires-clause-given : goal.create-requires-clause-given
 create-requires-clause-given c = let h = seen_by c.args.writer.now.place in

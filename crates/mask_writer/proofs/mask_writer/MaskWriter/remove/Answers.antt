@@ -1,0 +1,72 @@
+use Rattle.std.proofs.Common.{◌∙◌, List, [], get_or, Option, None, refl, sym, ap}
+use Rattle.store_history.specs.History.{root_of}
+use Rattle.pin_store.specs.Calls.{seen_by, sheet_of}
+use Rattle.mask_mirror.specs.declared.mirror.KeptMask.{KeptMask}
+use Rattle.mask_mirror.specs.Kept.{BucketAt}
+use Rattle.mask_mirror.specs.Changing.{remove_at}
+use Rattle.mask_writer.specs.Masks.{Order, Masks}
+use Rattle.mask_writer.specs.Telling.{without}
+use Rattle.mask_writer.proofs.Showing.{seen_as, masks_are, stands_kept, stands_shown, order_is, named_kept, named_shown}
+use Rattle.mask_writer.proofs.Editing.{told_again, order_after, holds_others, without_edit, without_list}
+use Rattle.mask_writer.proofs.Untouched.{others_stay, slots_same, one_root}
+use Rattle.mask_writer.proofs.mask_writer.MaskWriter.remove.Goals as goal
+
+pub take_out-requires-clause-there : goal.take_out-requires-clause-there
+take_out-requires-clause-there g c = let w = c.args.self.now in let m = c.self.inside.mirror in let os = c.self.inside.told.orders in let at = ap (λ (v : Masks). v.at) (sym c.self.view_is) in let slot = c.args.slot in
+    let r = c.requires.there in (r.0, r.1, r.2, r.3, stands_kept w m os at slot r.0 r.4, r.5)
+
+pub take_out-requires-clause-many : goal.take_out-requires-clause-many
+take_out-requires-clause-many g c = λ kept root front filter stands found. let w = c.args.self.now in let m = c.self.inside.mirror in let os = c.self.inside.told.orders in let at = ap (λ (v : Masks). v.at) (sym c.self.view_is) in let slot = c.args.slot in
+    c.requires.many kept root front filter (stands_shown w m os at slot kept stands) found
+
+pub take_out-requires-clause-lawful : goal.take_out-requires-clause-lawful
+take_out-requires-clause-lawful g c = λ kept root front filter stands found. let w = c.args.self.now in let m = c.self.inside.mirror in let os = c.self.inside.told.orders in let at = ap (λ (v : Masks). v.at) (sym c.self.view_is) in let slot = c.args.slot in
+    c.requires.lawful kept root front filter (stands_shown w m os at slot kept stands) found
+
+pub take_out-requires-clause-kept : goal.take_out-requires-clause-kept
+take_out-requires-clause-kept g c = let w = c.args.self.now in let m = c.self.inside.mirror in let os = c.self.inside.told.orders in let at = ap (λ (v : Masks). v.at) (sym c.self.view_is) in let slot = c.args.slot in let old = c.args.writer.now.place in let shape = c.args.store.now.shape in
+    named_kept w m os at shape (sheet_of old).cells (root_of (seen_by old)) c.self.invariant c.requires.kept
+
+pub invariant_of-self : goal.invariant_of-self
+invariant_of-self g c = let w = c.args.self.now in let m = c.self.inside.mirror in let os = c.self.inside.told.orders in let at = ap (λ (v : Masks). v.at) (sym c.self.view_is) in let slot = c.args.slot in let old = c.args.writer.now.place in let shape = c.args.store.now.shape in let m2 = c.take_out.new.mirror in let os2 = c.with_none-self-inside.result.orders in let new = c.take_out.new.writer.place in
+    let e = without_edit m m2 os os2 slot c.requires.slot c.self.invariant (shape, (sheet_of new).cells, root_of (seen_by new), c.take_out.ensures.kept) c.take_out.ensures.lists c.args.handle c.with_none-self-inside.ensures c.take_out.ensures.list in
+    told_again m m2 os os2 slot (without (get_or os slot None) [] c.args.handle) e
+
+pub returns-clause-kept : goal.returns-clause-kept
+returns-clause-kept g c = let w = c.args.self.now in let m = c.self.inside.mirror in let os = c.self.inside.told.orders in let at = ap (λ (v : Masks). v.at) (sym c.self.view_is) in let slot = c.args.slot in let old = c.args.writer.now.place in let shape = c.args.store.now.shape in let m2 = c.take_out.new.mirror in let os2 = c.with_none-self-inside.result.orders in let new = c.take_out.new.writer.place in let w2 = seen_as m2 os2 c.take_out.new.left c.clear.new.self in
+    named_shown w2 m2 os2 refl shape (sheet_of new).cells (root_of (seen_by new)) c.take_out.ensures.kept
+
+pub returns-clause-done : goal.returns-clause-done
+returns-clause-done g c = λ kept stands. let w = c.args.self.now in let m = c.self.inside.mirror in let os = c.self.inside.told.orders in let at = ap (λ (v : Masks). v.at) (sym c.self.view_is) in let slot = c.args.slot in
+    c.take_out.ensures.done kept (stands_kept w m os at slot kept stands)
+
+pub returns-clause-masks : goal.returns-clause-masks
+returns-clause-masks g c = let w = c.args.self.now in let m = c.self.inside.mirror in let os = c.self.inside.told.orders in let at = ap (λ (v : Masks). v.at) (sym c.self.view_is) in let slot = c.args.slot in let old = c.args.writer.now.place in let shape = c.args.store.now.shape in let m2 = c.take_out.new.mirror in let os2 = c.with_none-self-inside.result.orders in let new = c.take_out.new.writer.place in let w2 = seen_as m2 os2 c.take_out.new.left c.clear.new.self in
+    masks_are w2 m2 os2 refl ∙ (c.take_out.ensures.masks ∙ sym (masks_are w m os at))
+
+pub returns-clause-order : goal.returns-clause-order
+returns-clause-order g c = let w = c.args.self.now in let m = c.self.inside.mirror in let os = c.self.inside.told.orders in let at = ap (λ (v : Masks). v.at) (sym c.self.view_is) in let slot = c.args.slot in let old = c.args.writer.now.place in let shape = c.args.store.now.shape in let m2 = c.take_out.new.mirror in let os2 = c.with_none-self-inside.result.orders in let new = c.take_out.new.writer.place in let w2 = seen_as m2 os2 c.take_out.new.left c.clear.new.self in
+    let e = without_edit m m2 os os2 slot c.requires.slot c.self.invariant (shape, (sheet_of new).cells, root_of (seen_by new), c.take_out.ensures.kept) c.take_out.ensures.lists c.args.handle c.with_none-self-inside.ensures c.take_out.ensures.list in
+    let r = c.requires.there in let here = stands_kept w m os at slot r.0 r.4 in
+    order_after m m2 os os2 slot (without (get_or os slot None) [] c.args.handle) e w2 refl r.0 (ap (λ (xs : List (Option KeptMask)). get_or xs slot None) c.take_out.ensures.masks ∙ here)
+    ∙ ap (λ (b : Option Order). without b [] c.args.handle) (sym (order_is w m os at slot r.0 here))
+
+pub returns-clause-list : goal.returns-clause-list
+returns-clause-list g c = let w = c.args.self.now in let m = c.self.inside.mirror in let os = c.self.inside.told.orders in let at = ap (λ (v : Masks). v.at) (sym c.self.view_is) in let slot = c.args.slot in let old = c.args.writer.now.place in let shape = c.args.store.now.shape in let m2 = c.take_out.new.mirror in let os2 = c.with_none-self-inside.result.orders in let new = c.take_out.new.writer.place in let w2 = seen_as m2 os2 c.take_out.new.left c.clear.new.self in
+    let e = without_edit m m2 os os2 slot c.requires.slot c.self.invariant (shape, (sheet_of new).cells, root_of (seen_by new), c.take_out.ensures.kept) c.take_out.ensures.lists c.args.handle c.with_none-self-inside.ensures c.take_out.ensures.list in
+    without_list m m2 os os2 slot c.requires.slot c.self.invariant (shape, (sheet_of new).cells, root_of (seen_by new), c.take_out.ensures.kept) c.take_out.ensures.lists w w2 at refl c.args.handle e
+
+pub returns-clause-lists : goal.returns-clause-lists
+returns-clause-lists g c = let w = c.args.self.now in let m = c.self.inside.mirror in let os = c.self.inside.told.orders in let at = ap (λ (v : Masks). v.at) (sym c.self.view_is) in let slot = c.args.slot in let old = c.args.writer.now.place in let shape = c.args.store.now.shape in let m2 = c.take_out.new.mirror in let os2 = c.with_none-self-inside.result.orders in let new = c.take_out.new.writer.place in let w2 = seen_as m2 os2 c.take_out.new.left c.clear.new.self in
+    let e = without_edit m m2 os os2 slot c.requires.slot c.self.invariant (shape, (sheet_of new).cells, root_of (seen_by new), c.take_out.ensures.kept) c.take_out.ensures.lists c.args.handle c.with_none-self-inside.ensures c.take_out.ensures.list in
+    holds_others m m2 os os2 slot (without (get_or os slot None) [] c.args.handle) e w2 refl w at
+
+pub returns-clause-untouched : goal.returns-clause-untouched
+returns-clause-untouched g c = let w = c.args.self.now in let m = c.self.inside.mirror in let os = c.self.inside.told.orders in let at = ap (λ (v : Masks). v.at) (sym c.self.view_is) in let slot = c.args.slot in let old = c.args.writer.now.place in let shape = c.args.store.now.shape in let m2 = c.take_out.new.mirror in let os2 = c.with_none-self-inside.result.orders in let new = c.take_out.new.writer.place in let w2 = seen_as m2 os2 c.take_out.new.left c.clear.new.self in
+    let e = without_edit m m2 os os2 slot c.requires.slot c.self.invariant (shape, (sheet_of new).cells, root_of (seen_by new), c.take_out.ensures.kept) c.take_out.ensures.lists c.args.handle c.with_none-self-inside.ensures c.take_out.ensures.list in
+    let s = c.requires.there in let here = stands_kept w m os at slot s.0 s.4 in let d = c.take_out.ensures.done s.0 here in
+    let own : BucketAt m d.0 = record { slot = slot; bucket = d.3.bucket; kept = s.0; stands = here; within = d.3.within; same = d.3.is_root } in
+    let keeps = named_kept w m os at shape (sheet_of old).cells (root_of (seen_by old)) c.self.invariant c.requires.kept in
+    others_stay m m2 os os2 slot (without (get_or os slot None) [] c.args.handle) e w w2 at refl shape (sheet_of old).cells (sheet_of new).cells (root_of (seen_by old)) (root_of (seen_by new)) keeps c.take_out.ensures.kept
+    (one_root m shape (sheet_of old).cells (seen_by old) (seen_by new) slot keeps (remove_at (seen_by old) d.0 c.args.given.now.blocks d.1 c.args.edit g.E.EditName.edit) own refl d.4)
+    (slots_same m m2 slot c.take_out.ensures.masks)
