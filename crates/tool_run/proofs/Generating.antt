@@ -19,16 +19,21 @@ use Rattle.tool_run.specs.Delivered.{Made, MadeSoFar}
 use Rattle.tool_run.proofs.Making.{nothing_put}
 
 -- what was made is what the definition says, file by file
-same_files : (count : ℕ) (front : List ℕ) (ran : Ran) (made : Generated) → IsGenerated count front ran made → files_in front made ≡ made_files count front ran
+same_files : (count : ℕ) (front : List ℕ) (ran : Ran) (made : Generated) → IsGenerated count front ran made
+    → files_in front made ≡ made_files count front ran
 same_files count front ran made is =
     ap (λ (x : List ℕ). files_of front x made.capture.items made.job.items made.output.items) is.batch
     ∙ ap (λ (x : List ℕ). files_of front (batch_text count) x made.job.items made.output.items) is.capture
-    ∙ ap (λ (x : List ℕ). files_of front (batch_text count) (capture_bytes (capture_of count)) x made.output.items) is.job
-    ∙ ap (λ (x : List ℕ). files_of front (batch_text count) (capture_bytes (capture_of count)) (job_text front) x) is.output
+    ∙ ap (λ (x : List ℕ). files_of front (batch_text count) (capture_bytes (capture_of count)) x
+    made.output.items) is.job
+    ∙ ap (λ (x : List ℕ). files_of front (batch_text count) (capture_bytes (capture_of count))
+    (job_text front) x) is.output
 
 -- all was put and written
-pub made_all : (count : ℕ) (front : List ℕ) (ran : Ran) (made : Generated) (held_old held_new : Option Held) (written_old written_new : Option (List ℕ)) → IsRunOf count ran → IsGenerated count front ran made
-    → AllStand held_new (files_in front made) → AllElseStay held_old held_new (files_in front made) → Appended written_old written_new made.text.items
+pub made_all : (count : ℕ) (front : List ℕ) (ran : Ran) (made : Generated) (held_old held_new : Option Held)
+    (written_old written_new : Option (List ℕ)) → IsRunOf count ran → IsGenerated count front ran made
+    → AllStand held_new (files_in front made) → AllElseStay held_old held_new (files_in front made)
+    → Appended written_old written_new made.text.items
     → Made held_old held_new written_old written_new count front (status_after made.refused)
 made_all count front ran made held_old held_new written_old written_new runs is stand others wrote =
     let same = same_files count front ran made is in
@@ -42,8 +47,11 @@ made_all count front ran made held_old held_new written_old written_new runs is 
     }
 
 -- some was put, and perhaps some written
-pub made_so_far : (count : ℕ) (front : List ℕ) (ran : Ran) (made : Generated) (held_old held_new : Option Held) (written_old written_new : Option (List ℕ)) → IsRunOf count ran → IsGenerated count front ran made
-    → PutUpTo held_old held_new (files_in front made) → (written_new ≡ written_old) ⊎ (AllStand held_new (files_in front made) × AppendsUpTo written_old written_new made.text.items)
+pub made_so_far : (count : ℕ) (front : List ℕ) (ran : Ran) (made : Generated)
+    (held_old held_new : Option Held) (written_old written_new : Option (List ℕ)) → IsRunOf count ran
+    → IsGenerated count front ran made
+    → PutUpTo held_old held_new (files_in front made) → (written_new ≡ written_old)
+    ⊎ (AllStand held_new (files_in front made) × AppendsUpTo written_old written_new made.text.items)
     → MadeSoFar held_old held_new written_old written_new count front
 made_so_far count front ran made held_old held_new written_old written_new runs is put wrote =
     let same = same_files count front ran made is in
@@ -54,18 +62,31 @@ made_so_far count front ran made held_old held_new written_old written_new runs 
       front_written = written same wrote;
     }
   where
-    written : files_in front made ≡ made_files count front ran → (written_new ≡ written_old) ⊎ (AllStand held_new (files_in front made) × AppendsUpTo written_old written_new made.text.items)
-        → (written_new ≡ written_old) ⊎ (AllStand held_new (made_files count front ran) × AppendsUpTo written_old written_new (made_text count ran))
+    written : files_in front made ≡ made_files count front ran → (written_new ≡ written_old)
+        ⊎ (AllStand held_new (files_in front made) × AppendsUpTo written_old written_new made.text.items)
+        → (written_new ≡ written_old) ⊎ (AllStand held_new (made_files count front ran)
+        × AppendsUpTo written_old written_new (made_text count ran))
     written same (inl none) = inl none
     written same (inr some) =
-        inr (subst (λ (files : List MadeFile). AllStand held_new files) same some.0, subst (λ (text : List ℕ). AppendsUpTo written_old written_new text) is.text some.1)
+        inr (
+          subst (λ (files : List MadeFile). AllStand held_new files) same some.0,
+          subst
+              (λ (text : List ℕ). AppendsUpTo written_old written_new text) is.text some.1,
+        )
 
 -- nothing was put or written
-pub nothing_made : (count : ℕ) (front : List ℕ) (held : Option Held) (written : Option (List ℕ)) → MadeSoFar held held written written count front
+pub nothing_made : (count : ℕ) (front : List ℕ) (held : Option Held) (written : Option (List ℕ))
+    → MadeSoFar held held written written count front
 nothing_made count front held written =
     let some = some_ran no_state 0 (commands_of (batch_text count)) in
-    record { ran = some.0; runs = some.1; put = nothing_put held (made_files count front some.0); front_written = inl refl }
+    record {
+      ran = some.0;
+      runs = some.1;
+      put = nothing_put held (made_files count front some.0);
+      front_written = inl refl;
+    }
 
 -- what is made lets `gen` end
-pub gen_ends : (told : Option Held) (count : ℕ) (front : List ℕ) (ran : Ran) → IsRunOf count ran → (status : Status) × Ends told (Gen count front) status
+pub gen_ends : (told : Option Held) (count : ℕ) (front : List ℕ) (ran : Ran) → IsRunOf count ran
+    → (status : Status) × Ends told (Gen count front) status
 gen_ends told count front ran runs = (status_after (is_some ran.stop), (ran, runs, refl))

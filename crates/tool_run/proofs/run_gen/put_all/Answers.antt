@@ -1,56 +1,52 @@
-use Rattle.std.proofs.Common.{◌++◌, refl}
-use Rattle.std.specs.Prelude.{codes}
 use Rattle.std.proofs.lemmas.Result.{on_ok_weaker}
-use Rattle.tool_run.specs.Made.{files_in}
-use Rattle.tool_run.proofs.Making.{capture_apart, job_apart, output_apart, one_not_put, batch_put, capture_put, job_put, output_put}
+use Rattle.tool_run.proofs.Making.{FilesPut, batch_put, capture_put, job_put, output_put, capture_not_put, job_not_put, output_not_put}
+use Rattle.tool_run.proofs.run_gen.put_all.Given as given
 use Rattle.tool_run.proofs.run_gen.put_all.Goals as goal
+use Rattle.tool_run.proofs.run_gen.put_all.Goals.{In_ok-put_file, In_ok-put_file-2, In_ok-put_file-3}
+
+-- the batch stands
+batch : (g : given.Over) (c : In_ok-put_file g)
+    → FilesPut 1 c.args.front.now c.args.made.now (g.S.Shelf.held c.args.shelf.now)
+    (g.S.Shelf.held c.put_file.new.shelf)
+batch g c =
+    batch_put c.args.front.now c.args.made.now _ _ c.put_file.ensures.others
+    (rw c.deref.ensures.value at c.in_ok-put_file.ensures.stands)
+
+-- the batch and the capture stand
+capture : (g : given.Over) (c : In_ok-put_file-2 g)
+    → FilesPut 2 c.args.front.now c.args.made.now (g.S.Shelf.held c.args.shelf.now)
+    (g.S.Shelf.held c.put_file-2.new.shelf)
+capture g c =
+    capture_put c.args.front.now c.args.made.now _ _ _ (batch g c.In_ok-put_file) c.put_file-2.ensures.others
+    (rw c.deref-2.ensures.value at c.in_ok-put_file-2.ensures.stands)
+
+-- all but the output stand
+job : (g : given.Over) (c : In_ok-put_file-3 g)
+    → FilesPut 3 c.args.front.now c.args.made.now (g.S.Shelf.held c.args.shelf.now)
+    (g.S.Shelf.held c.put_file-3.new.shelf)
+job g c =
+    job_put c.args.front.now c.args.made.now _ _ _ (capture g c.In_ok-put_file-2) c.put_file-3.ensures.others
+    (rw c.deref-3.ensures.value at c.in_ok-put_file-3.ensures.stands)
 
 pub returns-in_err-put_file-2-clause-up_to : goal.returns-in_err-put_file-2-clause-up_to
 returns-in_err-put_file-2-clause-up_to g c =
-    let told = g.S.Shelf.held in
-    let front = c.args.front.now in
-    let made = c.args.made.now in
-    let start = told c.args.shelf.now in
-    let after = told c.put_file.new.shelf in
-    let batch = batch_put front made start after c.put_file.ensures.others (rw c.deref.ensures.value at c.in_ok-put_file.ensures.stands) in
-    one_not_put start after (told c.put_file-2.new.shelf) (files_in front made) 1 (record { name = front ++ codes ".pcap"; bytes = made.capture.items }) refl (capture_apart front made) batch c.put_file-2.ensures.others
+    capture_not_put c.args.front.now c.args.made.now _ _ _
+    (batch g (goal.at.returns-in_err-put_file-2-clause-up_to g c).In_ok-put_file) c.put_file-2.ensures.others
 
 pub returns-in_err-put_file-3-clause-up_to : goal.returns-in_err-put_file-3-clause-up_to
 returns-in_err-put_file-3-clause-up_to g c =
-    let told = g.S.Shelf.held in
-    let front = c.args.front.now in
-    let made = c.args.made.now in
-    let start = told c.args.shelf.now in
-    let first = told c.put_file.new.shelf in
-    let second = told c.put_file-2.new.shelf in
-    let batch = batch_put front made start first c.put_file.ensures.others (rw c.deref.ensures.value at c.in_ok-put_file.ensures.stands) in
-    let capture = capture_put front made start first second batch c.put_file-2.ensures.others (rw c.deref-2.ensures.value at c.in_ok-put_file-2.ensures.stands) in
-    one_not_put start second (told c.put_file-3.new.shelf) (files_in front made) 2 (record { name = front ++ codes ".job"; bytes = made.job.items }) refl (job_apart front made) capture c.put_file-3.ensures.others
+    job_not_put c.args.front.now c.args.made.now _ _ _
+    (capture g (goal.at.returns-in_err-put_file-3-clause-up_to g c).In_ok-put_file-2)
+    c.put_file-3.ensures.others
 
 pub returns-clause-all : goal.returns-clause-all
 returns-clause-all g c =
-    let told = g.S.Shelf.held in
-    let front = c.args.front.now in
-    let made = c.args.made.now in
-    let start = told c.args.shelf.now in
-    let first = told c.put_file.new.shelf in
-    let second = told c.put_file-2.new.shelf in
-    let third = told c.put_file-3.new.shelf in
-    let batch = batch_put front made start first c.put_file.ensures.others (rw c.deref.ensures.value at c.in_ok-put_file.ensures.stands) in
-    let capture = capture_put front made start first second batch c.put_file-2.ensures.others (rw c.deref-2.ensures.value at c.in_ok-put_file-2.ensures.stands) in
-    let job = job_put front made start second third capture c.put_file-3.ensures.others (rw c.deref-3.ensures.value at c.in_ok-put_file-3.ensures.stands) in
-    on_ok_weaker c.put_file-4.result (λ stands. (output_put front made start third (told c.put_file-4.new.shelf) job c.put_file-4.ensures.others (rw c.deref-4.ensures.value at stands)).stand) c.put_file-4.ensures.stands
+    let put = job g (goal.at.returns-clause-all g c).In_ok-put_file-3 in
+    on_ok_weaker c.put_file-4.result (λ stands.
+    (output_put c.args.front.now c.args.made.now _ _ (g.S.Shelf.held c.put_file-4.new.shelf) put
+    c.put_file-4.ensures.others (rw c.deref-4.ensures.value at stands)).stand) c.put_file-4.ensures.stands
 
 pub returns-clause-up_to : goal.returns-clause-up_to
 returns-clause-up_to g c =
-    let told = g.S.Shelf.held in
-    let front = c.args.front.now in
-    let made = c.args.made.now in
-    let start = told c.args.shelf.now in
-    let first = told c.put_file.new.shelf in
-    let second = told c.put_file-2.new.shelf in
-    let third = told c.put_file-3.new.shelf in
-    let batch = batch_put front made start first c.put_file.ensures.others (rw c.deref.ensures.value at c.in_ok-put_file.ensures.stands) in
-    let capture = capture_put front made start first second batch c.put_file-2.ensures.others (rw c.deref-2.ensures.value at c.in_ok-put_file-2.ensures.stands) in
-    let job = job_put front made start second third capture c.put_file-3.ensures.others (rw c.deref-3.ensures.value at c.in_ok-put_file-3.ensures.stands) in
-    one_not_put start third (told c.put_file-4.new.shelf) (files_in front made) 3 (record { name = front ++ codes ".out.pcap"; bytes = made.output.items }) refl (output_apart front made) job c.put_file-4.ensures.others
+    output_not_put c.args.front.now c.args.made.now _ _ _
+    (job g (goal.at.returns-clause-up_to g c).In_ok-put_file-3) c.put_file-4.ensures.others

@@ -15,9 +15,11 @@ returns-clause-gives g c =
     let names = c.args.names.now in
     let bytes = c.deref.result.now in
     let counted : commands_in c.deref-2.result.now ≡ commands_of bytes =
-    ap (commands_from 1) (ap (map (λ (text : Bor (List ℕ)). text.now)) c.deref-2.ensures.value ∙ c.in_ok-texts.ensures) in
+    ap (commands_from 1) (ap (map (λ (text : Bor (List ℕ)). text.now)) c.deref-2.ensures.value
+    ∙ c.in_ok-texts.ensures) in
     let walked : commands_in c.deref-3.result.now ≡ commands_of bytes =
-    ap (commands_from 1) (ap (map (λ (text : Bor (List ℕ)). text.now)) c.deref-3.ensures.value ∙ c.in_ok-texts.ensures) in
+    ap (commands_from 1) (ap (map (λ (text : Bor (List ℕ)). text.now)) c.deref-3.ensures.value
+    ∙ c.in_ok-texts.ensures) in
     let answer = c.in_ok-answer_to.ensures in
     record {
       ran = answer.0;
@@ -25,12 +27,15 @@ returns-clause-gives g c =
       batch = record {
         bytes = bytes;
         batch = record {
-          held = subst (λ (b : List ℕ). Holds told names.batch.now b) (sym c.deref.ensures.value) c.in_ok-bytes.ensures.bytes;
-          few = subst (λ (commands : List Command). length commands ≤ COMMANDS_MAX) counted c.in_ok-check_command_count.ensures.few;
+          held = subst (λ (b : List ℕ). Holds told names.batch.now b) (sym c.deref.ensures.value)
+              c.in_ok-bytes.ensures.bytes;
+          few = subst (λ (commands : List Command). length commands ≤ COMMANDS_MAX) counted
+              c.in_ok-check_command_count.ensures.few;
         };
         runs = subst (λ (commands : List Command). IsRun no_state 0 commands answer.0) walked answer.1;
       };
-      packets = subst (λ (o : Option Held). HasCapture o names.capture.now c.in_ok-capture.capture) c.load.ensures.held c.in_ok-capture.ensures.capture;
+      packets = subst (λ (o : Option Held). HasCapture o names.capture.now c.in_ok-capture.capture)
+          c.load.ensures.held c.in_ok-capture.ensures.capture;
       output_is = answer.2;
       text_is = answer.3;
       status_is = ap status_after answer.4;

@@ -30,4 +30,7 @@ loop-index-preserved g c = record {
 pub returns-clause-up_to : goal.returns-clause-up_to
 returns-clause-up_to g c =
     let ends = c.args.ends.now in
-    subst (λ (x : List ℕ). AppendsUpTo (g.O.Sink.written c.args.out.now) (g.O.Sink.written c.loop-index.out) x) (ap (λ (passed : List PacketEnd). joined (packet_lines 1 passed)) (take_all c.loop-index.index ends c.loop-index-test.false)) (AppendsUpTo-all _ _ _ c.loop-index.invariant.wrote)
+    subst (λ (x : List ℕ). AppendsUpTo (g.O.Sink.written c.args.out.now) (g.O.Sink.written c.loop-index.out)
+    x) (ap (λ (passed : List PacketEnd). joined (packet_lines 1 passed))
+    (take_all c.loop-index.index ends c.loop-index-test.false))
+    (AppendsUpTo-all _ _ _ c.loop-index.invariant.wrote)

@@ -10,7 +10,9 @@ returns-in_err-write_all-clause-up_to g c =
     let start = c.loop-start.start in
     let end = c.line_end-end.result in
     rw (text_split text start end (omega arith))
-    (AppendsUpTo-then (g.O.Sink.written c.args.out.now) (g.O.Sink.written c.loop-start.out) (g.O.Sink.written c.write_all.new.self) (take start text) (slice_range text start end) (drop end text) c.loop-start.invariant.wrote c.write_all.ensures.up_to)
+    (AppendsUpTo-then (g.O.Sink.written c.args.out.now) (g.O.Sink.written c.loop-start.out)
+    (g.O.Sink.written c.write_all.new.self) (take start text) (slice_range text start end) (drop end text)
+    c.loop-start.invariant.wrote c.write_all.ensures.up_to)
 
 pub loop-start-preserved : goal.loop-start-preserved
 loop-start-preserved g c =
@@ -20,6 +22,8 @@ loop-start-preserved g c =
     record {
       within = c.line_end-end.ensures.within;
       wrote = rw (text_more text start end (omega arith))
-          (Appended-then (g.O.Sink.written c.args.out.now) (g.O.Sink.written c.loop-start.out) (g.O.Sink.written c.write_all.new.self) (take start text) (slice_range text start end) c.loop-start.invariant.wrote c.in_ok-write_all.ensures.all);
+          (Appended-then (g.O.Sink.written c.args.out.now) (g.O.Sink.written c.loop-start.out)
+          (g.O.Sink.written c.write_all.new.self) (take start text) (slice_range text start end)
+          c.loop-start.invariant.wrote c.in_ok-write_all.ensures.all);
       later = omega (arith, c.write_all.ensures.counts.later, c.loop-start.invariant.later);
     }
