@@ -1,41 +1,29 @@
-//! Rehearses `tc` filter batches on captures: the command line, and all that a run does.
+//! Rehearses `tc` filter batches on captures: the program.
 //!
-//! A run is a function of the words and of the files that they name. `tool` carries that as its contract: each status has
-//! its cause, nothing is written where the input is at fault, and the bytes put and written are those that the definitions
-//! in `specs/` give. `plain` is the part that runs no job, and always returns.
+//! `words` takes the words from the process, and `tool` does what they say. `main` puts the process around
+//! it: real files, standard output, the text of a status on standard error, the exit number. What the words
+//! may be and what each status says is `tool_words`; what a command does is `tool_run`. `tool` has the
+//! promise of all that (`specs/Promises.antt` of `tool_run`), and is where a command will be picked that runs
+//! a job.
 //!
-//! From the words to the lines: `words` takes the words from the process and `command` reads them; `input` fetches and reads the files in their order, where the
-//! first fault ends the run; `run_show`, `run_walk` and `run_gen` do what one command asks for, `text` writes, and `tool`
-//! picks the one. A batch is applied and shown by the crate `batch_show`, and applied and walked by `batch_walk`; what `gen`
-//! makes comes of `gen_run`. `main` adds the process around it: files, standard output, the text of a status, the exit
-//! number.
+//! One thread calls all of this. Only `tool` may start others, for a job; `gen` walks on lists, and while
+//! `run` isn't built none is started.
 //!
-//! One thread calls all of this. Only `tool` may start others, for a job; `gen` walks on lists, and while `run` isn't built
-//! none is started.
-//!
-//! Not promised: that memory suffices, what a real file or terminal holds, and the texts of statuses, which are tested.
+//! Not promised: that memory suffices, and what a real file or terminal holds.
 #![tactic(auto)]
 
-mod command;
-mod input;
-mod messages;
-mod run_gen;
-mod run_show;
-mod run_walk;
-mod status;
 #[cfg(test)]
 mod tests;
-mod text;
 mod tool;
 mod words;
 
-use status::Status;
 use std::process::ExitCode;
 use std::rt::{Env, Files};
 use std::sync::Wait;
 use std::thread::Threads;
 use tc_base::{FileShelf, OpenGate, StdSink};
 use tool::tool;
+use tool_words::Status;
 use words::words;
 
 // The run, and the buffered lines flushed: that they were not taken is the write fault.

@@ -1,5 +1,5 @@
-//! What needs a shelf and a sink of one's own: calls outside that fail, and captures at each length. What the program does with files
-//! stands in the folder cases/.
+//! What needs a shelf and a sink of one's own: calls outside that fail, and captures at each length. What the
+//! program does with files stands in the folder cases/.
 use crate::tool::tool;
 use std::alloc::{AllocError, Global};
 use std::sync::Wait;

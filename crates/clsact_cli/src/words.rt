@@ -1,8 +1,8 @@
 //! The words of the command line.
 
-use crate::status::Status;
 use std::env::FillError;
 use std::rt::Env;
+use tool_words::Status;
 
 // How long a word may be at first; the room is doubled for one that is longer.
 const WORD_ROOM: usize = 4096;
@@ -35,7 +35,8 @@ fn text(bytes: Vec<u8>) -> Result<Option<String>, Status> {
     }
 }
 
-/// The words behind the program's own name. That name is never read: where the program lies is no matter of what it is asked for.
+/// The words behind the program's own name. That name is never read: where the program lies is no matter of
+/// what it is asked for.
 ///
 /// `Usage`: a word isn't text. `NoMemory`: memory was refused.
 pub fn words<R: Env + AllocGlobal>(rt: &R) -> Result<Vec<String>, Status> {

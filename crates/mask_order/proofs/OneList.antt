@@ -1,5 +1,6 @@
 -- A mask has its filters in one order alone.
-use Rattle.std.proofs.Common.{◌≡◌, ◌∙◌, ℕ, zero, suc, ◌+◌, ◌<◌, ◌≤◌, ◌⊎◌, inl, inr, Bool, true, false, cond, eqb, List, [], ◌∷◌, map, get_or, slice_get, Option, Some, refl, sym, ap, subst, arith, eq-eqb}
+use Rattle.std.proofs.Common.{◌≡◌, ◌∙◌, ℕ, zero, suc, ◌+◌, ◌<◌, ◌≤◌, ◌⊎◌, inl, inr, Bool, true, false, cond, eqb, List, [], ◌∷◌, length, map, get_or, slice_get, Option, Some, refl, sym, ap, subst, arith, eq-eqb}
+use Rattle.std.proofs.lemmas.Option.{slice_get_within}
 use Rattle.store_history.specs.declared.history.Named.{Named}
 use Rattle.pin_store.specs.declared.shape.Shape.{Shape}
 use Rattle.block_codec.specs.declared.filter.StoredFilter.{StoredFilter}
@@ -9,11 +10,7 @@ use Rattle.mask_mirror.specs.declared.mirror.KeptMask.{KeptMask}
 use Rattle.mask_mirror.specs.Kept.{bucket_at, Spells, IsKept}
 use Rattle.mask_mirror.specs.Lists.{Dated, Rises, kept_as, kept_in, dated_in, HasFilters}
 use Rattle.mask_mirror.proofs.Keeping.{same_kept, some_buckets}
-<<<<<<<< HEAD:crates/mask_order/proofs/OneList.antt
 use Rattle.store_history.proofs.Lists.{get_before, get_behind, get_parts, some_is}
-========
-use Rattle.mask_bucket_edits.proofs.Among.{among_left, among_right, among_either}
->>>>>>>> 26e7624cb0a6e57f49a1d6f2a74ea35c7c96faf6:crates/mask_writer/proofs/OneList.antt
 use Rattle.std.proofs.lemmas.Nat.{mod_below}
 use Rattle.flow_mask.specs.Hashes.{hash_of}
 
@@ -24,24 +21,23 @@ module _ (size b : ℕ) where
 
   among_in : (ds : List Dated) (x : Dated) → bucket_for size x.filter.key.words ≡ b → IsAmong x ds → IsAmong (kept_as x) (dated_in size b ds)
   among_in [] x is at = absurd (cc at.1)
-  among_in (d ∷ ds) x is (zero, e) = let same : d ≡ x = cc e in let here = eq-eqb (bucket_for size d.filter.key.words) b (ap (λ (y : Dated). bucket_for size y.filter.key.words) same ∙ is) in
-      among_right (kept_as x) (dated_in size b ds) (own d (eqb (bucket_for size d.filter.key.words) b))
-      (0, ap (λ (t : Bool). slice_get (own d t) 0) here ∙ ap (λ (y : Dated). Some (kept_as y)) same)
-  among_in (d ∷ ds) x is (suc n, e) = let r = among_in ds x is (n, e) in among_left (kept_as x) (dated_in size b ds) (own d (eqb (bucket_for size d.filter.key.words) b)) r.0 r.1
+  among_in (d ∷ ds) x is (zero, e) = let same : d ≡ x = cc e in let here = eq-eqb (bucket_for size d.filter.key.words) b (ap (λ (y : Dated). bucket_for size y.filter.key.words) same ∙ is) in (
+    length (dated_in size b ds) + 0,
+    get_behind (dated_in size b ds) (own d (eqb (bucket_for size d.filter.key.words) b)) 0
+        ∙ (ap (λ (t : Bool). slice_get (own d t) 0) here ∙ ap (λ (y : Dated). Some (kept_as y)) same),
+  )
+  among_in (d ∷ ds) x is (suc n, e) = let r = among_in ds x is (n, e) in
+      (r.0, get_before (dated_in size b ds) (own d (eqb (bucket_for size d.filter.key.words) b)) r.0 (slice_get_within (dated_in size b ds) r.0 (kept_as x) r.1) ∙ r.1)
 
   in_among : (ds : List Dated) (x : ℕ × Option StoredFilter) → IsAmong x (dated_in size b ds) → (d : Dated) × IsAmong d ds × (kept_as d ≡ x)
   in_among [] x at = absurd (cc at.1)
-  in_among (d ∷ ds) x at = pick (among_either x (dated_in size b ds) (own d (eqb (bucket_for size d.filter.key.words) b)) at.0 at.1) (in_among ds x)
+  in_among (d ∷ ds) x at = get_parts (dated_in size b ds) (own d (eqb (bucket_for size d.filter.key.words) b)) at.0 x at.1
+      (λ i e. let r = in_among ds x (i, e) in (r.0, (suc r.1.0, r.1.1), r.2)) (pick (eqb (bucket_for size d.filter.key.words) b))
     where
-      here : (t : Bool) (i : ℕ) → slice_get (own d t) i ≡ Some x → (y : Dated) × IsAmong y (d ∷ ds) × (kept_as y ≡ x)
-      here true zero e = (d, (0, refl), cc e)
-      here true (suc i) e = absurd (cc e)
-      here false i e = absurd (cc e)
-
-      pick : IsAmong x (dated_in size b ds) ⊎ IsAmong x (own d (eqb (bucket_for size d.filter.key.words) b)) → (IsAmong x (dated_in size b ds) → (y : Dated) × IsAmong y ds × (kept_as y ≡ x))
-          → (y : Dated) × IsAmong y (d ∷ ds) × (kept_as y ≡ x)
-      pick (inl at) more = let r = more at in (r.0, (suc r.1.0, r.1.1), r.2)
-      pick (inr at) more = here (eqb (bucket_for size d.filter.key.words) b) at.0 at.1
+      pick : (t : Bool) (i : ℕ) → slice_get (own d t) i ≡ Some x → (y : Dated) × IsAmong y (d ∷ ds) × (kept_as y ≡ x)
+      pick true zero e = (d, (0, refl), cc e)
+      pick true (suc i) e = absurd (cc e)
+      pick false i e = absurd (cc e)
 
 -- ---- lists with rising ages are the same if they have the same elements
 above : (low high : ℕ) (ds : List Dated) (x : Dated) → Rises low high ds → IsAmong x ds → low ≤ x.age
@@ -101,7 +97,7 @@ module _ (mirror : Mirror) (shape : Shape) (cells : List ℕ) (roots : ℕ → N
       let is : r.0 ≡ x = same_date r.0 x r.2 in subst (λ (y : Dated). IsAmong y two.dated) is r.1
     where
       same_date : (y z : Dated) → kept_as y ≡ kept_as z → y ≡ z
-      same_date y z e = let age : y.age ≡ z.age = ap (λ (k : ℕ × Option StoredFilter). k.0) e in let both : Some y.filter ≡ Some z.filter = ap (λ (k : ℕ × Option StoredFilter). k.1) e in let filter : y.filter ≡ z.filter = cc both in λ i. record { age = age i; filter = filter i }
+      same_date y z e = let age : y.age ≡ z.age = ap (λ (k : ℕ × Option StoredFilter). k.0) e in let filter : y.filter ≡ z.filter = some_is y.filter z.filter (ap (λ (k : ℕ × Option StoredFilter). k.1) e) in λ i. record { age = age i; filter = filter i }
 
   -- two lists of a slot are one
   pub one_list : (last last2 : ℕ) (fs gs : List StoredFilter) → HasFilters mirror slot last fs → HasFilters mirror slot last2 gs → fs ≡ gs

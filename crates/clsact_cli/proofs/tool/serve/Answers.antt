@@ -1,7 +1,0 @@
-use Rattle.clsact_cli.proofs.tool.serve.Goals as goal
-
-pub returns-in-Err-run_walk-clause-cause : goal.returns-in-Err-run_walk-clause-cause
-returns-in-Err-run_walk-clause-cause g c = rw c.in-Walk.is (c.in-Err-run_walk.ensures.cause)
-
-pub returns-in-Err-run_gen-clause-cause : goal.returns-in-Err-run_gen-clause-cause
-returns-in-Err-run_gen-clause-cause g c = rw c.in-Gen.is (c.in-Err-run_gen.ensures.cause)

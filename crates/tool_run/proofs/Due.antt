@@ -1,0 +1,207 @@
+-- At most one answer is due, and every file that a due answer reads stands.
+use Rattle.std.proofs.Common.{◌≡◌, ◌⊎◌, inl, inr, ◌∙◌, ℕ, List, Option, Some, sym, ap, subst}
+use Rattle.std.specs.Prelude.{is_some}
+use Rattle.tc_base.specs.Outside.{Held}
+use Rattle.tc_base.specs.declared.hook.Hook.{Hook}
+use Rattle.pcap_io.specs.declared.capture.Capture.{Capture}
+use Rattle.filter_state.specs.States.{no_state}
+use Rattle.batch_run.specs.Commands.{commands_of}
+use Rattle.batch_run.specs.Runs.{Ran}
+use Rattle.batch_run.proofs.Outcomes.{one_ran}
+use Rattle.gen_files.specs.Generated.{batch_text}
+use Rattle.tool_words.specs.declared.status.InputKind.{InputKind}
+use Rattle.tool_words.specs.declared.status.InputKind.TheVariants as kinds
+use Rattle.tool_words.specs.declared.status.Status.{Status}
+use Rattle.tool_words.specs.declared.status.Status.TheVariants as statuses
+use Rattle.tool_words.specs.Command.{Request, Walk, Show, Run, Recheck, Gen, verb_of}
+use Rattle.tool_words.specs.Ends.{status_after}
+use Rattle.tool_run.specs.Holdings.{Holds, HasTooManyLines, HasCommands, HasCapture, HasBreak}
+use Rattle.tool_run.specs.Work.{BatchEnds, BatchBreaks, Ends, Breaks, IsRead, Stops}
+use Rattle.tool_run.specs.Causes.{DueTo}
+use Rattle.tool_run.proofs.Readings.{same_run, same_past, not_past, not_broken, same_break}
+
+-- ---- a batch: it ran, or it passes the limit of commands
+abbrev IsPast : Option Held → List ℕ → Status → Type 0
+IsPast told b status =
+    (place : ℕ) × HasTooManyLines told b place × (status ≡ statuses.BadInput b place kinds.TooManyLines)
+
+past_due : (told : Option Held) (b name : List ℕ) (place : ℕ) (kind : InputKind)
+    → BatchBreaks told b name place kind → IsPast told b (statuses.BadInput name place kind)
+past_due told b name place kind due = (
+  place,
+  due.1,
+  ap (λ (x : List ℕ). statuses.BadInput x place kind) due.0
+      ∙ ap (statuses.BadInput b place) due.2,
+)
+
+one_end : (held : Held) (b : List ℕ) (x y : Status) → BatchEnds (Some held) b x → BatchEnds (Some held) b y
+    → x ≡ y
+one_end held b x y h k =
+    h.2 ∙ ap (λ (r : Ran). status_after (is_some r.stop)) (same_run held b h.0 k.0 h.1 k.1) ∙ sym k.2
+
+one_past : (held : Held) (b : List ℕ) (x y : Status) → IsPast (Some held) b x → IsPast (Some held) b y → x ≡ y
+one_past held b x y h k =
+    h.2 ∙ ap (λ (p : ℕ). statuses.BadInput b p kinds.TooManyLines) (same_past held b h.0 k.0 h.1 k.1)
+    ∙ sym k.2
+
+ran_within : (held : Held) (b : List ℕ) (x y : Status) → BatchEnds (Some held) b x → IsPast (Some held) b y
+    → ⊥
+ran_within held b x y h k = not_past held b h.1.bytes k.0 h.1.batch k.1
+
+read_within : (held : Held) (b : List ℕ) (status : Status) → HasCommands (Some held) b
+    → IsPast (Some held) b status → ⊥
+read_within held b status h k = not_past held b h.0 k.0 h.1 k.1
+
+-- ---- show
+abbrev ShowDue : Option Held → List ℕ → Status → Type 0
+ShowDue told b status = BatchEnds told b status ⊎ IsPast told b status
+
+show_due : (told : Option Held) (b : List ℕ) (status : Status) → DueTo told (Show b) status
+    → ShowDue told b status
+show_due told b statuses.Done due = inl due
+show_due told b (statuses.LinesRefused n) due = inl due
+show_due told b (statuses.BadInput name place kind) due = inr (past_due told b name place kind due)
+show_due told b (statuses.NotBuilt name place) due = absurd due
+show_due told b (statuses.ReadFault name) due = absurd due
+show_due told b (statuses.NotLawful line) due = absurd due
+show_due told b statuses.Usage due = absurd due
+show_due told b statuses.WriteFault due = absurd due
+show_due told b statuses.NoMemory due = absurd due
+
+one_show : (held : Held) (b : List ℕ) (x y : Status) → ShowDue (Some held) b x → ShowDue (Some held) b y
+    → x ≡ y
+one_show held b x y (inl h) (inl k) = one_end held b x y h k
+one_show held b x y (inl h) (inr k) = absurd (ran_within held b x y h k)
+one_show held b x y (inr h) (inl k) = absurd (ran_within held b y x k h)
+one_show held b x y (inr h) (inr k) = one_past held b x y h k
+
+shown_stands : (held : Held) (b : List ℕ) (status : Status) → ShowDue (Some held) b status → (bytes : List ℕ)
+    × Holds (Some held) b bytes
+shown_stands held b status (inl h) = (h.1.bytes, h.1.batch.held)
+shown_stands held b status (inr h) = (h.1.bytes, h.1.held)
+
+-- ---- walk: all input is well formed, or the batch passes the limit, or the capture breaks its form
+abbrev IsBreak : Option Held → List ℕ → List ℕ → Status → Type 0
+IsBreak told b c status =
+    (place : ℕ) × (kind : InputKind) × HasCommands told b × HasBreak told c place kind
+    × (status ≡ statuses.BadInput c place kind)
+
+abbrev WalkDue : Option Held → List ℕ → List ℕ → Status → Type 0
+WalkDue told b c status =
+    (BatchEnds told b status × ((capture : Capture) × HasCapture told c capture)) ⊎ IsPast told b status
+    ⊎ IsBreak told b c status
+
+break_due : (told : Option Held) (b c name : List ℕ) (place : ℕ) (kind : InputKind)
+    → BatchBreaks told b name place kind ⊎ ((name ≡ c) × HasCommands told b × HasBreak told c place kind)
+    → WalkDue told b c (statuses.BadInput name place kind)
+break_due told b c name place kind (inl past) = inr (inl (past_due told b name place kind past))
+break_due told b c name place kind (inr broken) =
+    inr (inr (place, kind, broken.1, broken.2, ap (λ (x : List ℕ). statuses.BadInput x place kind) broken.0))
+
+walk_due : (told : Option Held) (hook : Hook) (b c o : List ℕ) (status : Status)
+    → DueTo told (Walk hook b c o) status → WalkDue told b c status
+walk_due told hook b c o statuses.Done due = inl due
+walk_due told hook b c o (statuses.LinesRefused n) due = inl due
+walk_due told hook b c o (statuses.BadInput name place kind) due = break_due told b c name place kind due
+walk_due told hook b c o (statuses.NotBuilt name place) due = absurd due
+walk_due told hook b c o (statuses.ReadFault name) due = absurd due
+walk_due told hook b c o (statuses.NotLawful line) due = absurd due
+walk_due told hook b c o statuses.Usage due = absurd due
+walk_due told hook b c o statuses.WriteFault due = absurd due
+walk_due told hook b c o statuses.NoMemory due = absurd due
+
+one_walk : (held : Held) (b c : List ℕ) (x y : Status) → WalkDue (Some held) b c x → WalkDue (Some held) b c y
+    → x ≡ y
+one_walk held b c x y (inl h) (inl k) = one_end held b x y h.0 k.0
+one_walk held b c x y (inl h) (inr (inl k)) = absurd (ran_within held b x y h.0 k)
+one_walk held b c x y (inl h) (inr (inr k)) = absurd (not_broken held c h.1.0 k.0 k.1 h.1.1 k.3)
+one_walk held b c x y (inr (inl h)) (inl k) = absurd (ran_within held b y x k.0 h)
+one_walk held b c x y (inr (inl h)) (inr (inl k)) = one_past held b x y h k
+one_walk held b c x y (inr (inl h)) (inr (inr k)) = absurd (read_within held b x k.2 h)
+one_walk held b c x y (inr (inr h)) (inl k) = absurd (not_broken held c k.1.0 h.0 h.1 k.1.1 h.3)
+one_walk held b c x y (inr (inr h)) (inr (inl k)) = absurd (read_within held b y h.2 k)
+one_walk held b c x y (inr (inr h)) (inr (inr k)) =
+    let e = same_break held c h.0 k.0 h.1 k.1 h.3 k.3 in
+    h.4 ∙ ap (λ (p : ℕ). statuses.BadInput c p h.1) e.0 ∙ ap (statuses.BadInput c k.0) e.1 ∙ sym k.4
+
+walked_stands : (held : Held) (b c : List ℕ) (status : Status) → WalkDue (Some held) b c status
+    → (bytes : List ℕ) × Holds (Some held) b bytes
+walked_stands held b c status (inl h) = (h.0.1.bytes, h.0.1.batch.held)
+walked_stands held b c status (inr (inl h)) = (h.1.bytes, h.1.held)
+walked_stands held b c status (inr (inr h)) = (h.2.0, h.2.1.held)
+
+capture_stands : (held : Held) (b c : List ℕ) (status : Status) → HasCommands (Some held) b
+    → WalkDue (Some held) b c status → (bytes : List ℕ) × Holds (Some held) c bytes
+capture_stands held b c status read (inl h) = (h.1.1.bytes, h.1.1.held)
+capture_stands held b c status read (inr (inl h)) = absurd (read_within held b status read h)
+capture_stands held b c status read (inr (inr h)) = (h.3.bytes, h.3.held)
+
+-- ---- gen: what it makes lets it end
+gen_due : (told : Option Held) (count : ℕ) (front : List ℕ) (status : Status)
+    → DueTo told (Gen count front) status → Ends told (Gen count front) status
+gen_due told count front statuses.Done due = due
+gen_due told count front (statuses.LinesRefused n) due = due
+gen_due told count front (statuses.BadInput name place kind) due = absurd due
+gen_due told count front (statuses.NotBuilt name place) due = absurd due
+gen_due told count front (statuses.ReadFault name) due = absurd due
+gen_due told count front (statuses.NotLawful line) due = absurd due
+gen_due told count front statuses.Usage due = absurd due
+gen_due told count front statuses.WriteFault due = absurd due
+gen_due told count front statuses.NoMemory due = absurd due
+
+one_gen : (told : Option Held) (count : ℕ) (front : List ℕ) (x y : Status) → Ends told (Gen count front) x
+    → Ends told (Gen count front) y → x ≡ y
+one_gen told count front x y h k =
+    h.2 ∙ ap (λ (r : Ran). status_after (is_some r.stop))
+    (one_ran no_state 0 (commands_of (batch_text count)) h.0 k.0 h.1 k.1) ∙ sym k.2
+
+-- ---- the commands that are not built
+stopped_due : (told : Option Held) (r : Request) → ((status : Status) → Ends told r status → ⊥)
+    → ((name : List ℕ) (place : ℕ) (kind : InputKind) → Breaks told r name place kind → ⊥)
+    → ((name : List ℕ) (place : ℕ) → Stops told r name place → (name ≡ verb_of r) × (place ≡ 0))
+    → (status : Status) → DueTo told r status → status ≡ statuses.NotBuilt (verb_of r) 0
+stopped_due told r ends breaks stops statuses.Done due = absurd (ends statuses.Done due)
+stopped_due told r ends breaks stops (statuses.LinesRefused n) due =
+    absurd (ends (statuses.LinesRefused n) due)
+stopped_due told r ends breaks stops (statuses.BadInput name place kind) due =
+    absurd (breaks name place kind due)
+stopped_due told r ends breaks stops (statuses.NotBuilt name place) due =
+    let at = stops name place due in
+    ap (λ (x : List ℕ). statuses.NotBuilt x place) at.0 ∙ ap (statuses.NotBuilt (verb_of r)) at.1
+stopped_due told r ends breaks stops (statuses.ReadFault name) due = absurd due
+stopped_due told r ends breaks stops (statuses.NotLawful line) due = absurd due
+stopped_due told r ends breaks stops statuses.Usage due = absurd due
+stopped_due told r ends breaks stops statuses.WriteFault due = absurd due
+stopped_due told r ends breaks stops statuses.NoMemory due = absurd due
+
+-- ---- every request
+-- at most one answer is due
+pub one_due : (held : Held) (r : Request) (x y : Status) → DueTo (Some held) r x → DueTo (Some held) r y
+    → x ≡ y
+one_due held (Show b) x y h k = one_show held b x y (show_due (Some held) b x h) (show_due (Some held) b y k)
+one_due held (Walk hook b c o) x y h k =
+    one_walk held b c x y (walk_due (Some held) hook b c o x h) (walk_due (Some held) hook b c o y k)
+one_due held (Run j) x y h k =
+    let is = stopped_due (Some held) (Run j) (λ s e. e) (λ n p w e. e) (λ n p e. e) in
+    is x h ∙ sym (is y k)
+one_due held (Recheck j p) x y h k =
+    let is = stopped_due (Some held) (Recheck j p) (λ s e. e) (λ n p w e. e) (λ n p e. e) in
+    is x h ∙ sym (is y k)
+one_due held (Gen n p) x y h k =
+    one_gen (Some held) n p x y (gen_due (Some held) n p x h) (gen_due (Some held) n p y k)
+
+-- a file whose reading is told stands, where some answer is due
+pub stands : (held : Held) (r : Request) (name : List ℕ) (status : Status) → IsRead (Some held) r name
+    → DueTo (Some held) r status → (bytes : List ℕ) × Holds (Some held) name bytes
+stands held (Show b) name status is due =
+    let there = shown_stands held b status (show_due (Some held) b status due) in
+    (there.0, subst (λ (n : List ℕ). Holds (Some held) n there.0) (sym is) there.1)
+stands held (Walk hook b c o) name status (inl is) due =
+    let there = walked_stands held b c status (walk_due (Some held) hook b c o status due) in
+    (there.0, subst (λ (n : List ℕ). Holds (Some held) n there.0) (sym is) there.1)
+stands held (Walk hook b c o) name status (inr is) due =
+    let there = capture_stands held b c status is.1 (walk_due (Some held) hook b c o status due) in
+    (there.0, subst (λ (n : List ℕ). Holds (Some held) n there.0) (sym is.0) there.1)
+stands held (Run j) name status is due = absurd is
+stands held (Recheck j p) name status is due = absurd is
+stands held (Gen n p) name status is due = absurd is

@@ -1,0 +1,197 @@
+-- No answer but the one that is due comes, unless a call outside failed or memory ran out.
+use Rattle.std.proofs.Common.{◌≡◌, ◌⊎◌, inl, inr, ℕ, Bool, true, false, List, Option, Some, None, refl, sym, subst}
+use Rattle.std.specs.Prelude.{IsSome, IsSomeAnd, IfSome, is_some}
+use Rattle.tc_base.specs.Outside.{Held, Rose}
+use Rattle.filter_state.specs.States.{no_state}
+use Rattle.batch_run.specs.Commands.{commands_of}
+use Rattle.batch_run.specs.Runs.{Ran}
+use Rattle.batch_run.proofs.Outcomes.{some_ran}
+use Rattle.gen_files.specs.Generated.{batch_text}
+use Rattle.tool_words.specs.declared.status.Status.{Status}
+use Rattle.tool_words.specs.declared.status.Status.TheVariants as statuses
+use Rattle.tool_words.specs.Command.{Request, Walk, Show, Run, Recheck, Gen}
+use Rattle.tool_words.specs.Ends.{status_after, IsAllDone}
+use Rattle.tool_run.specs.Holdings.{Holds, HasBatch, HasRun}
+use Rattle.tool_run.specs.Work.{Ends, IsRead}
+use Rattle.tool_run.specs.Causes.{ReadFails, DueTo, DueIn, CausedTo, FailedOutside, IsNotBuilt}
+use Rattle.tool_run.specs.Ready.{IsReady}
+use Rattle.tool_run.proofs.Due.{one_due, stands}
+
+-- ---- at most one answer is due, wherever the shelf tells what it holds
+nothing_told : (o : Option Held) → o ≡ None → IsSome o → ⊥
+nothing_told o is some = cc
+
+told_of : (o : Option Held) → IsSome o → (h : Held) × (o ≡ Some h)
+told_of None some = absurd (nothing_told None refl some)
+told_of (Some h) some = (h, refl)
+
+due_is : (told : Option Held) (r : Request) (x y : Status) → IsSome told → DueTo told r x → DueTo told r y
+    → x ≡ y
+due_is None r x y some h k = absurd (nothing_told None refl some)
+due_is (Some held) r x y some h k = one_due held r x y h k
+
+-- a file that is held is no missing one
+not_missing : (held : Held) (name bytes : List ℕ) → Holds (Some held) name bytes → held name ≡ None → ⊥
+not_missing held name bytes h e = cc
+
+-- a read that failed though the file stands was a fault of the outside
+read_rose : {S : Type 0} (held : S → Option Held) (read_faults : S → ℕ) (failed_name : S → Option (List ℕ))
+    (old new : S) (told : Held) (r : Request) (name : List ℕ) (status : Status)
+    → held old ≡ Some told → IsRead (held old) r name → DueTo (held old) r status
+    → ReadFails held read_faults failed_name old new name → Rose (read_faults old) (read_faults new)
+read_rose held read_faults failed_name old new told r name status tells is due (inl missing) =
+    let there = stands told r name status (subst (λ (o : Option Held). IsRead o r name) tells is)
+    (subst (λ (o : Option Held). DueTo o r status) tells due) in
+    absurd (not_missing told name there.0 there.1
+    (subst (λ (o : Option Held). IsSomeAnd o (λ h. h name ≡ None)) tells missing))
+read_rose held read_faults failed_name old new told r name status tells is due (inr rose) = rose.0
+
+-- ---- an answer with its cause, at one request
+exact_to : {S O : Type 0} (held : S → Option Held) (read_faults : S → ℕ) (failed_name : S → Option (List ℕ))
+    (write_faults : S → ℕ) (faults : O → ℕ) (old new : S) (sink_old sink_new : O) (r : Request)
+    (result : Status)
+    → CausedTo held read_faults failed_name write_faults faults old new sink_old sink_new r result
+    → IsSome (held old) → (status : Status) → DueTo (held old) r status
+    → (result ≡ status) ⊎ FailedOutside read_faults write_faults faults old new sink_old sink_new result
+exact_to held read_faults failed_name write_faults faults old new a b r (statuses.ReadFault name) cause some
+    status due =
+    let told = told_of (held old) some in
+    inr (read_rose held read_faults failed_name old new told.0 r name status told.1 cause.0 due cause.1)
+exact_to held read_faults failed_name write_faults faults old new a b r statuses.WriteFault cause some status
+    due =
+    inr cause.1
+exact_to held read_faults failed_name write_faults faults old new a b r statuses.NoMemory cause some status
+    due =
+    inr tt
+exact_to held read_faults failed_name write_faults faults old new a b r statuses.Done cause some status due =
+    inl (due_is (held old) r statuses.Done status some cause due)
+exact_to held read_faults failed_name write_faults faults old new a b r (statuses.LinesRefused n) cause some
+    status due =
+    inl (due_is (held old) r (statuses.LinesRefused n) status some cause due)
+exact_to held read_faults failed_name write_faults faults old new a b r (statuses.NotBuilt n p) cause some
+    status due =
+    inl (due_is (held old) r (statuses.NotBuilt n p) status some cause due)
+exact_to held read_faults failed_name write_faults faults old new a b r (statuses.BadInput n p k) cause some
+    status due =
+    inl (due_is (held old) r (statuses.BadInput n p k) status some cause due)
+exact_to held read_faults failed_name write_faults faults old new a b r statuses.Usage cause some status due =
+    absurd cause
+exact_to held read_faults failed_name write_faults faults old new a b r (statuses.NotLawful n) cause some
+    status due =
+    absurd cause
+
+-- the same where these words ask for it
+pub exact : {S O : Type 0} (held : S → Option Held) (read_faults : S → ℕ) (failed_name : S → Option (List ℕ))
+    (write_faults : S → ℕ) (faults : O → ℕ) (old new : S) (sink_old sink_new : O) (asked : Option Request)
+    (r : Request) (result : Status)
+    → Some r ≡ asked → CausedTo held read_faults failed_name write_faults faults old new sink_old sink_new r
+    result → IsSome (held old) → (status : Status) → DueIn (held old) asked status
+    → (result ≡ status) ⊎ FailedOutside read_faults write_faults faults old new sink_old sink_new result
+exact held read_faults failed_name write_faults faults old new a b None r result is cause some status due =
+    absurd (cc is)
+exact held read_faults failed_name write_faults faults old new a b (Some asked) r result is cause some status
+    due =
+    exact_to held read_faults failed_name write_faults faults old new a b r result cause some status
+    (subst (λ (q : Option Request). DueIn (held old) q status) (sym is) due)
+
+-- ---- the answer that is due where all input is ready
+abbrev Owes : Option Held → Request → Type 0
+Owes told r = (status : Status) × DueTo told r status × (IsAllDone status ⊎ IsNotBuilt status)
+
+batch_owes : (told : Option Held) (r : Request) (refused : Bool) → Ends told r (status_after refused)
+    → Owes told r
+batch_owes told r false ends = (statuses.Done, ends, inl tt)
+batch_owes told r true ends = (statuses.LinesRefused 1, ends, inl tt)
+
+-- a batch that stands has a run
+ran : (told : Option Held) (b bytes : List ℕ) → HasBatch told b bytes → (ran : Ran) × HasRun told b ran
+ran told b bytes batch =
+    let some = some_ran no_state 0 (commands_of bytes) in
+    (some.0, record { bytes = bytes; batch = batch; runs = some.1 })
+
+owes : (told : Option Held) (r : Request) → IsReady told r → Owes told r
+owes told (Show b) ready =
+    let has = ran told b ready.bytes ready.batch in
+    batch_owes told (Show b) (is_some has.0.stop) (has.0, has.1, refl)
+owes told (Walk hook b c o) ready =
+    let has = ran told b ready.bytes ready.batch_stands in
+    batch_owes told (Walk hook b c o) (is_some has.0.stop)
+    ((has.0, has.1, refl), (ready.packets, ready.capture_stands))
+owes told (Run j) ready = absurd ready
+owes told (Recheck j p) ready = absurd ready
+owes told (Gen count front) ready =
+    let has = some_ran no_state 0 (commands_of (batch_text count)) in
+    batch_owes told (Gen count front) (is_some has.0.stop) (has.0, has.1, refl)
+
+tells : (told : Option Held) (r : Request) → IsReady told r → IsSome told
+tells told (Show b) ready = subst (λ (o : Option Held). IsSome o) (sym ready.tells) refl
+tells told (Walk hook b c o) ready = subst (λ (o : Option Held). IsSome o) (sym ready.tells) refl
+tells told (Run j) ready = absurd ready
+tells told (Recheck j p) ready = absurd ready
+tells told (Gen count front) ready = ready
+
+-- where no count rose, only memory keeps an answer from being the one that is due
+quiet : {S O : Type 0} (read_faults : S → ℕ) (write_faults : S → ℕ) (faults : O → ℕ) (old new : S)
+    (sink_old sink_new : O) (result : Status)
+    → FailedOutside read_faults write_faults faults old new sink_old sink_new result
+    → (Rose (read_faults old) (read_faults new) → ⊥) → (Rose (write_faults old) (write_faults new) → ⊥)
+    → (Rose (faults sink_old) (faults sink_new) → ⊥) → result ≡ statuses.NoMemory
+quiet read_faults write_faults faults old new a b (statuses.ReadFault name) failed reads writes sinks =
+    absurd (reads failed)
+quiet read_faults write_faults faults old new a b statuses.WriteFault (inl failed) reads writes sinks =
+    absurd (writes failed)
+quiet read_faults write_faults faults old new a b statuses.WriteFault (inr failed) reads writes sinks =
+    absurd (sinks failed)
+quiet read_faults write_faults faults old new a b statuses.NoMemory failed reads writes sinks = refl
+quiet read_faults write_faults faults old new a b statuses.Done failed reads writes sinks = absurd failed
+quiet read_faults write_faults faults old new a b statuses.Usage failed reads writes sinks = absurd failed
+quiet read_faults write_faults faults old new a b (statuses.NotBuilt n p) failed reads writes sinks =
+    absurd failed
+quiet read_faults write_faults faults old new a b (statuses.BadInput n p k) failed reads writes sinks =
+    absurd failed
+quiet read_faults write_faults faults old new a b (statuses.LinesRefused n) failed reads writes sinks =
+    absurd failed
+quiet read_faults write_faults faults old new a b (statuses.NotLawful n) failed reads writes sinks =
+    absurd failed
+
+owed : (result status : Status) → result ≡ status → IsAllDone status ⊎ IsNotBuilt status → IsAllDone result
+    ⊎ IsNotBuilt result ⊎ (result ≡ statuses.NoMemory)
+owed result status e (inl done) = inl (subst IsAllDone (sym e) done)
+owed result status e (inr not) = inr (inl (subst IsNotBuilt (sym e) not))
+
+-- where all input is ready and no count rose, all is done, or something isn't built, or memory ran out
+complete_to : {S O : Type 0} (held : S → Option Held) (read_faults : S → ℕ)
+    (failed_name : S → Option (List ℕ)) (write_faults : S → ℕ) (faults : O → ℕ) (old new : S)
+    (sink_old sink_new : O) (r : Request) (result : Status)
+    → CausedTo held read_faults failed_name write_faults faults old new sink_old sink_new r result
+    → IsReady (held old) r
+    → (Rose (read_faults old) (read_faults new) → ⊥) → (Rose (write_faults old) (write_faults new) → ⊥)
+    → (Rose (faults sink_old) (faults sink_new) → ⊥)
+    → IsAllDone result ⊎ IsNotBuilt result ⊎ (result ≡ statuses.NoMemory)
+complete_to held read_faults failed_name write_faults faults old new a b r result cause ready reads writes
+    sinks =
+    let due = owes (held old) r ready in
+    by_answer due (exact_to held read_faults failed_name write_faults faults old new a b r result cause
+    (tells (held old) r ready) due.0 due.1)
+  where
+    by_answer : (due : Owes (held old) r) → (result ≡ due.0)
+        ⊎ FailedOutside read_faults write_faults faults old new a b result → IsAllDone result
+        ⊎ IsNotBuilt result ⊎ (result ≡ statuses.NoMemory)
+    by_answer due (inl e) = owed result due.0 e due.2
+    by_answer due (inr failed) =
+        inr (inr (quiet read_faults write_faults faults old new a b result failed reads writes sinks))
+
+-- the same where these words ask for it
+pub complete : {S O : Type 0} (held : S → Option Held) (read_faults : S → ℕ)
+    (failed_name : S → Option (List ℕ)) (write_faults : S → ℕ) (faults : O → ℕ) (old new : S)
+    (sink_old sink_new : O) (asked : Option Request) (r : Request) (result : Status)
+    → Some r ≡ asked → CausedTo held read_faults failed_name write_faults faults old new sink_old sink_new r
+    result
+    → IfSome asked (λ q. IsReady (held old) q
+    → (Rose (read_faults old) (read_faults new) → ⊥) → (Rose (write_faults old) (write_faults new) → ⊥)
+    → (Rose (faults sink_old) (faults sink_new) → ⊥)
+    → IsAllDone result ⊎ IsNotBuilt result ⊎ (result ≡ statuses.NoMemory))
+complete held read_faults failed_name write_faults faults old new a b None r result is cause = tt
+complete held read_faults failed_name write_faults faults old new a b (Some asked) r result is cause =
+    λ ready. complete_to held read_faults failed_name write_faults faults old new a b r result cause
+    (subst (λ (q : Option Request). IfSome q (IsReady (held old))) (sym is) ready)

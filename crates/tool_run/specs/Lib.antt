@@ -1,0 +1,9 @@
+pub mod Broken
+pub mod Causes
+pub mod Delivered
+pub mod Holdings
+pub mod Made
+pub mod Parts
+pub mod Promises
+pub mod Ready
+pub mod Work

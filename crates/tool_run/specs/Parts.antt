@@ -1,0 +1,61 @@
+-- Why the parts of a run answer nothing.
+use Rattle.std.specs.Prelude.{◌≡◌, ◌⊎◌, ℕ, List, Option, Some}
+use Rattle.tc_base.specs.Outside.{Held, Rose}
+use Rattle.batch_run.specs.Commands.{Command, line_past}
+use Rattle.tool_words.specs.declared.status.InputKind.TheVariants as kinds
+use Rattle.tool_words.specs.declared.status.Status.{Status}
+use Rattle.tool_words.specs.declared.status.Status.TheVariants as statuses
+use Rattle.tool_words.specs.Requests.{Names}
+use Rattle.batch_run.specs.declared.limit.TheConstants.{COMMANDS_MAX}
+use Rattle.tool_run.specs.Holdings.{HasCommands, HasBreak}
+use Rattle.tool_run.specs.Work.{BatchBreaks}
+use Rattle.tool_run.specs.Causes.{ReadFails, WriteFails}
+
+-- why one file was not loaded
+abbrev pub LoadFails : {S : Type 0} → (S → Option Held) → (S → ℕ) → (S → Option (List ℕ)) → S → S → List ℕ
+    → Status → Type 0
+LoadFails held read_faults failed_name old new name (statuses.ReadFault failed) =
+    (failed ≡ name) × ReadFails held read_faults failed_name old new name
+LoadFails held read_faults failed_name old new name statuses.NoMemory = Unit {0}
+LoadFails held read_faults failed_name old new name status = ⊥
+
+-- why a batch of these commands wasn't applied: they pass the limit at a line
+abbrev pub ApplyingFails : List ℕ → List Command → Status → Type 0
+ApplyingFails name commands (statuses.BadInput file place kind) =
+    (file ≡ name) × (line_past COMMANDS_MAX commands ≡ Some place) × (kind ≡ kinds.TooManyLines)
+ApplyingFails name commands statuses.NoMemory = Unit {0}
+ApplyingFails name commands status = ⊥
+
+-- why a capture gave no packets
+abbrev pub CaptureFails : {S : Type 0} → (S → Option Held) → (S → ℕ) → (S → Option (List ℕ)) → S → S → List ℕ
+    → Status → Type 0
+CaptureFails held read_faults failed_name old new name (statuses.BadInput file place kind) =
+    (file ≡ name) × HasBreak (held old) name place kind
+CaptureFails held read_faults failed_name old new name status =
+    LoadFails held read_faults failed_name old new name status
+
+-- why a walk's input gave nothing: the batch comes first, and then the capture
+abbrev pub InputFails : {S : Type 0} → (S → Option Held) → (S → ℕ) → (S → Option (List ℕ)) → S → S → Names
+    → Status → Type 0
+InputFails held read_faults failed_name old new names (statuses.ReadFault name) =
+    ((name ≡ names.batch) ⊎ ((name ≡ names.capture) × HasCommands (held old) names.batch))
+    × ReadFails held read_faults failed_name old new name
+InputFails held read_faults failed_name old new names (statuses.BadInput name place kind) =
+    BatchBreaks (held old) names.batch name place kind
+    ⊎ ((name ≡ names.capture) × HasCommands (held old) names.batch
+    × HasBreak (held old) names.capture place kind)
+InputFails held read_faults failed_name old new names statuses.NoMemory = Unit {0}
+InputFails held read_faults failed_name old new names status = ⊥
+
+-- why a file was not put
+abbrev pub PutFails : {S : Type 0} → (S → ℕ) → S → S → Status → Type 0
+PutFails write_faults old new statuses.WriteFault = Rose (write_faults old) (write_faults new)
+PutFails write_faults old new statuses.NoMemory = Unit {0}
+PutFails write_faults old new status = ⊥
+
+-- why not all was put and written
+abbrev pub DeliveryFails : {S O : Type 0} → (S → ℕ) → (O → ℕ) → S → S → O → O → Status → Type 0
+DeliveryFails write_faults faults old new sink_old sink_new statuses.WriteFault =
+    WriteFails write_faults faults old new sink_old sink_new
+DeliveryFails write_faults faults old new sink_old sink_new statuses.NoMemory = Unit {0}
+DeliveryFails write_faults faults old new sink_old sink_new status = ⊥

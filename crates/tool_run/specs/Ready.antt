@@ -1,0 +1,29 @@
+-- The input of a request that is held and well formed, within the limits.
+use Rattle.std.specs.Prelude.{◌≡◌, ℕ, List, Option, Some, IsSome}
+use Rattle.tc_base.specs.Outside.{Held}
+use Rattle.pcap_io.specs.declared.capture.Capture.{Capture}
+use Rattle.tool_words.specs.Command.{Request, Walk, Show, Gen}
+use Rattle.tool_run.specs.Holdings.{HasBatch, HasCapture}
+
+-- the shelf tells what it holds, and the batch stands
+pub record ShowReady (told : Option Held) (name : List ℕ) : Type 0 where
+  pub held : Held
+  pub tells : told ≡ Some held
+  pub bytes : List ℕ
+  pub batch : HasBatch told name bytes
+
+-- the shelf tells what it holds, both files stand, and the capture is well formed
+pub record WalkReady (told : Option Held) (batch capture : List ℕ) : Type 0 where
+  pub held : Held
+  pub tells : told ≡ Some held
+  pub bytes : List ℕ
+  pub batch_stands : HasBatch told batch bytes
+  pub packets : Capture
+  pub capture_stands : HasCapture told capture packets
+
+-- `gen` has no input: there it is enough that the shelf tells what it holds
+abbrev pub IsReady : Option Held → Request → Type 0
+IsReady told (Show b) = ShowReady told b
+IsReady told (Walk hook b c o) = WalkReady told b c
+IsReady told (Gen count front) = IsSome told
+IsReady told request = ⊥

@@ -1,0 +1,56 @@
+-- How the files that a request names let it end. A request's input files have an order: a later one counts
+-- where those before it are held and well formed. `gen` reads no file: what it makes lets it end.
+use Rattle.std.specs.Prelude.{◌≡◌, ◌⊎◌, ℕ, List, Option, is_some}
+use Rattle.tc_base.specs.Outside.{Held}
+use Rattle.pcap_io.specs.declared.capture.Capture.{Capture}
+use Rattle.batch_run.specs.Runs.{Ran}
+use Rattle.tool_words.specs.declared.status.InputKind.{InputKind}
+use Rattle.tool_words.specs.declared.status.InputKind.TheVariants as kinds
+use Rattle.tool_words.specs.declared.status.Status.{Status}
+use Rattle.gen_run.specs.Generated.{IsRunOf}
+use Rattle.tool_words.specs.Command.{Request, Walk, Show, Gen, verb_of}
+use Rattle.tool_words.specs.Ends.{status_after}
+use Rattle.tool_run.specs.Holdings.{HasRun, HasTooManyLines, HasCommands, HasCapture, HasBreak}
+
+-- the batch that a request names ends the run with this status
+abbrev pub BatchEnds : Option Held → List ℕ → Status → Type 0
+BatchEnds told batch status = (ran : Ran) × HasRun told batch ran × (status ≡ status_after (is_some ran.stop))
+
+-- ALL INPUT IS HELD AND WELL FORMED, and so the run is to end with this status
+abbrev pub Ends : Option Held → Request → Status → Type 0
+Ends told (Show b) status = BatchEnds told b status
+Ends told (Walk hook b c o) status =
+    BatchEnds told b status × ((capture : Capture) × HasCapture told c capture)
+Ends told (Gen count front) status =
+    (ran : Ran) × IsRunOf count ran × (status ≡ status_after (is_some ran.stop))
+Ends told request status = ⊥
+
+-- the batch under its name has too many commands
+abbrev pub BatchBreaks : Option Held → List ℕ → List ℕ → ℕ → InputKind → Type 0
+BatchBreaks told batch name place kind =
+    (name ≡ batch) × HasTooManyLines told batch place × (kind ≡ kinds.TooManyLines)
+
+-- an input file breaks its form, first at this place
+abbrev pub Breaks : Option Held → Request → List ℕ → ℕ → InputKind → Type 0
+Breaks told (Show b) name place kind = BatchBreaks told b name place kind
+Breaks told (Walk hook b c o) name place kind =
+    BatchBreaks told b name place kind ⊎ ((name ≡ c) × HasCommands told b × HasBreak told c place kind)
+Breaks told request name place kind = ⊥
+
+-- an input file, with those before it held and well formed
+abbrev pub IsRead : Option Held → Request → List ℕ → Type 0
+IsRead told (Show b) name = name ≡ b
+IsRead told (Walk hook b c o) name = (name ≡ b) ⊎ ((name ≡ c) × HasCommands told b)
+IsRead told request name = ⊥
+
+-- a command isn't built, told by its own word with place 0
+abbrev pub Stops : Option Held → Request → List ℕ → ℕ → Type 0
+Stops told (Show b) name place = ⊥
+Stops told (Walk hook b c o) name place = ⊥
+Stops told (Gen count front) name place = ⊥
+Stops told request name place = (name ≡ verb_of request) × (place ≡ 0)
+
+-- the report that a request names is none of a lawful run of the job, first at this line; no command that
+-- judges a report is built yet
+abbrev pub IsUnlawful : Option Held → Request → ℕ → Type 0
+IsUnlawful told request line = ⊥

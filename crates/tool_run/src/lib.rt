@@ -1,0 +1,27 @@
+//! What the program does for a command, over files and a text that it knows by their traits alone.
+//!
+//! A run is a function of the words and of the files that they name. `obey` carries that as its contract, in
+//! seven words that `specs/Promises.antt` says: each status has its cause, nothing is written where the input
+//! is at fault, and the bytes put and written are those that the definitions give. `plain` is the same for
+//! the words that run no job.
+//!
+//! Each command has a module of its own. `input` fetches and reads its files in their order, where the first
+//! fault ends the run; `run_show`, `run_walk` and `run_gen` work out all that one command asks for, then put,
+//! then write; `text` writes line by line, so that a text of a million lines is never held. What is put and
+//! written comes from `batch_show`, `batch_walk` and `gen_run`.
+//!
+//! It is no part of the program since a run needs no process: tests call it with a shelf and a sink of their
+//! own. A command that runs a job on threads will come beside it, as `tool` picks.
+//!
+//! One thread calls this. It starts none, waits for nobody, and keeps nothing between calls. Not promised:
+//! that memory suffices, and what a shelf or a sink holds that doesn't tell it.
+#![tactic(auto)]
+
+mod input;
+mod run_gen;
+mod run_show;
+mod run_walk;
+mod serving;
+mod text;
+
+pub use serving::{obey, plain};

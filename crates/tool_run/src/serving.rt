@@ -1,0 +1,120 @@
+//! The command that the words are, and its run.
+ghost use Rattle.std.specs.Prelude.{◌≡◌, false};
+ghost use Rattle.tool_words.specs.Command.{texts, request_of, asks_for_job};
+ghost use Rattle.tool_words.specs.Requests.{request, HasFewFilters};
+ghost use Rattle.tool_words.specs.Ends.{status_after, IsAllDone};
+ghost use Rattle.tool_run.specs.Causes.{CausedTo};
+ghost use Rattle.tool_run.specs.Delivered.{DeliveredTo, LeavesAllUnlessRun, CameSoFar};
+ghost use Rattle.tool_run.specs.Promises.{UsageForNoCommand, DoneIfDelivered, HasCause, DueUnlessFailed, DoneIfReady, NothingIfAtFault, CameInOrder};
+
+use crate::input::not_built;
+use crate::run_gen::run_gen;
+use crate::run_show::run_show;
+use crate::run_walk::run_walk;
+use std::alloc::Global;
+use tc_base::{Shelf, Sink};
+use tool_words::{Command, Status, WalkNames, command_of};
+
+fn ended(refused: bool) -> Status
+    ensures { result ≡ status_after refused }
+{
+    if refused {
+        Status::LinesRefused { count: 1 }
+    } else {
+        Status::Done
+    }
+}
+
+// Does what a command asks for.
+fn serve<S: Shelf, O: Sink>(
+    alloc: Global,
+    command: Command<'_>,
+    shelf: &mut S,
+    out: &mut O,
+) -> Status
+    requires { HasFewFilters command }
+    ensures done { IsAllDone result → DeliveredTo (S.held shelf.old) (S.held shelf.new) (O.written out.old)
+        (O.written out.new) (request command.entry) result }
+    ensures cause { CausedTo S.held S.read_faults S.failed_name S.write_faults O.faults shelf.old shelf.new
+        out.old out.new (request command.entry) result }
+    ensures nothing { LeavesAllUnlessRun (S.held shelf.old) (S.held shelf.new) (O.written out.old)
+        (O.written out.new) result }
+    ensures so_far { CameSoFar (S.held shelf.old) (S.held shelf.new) (O.written out.old) (O.written out.new)
+        (request command.entry) }
+{
+    match command {
+        Command::Show { batch } => match run_show(alloc, batch, shelf, out) {
+            Ok(refused) => ended(refused),
+            Err(status) => status,
+        },
+        Command::Walk {
+            hook,
+            batch,
+            capture,
+            output,
+        } => {
+            let names = WalkNames {
+                batch,
+                capture,
+                output,
+            };
+            match run_walk(alloc, hook, &names, shelf, out) {
+                Ok(refused) => ended(refused),
+                Err(status) => status,
+            }
+        }
+        Command::Gen { count, front } => match run_gen(alloc, count, front, shelf, out) {
+            Ok(refused) => ended(refused),
+            Err(status) => status,
+        },
+        _ => not_built(alloc, command.verb(), 0),
+    }
+}
+
+/// Does what the words say, on lists and without threads.
+pub fn obey<S: Shelf, O: Sink>(
+    alloc: Global,
+    words: &[String],
+    shelf: &mut S,
+    out: &mut O,
+) -> Status
+    ensures usage { UsageForNoCommand (texts words.now) result }
+    ensures done { DoneIfDelivered S.held O.written shelf.old shelf.new out.old out.new (texts words.now)
+        result }
+    ensures cause { HasCause S.held S.read_faults S.failed_name S.write_faults O.faults
+        shelf.old shelf.new out.old out.new (texts words.now) result }
+    ensures exact { DueUnlessFailed S.held S.read_faults S.write_faults O.faults
+        shelf.old shelf.new out.old out.new (texts words.now) result }
+    ensures complete { DoneIfReady S.held S.read_faults S.write_faults O.faults
+        shelf.old shelf.new out.old out.new (texts words.now) result }
+    ensures nothing { NothingIfAtFault S.held O.written shelf.old shelf.new out.old out.new result }
+    ensures so_far { CameInOrder S.held O.written shelf.old shelf.new out.old out.new (texts words.now) }
+{
+    match command_of(words) {
+        None => Status::Usage,
+        Some(command) => serve(alloc, command, shelf, out),
+    }
+}
+
+/// Does what the words say, for the commands that run no job. It returns always.
+pub fn plain<S: Shelf, O: Sink>(
+    alloc: Global,
+    words: &[String],
+    shelf: &mut S,
+    out: &mut O,
+) -> Status
+    requires { asks_for_job (request_of (texts words.now)) ≡ false }
+    ensures usage { UsageForNoCommand (texts words.now) result }
+    ensures done { DoneIfDelivered S.held O.written shelf.old shelf.new out.old out.new (texts words.now)
+        result }
+    ensures cause { HasCause S.held S.read_faults S.failed_name S.write_faults O.faults
+        shelf.old shelf.new out.old out.new (texts words.now) result }
+    ensures exact { DueUnlessFailed S.held S.read_faults S.write_faults O.faults
+        shelf.old shelf.new out.old out.new (texts words.now) result }
+    ensures complete { DoneIfReady S.held S.read_faults S.write_faults O.faults
+        shelf.old shelf.new out.old out.new (texts words.now) result }
+    ensures nothing { NothingIfAtFault S.held O.written shelf.old shelf.new out.old out.new result }
+    ensures so_far { CameInOrder S.held O.written shelf.old shelf.new out.old out.new (texts words.now) }
+{
+    obey(alloc, words, shelf, out)
+}

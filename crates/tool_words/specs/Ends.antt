@@ -1,0 +1,34 @@
+-- How the program ends. The numbers are this project's own.
+use Rattle.std.specs.Prelude.{ℕ, Bool, true, false}
+use Rattle.tc_base.specs.declared.outside.Put.{Put}
+use Rattle.tc_base.specs.declared.outside.Put.TheVariants as puts
+use Rattle.tool_words.specs.declared.status.Status.{Status}
+use Rattle.tool_words.specs.declared.status.Status.TheVariants as statuses
+
+-- where bytes were not put or written
+abbrev pub status_of : Put → Status
+status_of puts.Failed = statuses.WriteFault
+status_of puts.NoMemory = statuses.NoMemory
+
+-- where all was done: a batch stops at its first refused line
+abbrev pub status_after : Bool → Status
+status_after false = statuses.Done
+status_after true = statuses.LinesRefused 1
+
+-- all was done, whether or not a line was refused
+abbrev pub IsAllDone : Status → Type 0
+IsAllDone statuses.Done = Unit {0}
+IsAllDone (statuses.LinesRefused count) = Unit {0}
+IsAllDone status = ⊥
+
+-- the number with which the process ends: 8 is free
+abbrev pub exit_of : Status → ℕ
+exit_of statuses.Done = 0
+exit_of (statuses.LinesRefused count) = 1
+exit_of statuses.Usage = 2
+exit_of (statuses.BadInput name place kind) = 3
+exit_of (statuses.ReadFault name) = 4
+exit_of statuses.WriteFault = 5
+exit_of statuses.NoMemory = 6
+exit_of (statuses.NotLawful line) = 7
+exit_of (statuses.NotBuilt name place) = 9
