@@ -1,9 +1,9 @@
 -- The filters of a bucket, as filters come and go.
-use Rattle.std.proofs.Common.{◌≡◌, ◌≢◌, ◌∙◌, ℕ, zero, suc, ◌+◌, ◌≤◌, Bool, true, false, cond, eqb, List, [], ◌∷◌, ◌++◌, length, slice_get, Some, refl, sym, ap, arith, append_assoc, append-nil, length-append, eq-eqb, eqb-true, ne_eqb}
+use Rattle.std.proofs.Common.{◌≡◌, ◌≢◌, ◌∙◌, ℕ, ◌+◌, ◌≤◌, Bool, true, false, cond, eqb, List, [], ◌∷◌, ◌++◌, length, refl, sym, ap, arith, append_assoc, append-nil, length-append, eq-eqb, eqb-true, ne_eqb}
 use Rattle.std.specs.List.{filter}
 use Rattle.std.proofs.lemmas.List.Elements.{filter-append}
 use Rattle.block_codec.specs.declared.filter.StoredFilter.{StoredFilter}
-use Rattle.mask_table.specs.Buckets.{IsAmong, bucket_for, bucket_of}
+use Rattle.mask_table.specs.Buckets.{bucket_for, bucket_of}
 
 module _ (size : ℕ) where
   -- a filter where it is in the bucket

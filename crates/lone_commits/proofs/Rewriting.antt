@@ -16,7 +16,6 @@ use Rattle.pin_store.specs.declared.shape.Shape.{Shape}
 use Rattle.block_codec.specs.declared.filter.StoredFilter.{StoredFilter}
 use Rattle.block_codec.specs.declared.mask.StoredMask.{StoredMask}
 use Rattle.block_codec.specs.Blocks.{IsLink}
-use Rattle.block_codec.specs.Masks.{IsStorableMask}
 use Rattle.block_reading.specs.Read.{filter_in}
 use Rattle.mask_table.specs.Buckets.{IsAmong, bucket_root, bucket_for, bucket_of}
 use Rattle.mask_mirror.proofs.Keeping.{some_buckets}
