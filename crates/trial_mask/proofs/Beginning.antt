@@ -11,13 +11,13 @@ use Rattle.mask_table.specs.Buckets.{bucket_root}
 use Rattle.mask_writer.specs.Masks.{Masks}
 use Rattle.mask_mirror.specs.Linked.{placed, raise_commits}
 use Rattle.mask_order.specs.Fitting.{FitsBlock}
-use Rattle.lone_mask.specs.declared.change.Change.{Change}
-use Rattle.lone_mask.specs.Lone.{lone_words, first_filter, start, Keeps}
+use Rattle.trial_laws.specs.declared.change.Change.{Change}
+use Rattle.trial_laws.specs.Lone.{lone_words, first_filter, start, Keeps}
 use Rattle.store_history.proofs.Histories.{nothing_named}
-use Rattle.lone_commits.specs.Ledger.{AreBelow}
-use Rattle.lone_mask.proofs.Asked.{nothing_kept}
-use Rattle.lone_commits.proofs.Spending.{none_used}
-use Rattle.lone_commits.proofs.WholeMask.{mask_follows, buckets_apart}
+use Rattle.trial_laws.specs.Ledger.{AreBelow}
+use Rattle.trial_laws.proofs.Asked.{nothing_kept}
+use Rattle.trial_laws.proofs.Spending.{none_used}
+use Rattle.trial_laws.proofs.WholeMask.{mask_follows, buckets_apart}
 use Rattle.std.proofs.lemmas.List.{take_all}
 use Rattle.std.proofs.lemmas.Option.{slice_get_within}
 use Rattle.atomic_table.specs.declared.shared.Seat.{Seat}
@@ -27,8 +27,8 @@ use Rattle.pin_store.specs.declared.view.View.{View}
 use Rattle.pin_store.specs.Sheets.{base_of, IsSameButCells}
 use Rattle.pin_store.specs.Calls.{seen_by, sheet_of}
 use Rattle.mask_writer.specs.Standing.{masks_of, Holds, AreNamed, AreFree}
-use Rattle.lone_mask.specs.Lone.{now, point_of}
-use Rattle.lone_commits.specs.Ledger.{RowsBelow}
+use Rattle.trial_laws.specs.Lone.{now, point_of}
+use Rattle.trial_laws.specs.Ledger.{RowsBelow}
 use Rattle.trial_mask.specs.Trial.{TriedWith}
 use Rattle.trial_mask.proofs.Raising.{raised_tried}
 use Rattle.trial_mask.proofs.Fresh.{range_distinct, range_within}

@@ -5,7 +5,7 @@ use Rattle.flow_mask.specs.Hashes.{hash_of}
 use Rattle.block_codec.specs.declared.filter.StoredFilter.{StoredFilter}
 use Rattle.mask_table.specs.Buckets.{bucket_for, bucket_of}
 use Rattle.store_history.proofs.Lists.{take_next}
-use Rattle.lone_commits.proofs.InBuckets.{bucket_more, bucket_still}
+use Rattle.trial_laws.proofs.InBuckets.{bucket_more, bucket_still}
 
 next_is : (fs : List StoredFilter) (at : ℕ) (f : StoredFilter) → slice_get fs at ≡ Some f → take (at + 1) fs ≡ take at fs ++ f ∷ []
 next_is fs at f e = let one : at + 1 ≡ suc at = omega arith in ap (λ (k : ℕ). take k fs) one ∙ take_next fs at f e

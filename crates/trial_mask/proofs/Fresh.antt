@@ -6,8 +6,8 @@ use Rattle.std.proofs.lemmas.Map.Keys.{IsDistinct-cons}
 use Rattle.store_history.specs.declared.history.Commit.{Commit}
 use Rattle.store_history.specs.History.{IsNamed}
 use Rattle.mask_mirror.specs.Given.{AreGiven}
-use Rattle.lone_mask.specs.declared.change.Change.{Change}
-use Rattle.lone_commits.specs.Ledger.{AreBelow}
+use Rattle.trial_laws.specs.declared.change.Change.{Change}
+use Rattle.trial_laws.specs.Ledger.{AreBelow}
 
 -- one number more
 pub range_more : (a n : ℕ) → range_with_len a (suc n) ≡ range_with_len a n ++ (a + n) ∷ []

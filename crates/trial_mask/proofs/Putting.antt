@@ -20,15 +20,15 @@ use Rattle.mask_mirror.specs.Changing.{root_for, insert_at}
 use Rattle.mask_mirror.proofs.Keeping.{same_base}
 use Rattle.mask_order.specs.Fitting.{FitsBlock}
 use Rattle.store_history.proofs.Lists.{get_last}
-use Rattle.lone_mask.specs.declared.change.Change.{Change}
-use Rattle.lone_mask.specs.declared.change.Change.TheVariants as changes
-use Rattle.lone_mask.specs.Lone.{point_of, now, Keeps, Follows, HaveOwnKeys}
-use Rattle.lone_mask.proofs.Growing.{keeps_more, now_more, point_more}
-use Rattle.lone_mask.proofs.Right.{not_the_slot}
-use Rattle.lone_commits.specs.Handles.{HaveOwnHandles}
-use Rattle.lone_commits.specs.Ledger.{AreBelow, RowsBelow}
-use Rattle.lone_commits.proofs.Rewriting.{insertion_follows}
-use Rattle.lone_commits.proofs.Spending.{below_more, insertion_below, rows_still}
+use Rattle.trial_laws.specs.declared.change.Change.{Change}
+use Rattle.trial_laws.specs.declared.change.Change.TheVariants as changes
+use Rattle.trial_laws.specs.Lone.{point_of, now, Keeps, Follows, HaveOwnKeys}
+use Rattle.trial_laws.proofs.Growing.{keeps_more, now_more, point_more}
+use Rattle.trial_laws.proofs.Right.{not_the_slot}
+use Rattle.trial_laws.specs.Handles.{HaveOwnHandles}
+use Rattle.trial_laws.specs.Ledger.{AreBelow, RowsBelow}
+use Rattle.trial_laws.proofs.Rewriting.{insertion_follows}
+use Rattle.trial_laws.proofs.Spending.{below_more, insertion_below, rows_still}
 use Rattle.trial_mask.specs.Trial.{TriedWith, IsOther}
 use Rattle.trial_mask.proofs.Reading.{writer_read}
 

@@ -20,12 +20,12 @@ use Rattle.mask_writer.specs.Standing.{masks_of, Holds, AreNamed}
 use Rattle.mask_mirror.specs.Linked.{placed, raise_commits}
 use Rattle.mask_mirror.proofs.Keeping.{same_base}
 use Rattle.mask_order.specs.Fitting.{FitsBlock}
-use Rattle.lone_mask.specs.declared.change.Change.{Change}
-use Rattle.lone_mask.specs.Lone.{lone_words, start, run, point_of, now, Keeps, HaveOwnKeys}
-use Rattle.lone_commits.specs.Handles.{HaveOwnHandles}
-use Rattle.lone_commits.specs.Ledger.{AreBelow, RowsBelow}
-use Rattle.lone_commits.proofs.Spending.{ChainBelow, SpendsBelow, below_more, mask_below, rows_more, mask_spends, along_all}
-use Rattle.lone_commits.proofs.WholeMask.{edits_same}
+use Rattle.trial_laws.specs.declared.change.Change.{Change}
+use Rattle.trial_laws.specs.Lone.{lone_words, start, run, point_of, now, Keeps, HaveOwnKeys}
+use Rattle.trial_laws.specs.Handles.{HaveOwnHandles}
+use Rattle.trial_laws.specs.Ledger.{AreBelow, RowsBelow}
+use Rattle.trial_laws.proofs.Spending.{ChainBelow, SpendsBelow, below_more, mask_below, rows_more, mask_spends, along_all}
+use Rattle.trial_laws.proofs.WholeMask.{edits_same}
 use Rattle.trial_mask.specs.Trial.{TriedWith}
 
 -- where a mask was put to slot 0, and no other slot had one

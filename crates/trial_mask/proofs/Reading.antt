@@ -7,7 +7,7 @@ use Rattle.mask_mirror.specs.declared.mirror.KeptMask.{KeptMask}
 use Rattle.mask_writer.specs.Masks.{Masks}
 use Rattle.mask_writer.specs.Standing.{StandsAt, Holds, AreNamed}
 use Rattle.mask_writer.proofs.Standing.{mask_storable, record_read, bucket_read, chain_link, filters_fit}
-use Rattle.lone_commits.specs.ReadAs.{AreReadAs}
+use Rattle.trial_laws.specs.ReadAs.{AreReadAs}
 
 pub writer_read : (writer : Masks) (shape : Shape) (cells : List ℕ) (roots : ℕ → Named) (slot : ℕ) (kept : KeptMask) (last : ℕ) (fs : List StoredFilter)
     → AreNamed writer shape cells roots → StandsAt writer slot kept → Holds writer slot last fs → AreReadAs roots slot kept.mask fs

@@ -25,11 +25,11 @@ use Rattle.mask_writer.specs.Standing.{masks_of, StandsAt, Holds, AreNamed, AreF
 use Rattle.mask_mirror.specs.Linked.{placed, resized, raise_commits}
 use Rattle.mask_writer.proofs.Standing.{one_mask, one_list, record_read}
 use Rattle.mask_order.specs.Fitting.{FitInto}
-use Rattle.lone_mask.specs.declared.change.Change.{Change}
+use Rattle.trial_laws.specs.declared.change.Change.{Change}
 use Rattle.store_history.proofs.Lists.{some_is}
-use Rattle.lone_mask.specs.Lone.{now, IsRecord, Keeps}
-use Rattle.lone_commits.proofs.Spending.{mask_fresh}
-use Rattle.lone_commits.proofs.WholeMask.{mask_follows, buckets_apart}
+use Rattle.trial_laws.specs.Lone.{now, IsRecord, Keeps}
+use Rattle.trial_laws.proofs.Spending.{mask_fresh}
+use Rattle.trial_laws.proofs.WholeMask.{mask_follows, buckets_apart}
 use Rattle.trial_mask.specs.Trial.{TriedWith}
 use Rattle.trial_mask.proofs.Fresh.{range_distinct, range_within}
 use Rattle.trial_mask.proofs.Raising.{raised_tried}

@@ -20,15 +20,15 @@ use Rattle.mask_writer.proofs.Standing.{held_later}
 use Rattle.mask_mirror.proofs.Keeping.{same_base}
 use Rattle.mask_order.specs.Fitting.{FitsBlock}
 use Rattle.mask_mirror.specs.Changing.{FilterAt, HasNone, remove_at}
-use Rattle.lone_mask.specs.declared.change.Change.{Change}
-use Rattle.lone_mask.specs.declared.change.Change.TheVariants as changes
-use Rattle.lone_mask.specs.Lone.{point_of, now, changed, Keeps, Follows, HaveOwnKeys}
-use Rattle.lone_mask.proofs.Growing.{keeps_more, now_more, point_more}
-use Rattle.lone_mask.proofs.Right.{not_the_slot}
-use Rattle.lone_commits.specs.Ledger.{AreBelow, RowsBelow}
-use Rattle.lone_commits.proofs.Spending.{below_more, removal_below, rows_still}
-use Rattle.lone_commits.specs.Handles.{HaveOwnHandles}
-use Rattle.lone_commits.proofs.Rewriting.{removal_follows, found_there, each_found, taken_out}
+use Rattle.trial_laws.specs.declared.change.Change.{Change}
+use Rattle.trial_laws.specs.declared.change.Change.TheVariants as changes
+use Rattle.trial_laws.specs.Lone.{point_of, now, changed, Keeps, Follows, HaveOwnKeys}
+use Rattle.trial_laws.proofs.Growing.{keeps_more, now_more, point_more}
+use Rattle.trial_laws.proofs.Right.{not_the_slot}
+use Rattle.trial_laws.specs.Ledger.{AreBelow, RowsBelow}
+use Rattle.trial_laws.proofs.Spending.{below_more, removal_below, rows_still}
+use Rattle.trial_laws.specs.Handles.{HaveOwnHandles}
+use Rattle.trial_laws.proofs.Rewriting.{removal_follows, found_there, each_found, taken_out}
 use Rattle.trial_mask.specs.Trial.{TriedWith}
 use Rattle.trial_mask.proofs.Fresh.{range_within}
 use Rattle.trial_mask.proofs.Putting.{OwnMarks}

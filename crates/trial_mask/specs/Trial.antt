@@ -13,10 +13,10 @@ use Rattle.mask_writer.specs.Masks.{Masks}
 use Rattle.mask_mirror.specs.declared.mirror.KeptMask.{KeptMask}
 use Rattle.mask_writer.specs.Standing.{StandsAt, Holds, AreNamed}
 use Rattle.mask_order.specs.Fitting.{FitsBlock}
-use Rattle.lone_mask.specs.declared.change.Change.{Change}
-use Rattle.lone_mask.specs.Lone.{lone_words, point_of, now, Keeps, HaveOwnKeys}
-use Rattle.lone_commits.specs.Handles.{HaveOwnHandles}
-use Rattle.lone_commits.specs.Ledger.{AreBelow, RowsBelow}
+use Rattle.trial_laws.specs.declared.change.Change.{Change}
+use Rattle.trial_laws.specs.Lone.{lone_words, point_of, now, Keeps, HaveOwnKeys}
+use Rattle.trial_laws.specs.Handles.{HaveOwnHandles}
+use Rattle.trial_laws.specs.Ledger.{AreBelow, RowsBelow}
 use Rattle.trial_mask.specs.declared.trial.Trial.{Trial}
 
 -- THE TRIAL IS THE STORE'S, given part by part: the commits keep the law, one mask stands, at slot 0, and its filters are those of all changes

@@ -1,6 +1,6 @@
 //! What is there from the beginning.
 ghost use Rattle.std.specs.Prelude.{◌≡◌, ◌∷◌, []};
-ghost use Rattle.lone_mask.specs.Lone.{lone_words, first_filter};
+ghost use Rattle.trial_laws.specs.Lone.{lone_words, first_filter};
 
 use block_codec::{RowNumbers, StoredFilter, StoredMask};
 use flow_fields::Key;

@@ -1,15 +1,15 @@
 //! The law of the store with one mask.
 
-use lone_mask::Change;
+use trial_laws::Change;
 use mask_table::MaskLaw;
 use store_history::Law;
 
-/// The law of a store with one mask alone (`lone_mask`). Nothing is made of this type.
+/// The law of a store with one mask alone (`trial_laws`). Nothing is made of this type.
 pub struct LoneLaw;
 
 impl Law for LoneLaw {
-    ghost use Rattle.lone_mask.specs.Lone.{Keeps};
-    ghost use Rattle.lone_mask.proofs.Asked.{nothing_kept};
+    ghost use Rattle.trial_laws.specs.Lone.{Keeps};
+    ghost use Rattle.trial_laws.proofs.Asked.{nothing_kept};
 
     type Entry = Change;
 
@@ -22,8 +22,8 @@ impl Law for LoneLaw {
 
 // The mask stands once its root names a record, and its filters are what the changes make of them.
 impl MaskLaw for LoneLaw {
-    ghost use Rattle.lone_mask.specs.Lone.{lone_words, filters_after, stands};
-    ghost use Rattle.lone_mask.proofs.Asked.{slot_stood, mask_told, bucket_told, keys_distinct};
+    ghost use Rattle.trial_laws.specs.Lone.{lone_words, filters_after, stands};
+    ghost use Rattle.trial_laws.proofs.Asked.{slot_stood, mask_told, bucket_told, keys_distinct};
 
     ghost stands = { stands };
 

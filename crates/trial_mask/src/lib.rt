@@ -1,6 +1,6 @@
 //! One mask of a store is tried: filters are put into it and taken out of it, and readers look keys up meanwhile.
 //!
-//! `Trial` drives a `MaskWriter` over a store that keeps the law of one mask alone (`lone_mask`), as a desk will drive it over a hook's: it
+//! `Trial` drives a `MaskWriter` over a store that keeps the law of one mask alone (`trial_laws`), as a desk will drive it over a hook's: it
 //! decides which edit is made, gives the writer blocks and rows that nobody uses, and has the mask resized where its size isn't the one
 //! for its filters. What a reader looks up meanwhile has every clause of `lookup`, since the law is a `MaskLaw` and each commit keeps it.
 //!

@@ -35,7 +35,7 @@ impl Trial {
     ghost use Rattle.flow_mask.specs.Sizes.{is_size, size_of};
     ghost use Rattle.block_codec.specs.declared.filter.StoredFilter.{StoredFilter};
     ghost use Rattle.mask_table.specs.Buckets.{bucket_for};
-    ghost use Rattle.lone_mask.specs.Lone.{start};
+    ghost use Rattle.trial_laws.specs.Lone.{start};
     ghost use Rattle.mask_order.specs.Fitting.{FitsBlock};
     ghost use Rattle.trial_mask.specs.Trial.{IsTried, IsAtRest, IsNew, HasRoom};
 

@@ -5,8 +5,8 @@ use Rattle.block_codec.specs.declared.filter.StoredFilter.{StoredFilter}
 use Rattle.trial_mask.specs.Trial.{TriedWith}
 use Rattle.block_codec.specs.declared.mask.StoredMask.{StoredMask}
 use Rattle.mask_writer.specs.Standing.{AreFree}
-use Rattle.lone_mask.specs.declared.change.Change.{Change}
-use Rattle.lone_commits.specs.Ledger.{AreBelow}
+use Rattle.trial_laws.specs.declared.change.Change.{Change}
+use Rattle.trial_laws.specs.Ledger.{AreBelow}
 use Rattle.pin_store.specs.Sheets.{base_of}
 use Rattle.pin_store.specs.Calls.{seen_by, sheet_of}
 use Rattle.trial_mask.proofs.Beginning.{first_rows, first_lawful_with, none_below, first_tried}

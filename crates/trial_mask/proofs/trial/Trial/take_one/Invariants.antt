@@ -1,4 +1,4 @@
-use Rattle.lone_mask.specs.declared.change.Change.TheVariants as changes
+use Rattle.trial_laws.specs.declared.change.Change.TheVariants as changes
 use Rattle.trial_mask.proofs.trial.Trial.take_one.Given as goal
 
 abbrev pub ghosts-remove : goal.ghosts-remove

@@ -1,5 +1,0 @@
-pub mod Tested
-pub mod InBuckets
-pub mod Rewriting
-pub mod Spending
-pub mod WholeMask

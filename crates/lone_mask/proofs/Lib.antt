@@ -1,4 +1,0 @@
-pub mod Growing
-pub mod Right
-pub mod Past
-pub mod Asked

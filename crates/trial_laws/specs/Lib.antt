@@ -1,0 +1,4 @@
+pub mod Lone
+pub mod Handles
+pub mod Ledger
+pub mod ReadAs
