@@ -10,6 +10,7 @@ use Rattle.filter_state.specs.States.{Row, State}
 use Rattle.filter_state.specs.Order.{of_mask}
 use Rattle.filter_state.specs.Sound.{Each, EachPair, GoTogether}
 use Rattle.filter_state.proofs.Pairs.{pairs_filter, each_passing}
+use Rattle.filter_state.proofs.Places.{each_at, pair_at}
 use Rattle.edit_effect_laws.specs.Parts.{filter_of, filters_of}
 use Rattle.block_codec.specs.declared.filter.StoredFilter.{StoredFilter}
 use Rattle.hook_law.specs.Keeping.{Keeps}
@@ -20,18 +21,6 @@ use Rattle.hook_meaning.proofs.Reading.{some_of}
 use Rattle.hook_meaning.proofs.States.{sound_after}
 
 -- ---- places of a list
-module _ {X : Type 0} where
-  each_get : (P : X → Type 0) (xs : List X) (i : ℕ) (x : X) → Each P xs → slice_get xs i ≡ Some x → P x
-  each_get P [] i x all e = absurd (cc e)
-  each_get P (y ∷ ys) zero x all e = let same : y ≡ x = cc e in subst P same all.0
-  each_get P (y ∷ ys) (suc i) x all e = each_get P ys i x all.1 e
-
-  pair_get : (R : X → X → Type 0) (xs : List X) (i j : ℕ) (x y : X) → EachPair R xs → slice_get xs i ≡ Some x → slice_get xs j ≡ Some y → i < j → R x y
-  pair_get R [] i j x y pairs e f less = absurd (cc e)
-  pair_get R (z ∷ zs) i zero x y pairs e f less = absurd (omega arith)
-  pair_get R (z ∷ zs) zero (suc j) x y pairs e f less = let same : z ≡ x = cc e in subst (λ (w : X). R w y) same (each_get (R z) zs j y pairs.0 f)
-  pair_get R (z ∷ zs) (suc i) (suc j) x y pairs e f less = pair_get R zs i j x y pairs.1 e f (omega arith)
-
 got : {X Y : Type 0} (f : X → Y) (xs : List X) (i : ℕ) (y : Y) → slice_get (map f xs) i ≡ Some y → (x : X) × (slice_get xs i ≡ Some x) × (f x ≡ y)
 got f xs i y e = some_of f (slice_get xs i) y (sym (slice_get-map f xs i) ∙ e)
 
@@ -42,10 +31,10 @@ rows_at s mask = filter (of_mask mask) s.rows
 keys_apart : (s : State) (mask i j : ℕ) (x y : Row) → EachPair GoTogether s.rows → slice_get (rows_at s mask) i ≡ Some x → slice_get (rows_at s mask) j ≡ Some y
     → x.key ≡ y.key → i < j → ⊥
 keys_apart s mask i j x y pairs e f key less =
-    let go = pair_get GoTogether (rows_at s mask) i j x y (pairs_filter GoTogether (of_mask mask) s.rows pairs) e f less in
+    let go = pair_at GoTogether (rows_at s mask) (pairs_filter GoTogether (of_mask mask) s.rows pairs) i j x y less e f in
     let passing = each_passing (of_mask mask) s.rows in
-    let first = eqb-true x.mask_serial mask (each_get (λ (r : Row). of_mask mask r ≡ true) (rows_at s mask) i x passing e) in
-    let second = eqb-true y.mask_serial mask (each_get (λ (r : Row). of_mask mask r ≡ true) (rows_at s mask) j y passing f) in
+    let first = eqb-true x.mask_serial mask (each_at (λ (r : Row). of_mask mask r ≡ true) (rows_at s mask) i x passing e) in
+    let second = eqb-true y.mask_serial mask (each_at (λ (r : Row). of_mask mask r ≡ true) (rows_at s mask) j y passing f) in
     let same = go.same_mask (first ∙ sym second) in go.matches same.0 same.1 key
 
 row_at : (h : List (Commit Edit)) (k mask i : ℕ) (f : StoredFilter) → slice_get (filters_after h k mask) i ≡ Some f

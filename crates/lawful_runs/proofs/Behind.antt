@@ -12,7 +12,8 @@ use Rattle.lawful_runs.specs.Given.{Arrival, GivenRound}
 use Rattle.lawful_runs.specs.Points.{is_by, seen_by}
 use Rattle.lawful_runs.specs.Outcomes.{AreWalked}
 use Rattle.lawful_runs.specs.Lawful.{AreRounds, outcomes_in}
-use Rattle.lawful_runs.proofs.Places.{each_at, each_from, one_there, pairs_behind}
+use Rattle.filter_state.proofs.Places.{each_at}
+use Rattle.lawful_runs.proofs.Places.{each_from, one_there, pairs_behind}
 use Rattle.lawful_runs.proofs.Walks.{point_within}
 
 -- ---- the greatest point

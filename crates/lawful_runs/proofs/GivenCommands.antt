@@ -15,7 +15,7 @@ use Rattle.run_report.specs.declared.events.Event.{Event}
 use Rattle.lawful_runs.specs.declared.loaded.LoadedJob.{LoadedJob}
 use Rattle.lawful_runs.specs.Given.{GivenBatch, GivenRound, given_batches, capture_count, rounds_from, given_rounds}
 use Rattle.lawful_runs.specs.Events.{IsAmong, IsLineOf}
-use Rattle.lawful_runs.proofs.Places.{each_at}
+use Rattle.filter_state.proofs.Places.{each_at}
 
 -- ---- one element of a key
 -- the keys rise

@@ -4,7 +4,7 @@ use Rattle.filter_state.specs.Sound.{Each}
 use Rattle.run_report.specs.declared.events.Event.{Event}
 use Rattle.lawful_runs.specs.Given.{GivenBatch}
 use Rattle.lawful_runs.specs.Events.{IsThrough, events_of, AreInOrder}
-use Rattle.lawful_runs.proofs.Places.{each_at}
+use Rattle.filter_state.proofs.Places.{each_at}
 
 -- the events of a batch's control are the batch's
 abbrev pub IsGoneThrough : List Event → GivenBatch → Type 0

@@ -1,28 +1,16 @@
 -- Elements at the places of lists.
-use Rattle.std.proofs.Common.{◌≡◌, ℕ, zero, suc, ◌<◌, List, [], ◌∷◌, ◌++◌, length, take, Some, refl, sym, subst, arith, append_assoc, append-nil}
+use Rattle.std.proofs.Common.{◌≡◌, ℕ, zero, suc, List, [], ◌∷◌, ◌++◌, length, take, Some, refl, sym, subst, arith, append_assoc, append-nil}
 use Rattle.std.specs.List.{slice_get}
 use Rattle.filter_state.specs.Sound.{Each, EachPair}
 use Rattle.filter_state.proofs.Pairs.{pairs_push}
 
 -- ---- each element
-pub each_at : {X : Type 0} (P : X → Type 0) (xs : List X) (place : ℕ) (x : X) → Each P xs → slice_get xs place ≡ Some x → P x
-each_at P [] place x each is = absurd (cc is)
-each_at P (first ∷ xs) zero x each is = let same : first ≡ x = cc in subst P same each.0
-each_at P (first ∷ xs) (suc place) x each is = each_at P xs place x each.1 is
-
 -- what holds of the elements at all places holds of each
 pub each_from : {X : Type 0} (P : X → Type 0) (xs : List X) → ((place : ℕ) (x : X) → slice_get xs place ≡ Some x → P x) → Each P xs
 each_from P [] all = tt
 each_from P (x ∷ xs) all = (all 0 x refl, each_from P xs (λ place y is. all (suc place) y is))
 
 -- ---- each pair
-pub pair_at : {X : Type 0} (R : X → X → Type 0) (xs : List X) → EachPair R xs → (early late : ℕ) (one other : X) → early < late → slice_get xs early ≡ Some one → slice_get xs late ≡ Some other → R one other
-pair_at R [] pairs early late one other order is at = absurd (cc is)
-pair_at R (x ∷ xs) pairs zero zero one other order is at = absurd (omega (arith, order))
-pair_at R (x ∷ xs) pairs zero (suc late) one other order is at = let same : x ≡ one = cc in subst (λ y. R y other) same (each_at (R x) xs late other pairs.0 at)
-pair_at R (x ∷ xs) pairs (suc early) zero one other order is at = absurd (omega (arith, order))
-pair_at R (x ∷ xs) pairs (suc early) (suc late) one other order is at = pair_at R xs pairs.1 early late one other (omega (arith, order)) is at
-
 -- elements behind others, each of which goes with all those before it
 pub pairs_behind : {X : Type 0} (R : X → X → Type 0) (before xs : List X) → EachPair R before → ((place : ℕ) (x : X) → slice_get xs place ≡ Some x → Each (λ y. R y x) (before ++ take place xs)) → EachPair R (before ++ xs)
 pairs_behind R before [] pairs each = subst (EachPair R) (sym (append-nil before)) pairs

@@ -38,7 +38,8 @@ impl<Known: Knows> Model for Held<Known> {
       deeds = Known.deeds s.place.me.0;
     } };
 
-    ghost invariant = { λ s. (0 < Known.shares s.place.me.0) × (s.place.me.1 ≡ []) × Known.agrees s.place.me.0 };
+    ghost invariant = { λ s. (0 < Known.shares s.place.me.0) × (s.place.me.1 ≡ [])
+        × Known.agrees s.place.me.0 };
 }
 
 /// The seats that are still to be taken.

@@ -26,7 +26,8 @@ impl Knows for Tally {
     ghost agrees = { λ tally. tally.counted ≡ map (λ execution. execution.0) tally.measured };
 }
 
-/// What one thread knows of a set of counters: its shares, and the executions that it counted. It has no bytes.
+/// What one thread knows of a set of counters: its shares, and the executions that it counted. It has no
+/// bytes.
 pub type CounterSeat = Held<Tally>;
 
 /// The seats that are still to be taken.

@@ -10,7 +10,8 @@ pub word_below : (field : ℕ) → field < 20 → (field_at field).word < 14
 word_below field here = let place = placed field here in place.word
 
 -- a number that fits into a field has no more bits than the field's name says
-pub below : (name : FieldName) (width n : ℕ) → width_of name ≡ width → n < 2 ^ (field_at (field_number name)).width → n < 2 ^ width
+pub below : (name : FieldName) (width n : ℕ) → width_of name ≡ width → n < 2 ^ (field_at (field_number name)).width
+    → n < 2 ^ width
 below name width n wide fits = subst (λ w. n < 2 ^ w) (sym (width_is name) ∙ wide) fits
 
 -- the same of a field that has one of two names

@@ -73,9 +73,9 @@ named_words key mask (name ∷ more) = field_words key mask name ++ named_words 
 -- the fields with one value each, in the order of their table
 abbrev pub all_names : List FieldName
 all_names =
-    names.DstMac ∷ names.SrcMac ∷ names.VlanId ∷ names.VlanPrio ∷ names.VlanEthtype ∷ names.IpProto ∷ names.SrcIp ∷ names.DstIp
-    ∷ names.SrcPort ∷ names.DstPort ∷ names.TcpFlags ∷ names.CvlanId ∷ names.CvlanPrio ∷ names.CvlanEthtype ∷ names.IpTos
-    ∷ names.IpTtl ∷ []
+    names.DstMac ∷ names.SrcMac ∷ names.VlanId ∷ names.VlanPrio ∷ names.VlanEthtype
+    ∷ names.IpProto ∷ names.SrcIp ∷ names.DstIp ∷ names.SrcPort ∷ names.DstPort ∷ names.TcpFlags
+    ∷ names.CvlanId ∷ names.CvlanPrio ∷ names.CvlanEthtype ∷ names.IpTos ∷ names.IpTtl ∷ []
 
 -- the two IPv6 addresses have the names of those of IPv4
 abbrev pub prefixes_words : List ℕ → List ℕ → List (List ℕ)

@@ -96,7 +96,8 @@ fn push_field(
     key: &Key<14>,
     mask: &Key<14>,
 ) -> Result<(), AllocError>
-    ensures { OnOk result (out.new.items ≡ fold onto out.old.items (field_words key.now.words mask.now.words name)) }
+    ensures { OnOk result (out.new.items
+        ≡ fold onto out.old.items (field_words key.now.words mask.now.words name)) }
 {
     let number = name.number();
     if value(mask, number) == 0 {
@@ -113,7 +114,8 @@ fn push_names(
     key: &Key<14>,
     mask: &Key<14>,
 ) -> Result<(), AllocError>
-    ensures { OnOk result (out.new.items ≡ fold onto out.old.items (named_words key.now.words mask.now.words names.now)) }
+    ensures { OnOk result (out.new.items
+        ≡ fold onto out.old.items (named_words key.now.words mask.now.words names.now)) }
 {
     for name in names {
         push_field(out, *name, key, mask)?;

@@ -1,7 +1,7 @@
 use Rattle.std.proofs.Common.{[], length}
 use Rattle.lawful_runs.specs.Given.{given_rounds}
 use Rattle.lawful_runs.specs.Lawful.{outcomes_in}
-use Rattle.lawful_runs.proofs.Places.{each_at}
+use Rattle.filter_state.proofs.Places.{each_at}
 use Rattle.lawful_runs.proofs.Rounds.{IsUpTo, rounds_up_to}
 use Rattle.lawful_runs.proofs.laws.points_are_of_the_journal.Goals as goal
 

@@ -1,7 +1,7 @@
 use Rattle.std.proofs.Common.{[]}
 use Rattle.lawful_runs.specs.Given.{given_rounds}
 use Rattle.lawful_runs.specs.Lawful.{outcomes_in}
-use Rattle.lawful_runs.proofs.Places.{pair_at}
+use Rattle.filter_state.proofs.Places.{pair_at}
 use Rattle.lawful_runs.proofs.Behind.{NoneBefore, rounds_behind}
 use Rattle.lawful_runs.proofs.laws.workers_go_forward.Goals as goal
 
