@@ -1,14 +1,14 @@
 """Adds the texts that walks of one batch wrote, as if their captures had been one.
 
-A packet's walk depends on the batch and on the packet alone, so the pieces of a capture may be walked apart, and what
-the actions counted adds up. Written are a refused line, the counters, the summary and `end`, as a walk of the whole
-would write them. The lines of packets are left out, since their numbers are those of a piece: read them there.
+A packet's walk depends on the batch and on the packet alone, so the pieces of a capture may be walked apart, and
+what the actions counted adds up. Written are a refused line, the counters, the summary and `end`, as a walk of the
+whole would write them. The lines of packets are left out: their numbers are those of a piece.
 
-Each text is read to its end and held to its form: packets numbered from 1, as many as its summary says, with the
-same passed. A text without any line of a packet, as this tool and `gen` write it, is taken as well, so sums add up
-again. All texts have to be of one batch, as far as they show it: the same refused line, the same actions by serial,
-kind and index, and as many edits. What isn't noticed: a piece that is given twice or not at all, another hook, and
-another batch that makes the same actions.
+Each text is read to its end and held to its form: packets numbered from 1, as many as its summary says, and as
+many of them passed. A text without any line of a packet, as this tool and `gen` write it, is taken as well, so
+sums add up again. All texts have to be of one batch, as far as they show it: the same refused line, the same
+actions by serial, kind and index, and as many edits. What isn't noticed: a piece that is given twice or not at all,
+another hook, and another batch that makes the same actions.
 """
 import re
 import sys
@@ -19,7 +19,8 @@ from typing import BinaryIO
 from tool_ends import Fault, OneLineParser, end_with, shown
 
 REFUSED = re.compile(rb"refused \d+ control 1 line \d+ [A-Za-z]+( [0-9A-Za-z.]+){0,2}")
-PACKET = re.compile(rb"packet (\d+) (pass|drop) length \d+( priority [0-9a-f]+:[0-9a-f]+ mark \d+ queue \d+)?")
+LEFT = rb"( priority [0-9a-f]+:[0-9a-f]+ mark \d+ queue \d+)?"
+PACKET = re.compile(rb"packet (\d+) (pass|drop) length \d+" + LEFT)
 COUNTER = re.compile(rb"counter serial (\d+) ((?:gact|vlan|skbedit) index \d+) packets (\d+) bytes (\d+)")
 SUMMARY = re.compile(rb"summary edits (\d+) refused ([01]) packets (\d+) passed (\d+) dropped (\d+)")
 LONGEST = 200
@@ -141,11 +142,11 @@ def lines_of(walk: Walk) -> Iterator[str]:
 
 def words(given: list[str]) -> list[str]:
     """The names on the command line."""
-    about = "Adds walk texts of one batch, as if their captures had been one: a refused line, the counters, the summary."
-    more = """Lines of packets are left out, since their numbers are those of a piece. A FILE may hold several texts,
-        one behind the other, and be /dev/stdin. A text that is cut, isn't a walk's, or is of another batch is told in
-        one line on standard error, with exit 2, and nothing is written. Not noticed: a piece given twice or missing,
-        and another hook."""
+    about = "Adds walk texts of one batch, as if their captures had been one."
+    more = """Written are a refused line, the counters, the summary and `end`. Lines of packets are left out: their
+        numbers are those of a piece. A FILE may hold several texts, one behind the other, and be /dev/stdin. A text
+        that is cut, isn't a walk's, or is of another batch is told in one line on standard error, with exit 2, and
+        nothing is written. Not noticed: a piece given twice or missing, and another hook."""
     parser = OneLineParser(prog="./clsact sum", description=about, epilog=more)
     parser.add_argument("FILE", nargs="+", help="what `walk`, `gen` or `sum` wrote")
     return parser.parse_args(given).FILE

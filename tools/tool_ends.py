@@ -1,8 +1,8 @@
 """How the tools in this folder end, so that each of them ends alike.
 
-A fault in an input is one line on standard error, `FILE:LINE: WHAT`, and exit 2. A closed pipe and Ctrl-C end a tool
-as they end other programs, without a word. What isn't promised: a tool that is stopped may have written a front of
-its text, since texts are written line by line.
+A fault in an input is one line on standard error, `FILE:LINE: WHAT`, and exit 2. A closed pipe and Ctrl-C end
+a tool as they end other programs, without a word. What isn't promised: a tool that is stopped may have written a
+front of its text.
 """
 import argparse
 import os
@@ -33,19 +33,27 @@ def shown(name: str) -> str:
 
 
 def end_with(tool: Callable[[list[str]], int]) -> NoReturn:
-    """Runs the tool over the command line's words, and ends with its exit number. Faults of reading are its own to tell."""
+    """Runs the tool over the command line's words, and ends with its exit number. It tells faults of reading."""
     signal.signal(signal.SIGPIPE, signal.SIG_DFL)
     signal.signal(signal.SIGINT, signal.SIG_DFL)
     try:
-        if sys.stdout is None:
-            raise Fault("cannot write: standard output is closed")
-        number = tool(sys.argv[1:])
+        number = number_of(tool)
         sys.stdout.flush()
     except Fault as fault:
         end_at(str(fault))
     except OSError as error:
         end_at(f"cannot write: {error.strerror}")
     sys.exit(number)
+
+
+def number_of(tool: Callable[[list[str]], int]) -> int:
+    """The tool's exit number, also where reading its words ended it."""
+    if sys.stdout is None:
+        raise Fault("cannot write: standard output is closed")
+    try:
+        return tool(sys.argv[1:])
+    except SystemExit as ended:
+        return ended.code if isinstance(ended.code, int) else FAULT
 
 
 def end_at(fault: str) -> NoReturn:
