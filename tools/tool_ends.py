@@ -1,8 +1,8 @@
 """How the tools in this folder end, so that each of them ends alike.
 
 A fault in an input is one line on standard error, `FILE:LINE: WHAT`, and exit 2. A closed pipe and Ctrl-C end
-a tool as they end other programs, without a word. What isn't promised: a tool that is stopped may have written a
-front of its text.
+a tool as they end other programs, without a word. What isn't promised: a tool that is stopped may have
+written a front of its text.
 """
 import argparse
 import os
@@ -33,7 +33,7 @@ def shown(name: str) -> str:
 
 
 def end_with(tool: Callable[[list[str]], int]) -> NoReturn:
-    """Runs the tool over the command line's words, and ends with its exit number. It tells faults of reading."""
+    """Runs the tool over the command line's words, and ends with its exit number."""
     signal.signal(signal.SIGPIPE, signal.SIG_DFL)
     signal.signal(signal.SIGINT, signal.SIG_DFL)
     try:
