@@ -1,8 +1,8 @@
 """Shows the manual pages of man/ in the reader that the system has, or as plain text where it has none.
 
-The page of a format is opened by its word, and what clsact(1) says of one command is written as plain text,
-since it is short. The words are looked up in the pages, so a command that has its paragraph there has its
-help here.
+The page of a format is opened by its word, and what clsact(1) says of one command is written as plain
+text, since it is short. The words are looked up in the pages, so a command that has its paragraph there
+has its help here.
 """
 import os
 import shutil

@@ -1,8 +1,8 @@
 """Reads the manual pages of man/, and lays them out as plain text where there is no program for it.
 
-The pages are written in the mdoc language. Known here are the macros that they use and no others; an unknown
-one is a fault, so that a page isn't shown in part. `.ci/manuals` compares the words of this text with those
-of mandoc(1).
+The pages are written in the mdoc language. Known here are the macros that they use and no others; an
+unknown one is a fault, so that a page isn't shown in part. `.ci/manuals` compares the words of this text
+with those of mandoc(1).
 """
 import re
 import textwrap
