@@ -1,4 +1,4 @@
-"""Writes a text of the program as JSON lines: an object for each event, packet, counter, summary, action, filter.
+"""Writes a text of the program as JSON lines: an object an event, packet, counter, summary, action, filter.
 
 The text comes on standard input: that of `walk`, `show` or `gen`, the report of a run, or the answer to one.
 docs/FORMATS.md has a table of the objects; `./clsact text` makes the same text of them. The text is read line
