@@ -104,6 +104,11 @@ def type_of(word: str) -> int | None:
     return None if word == "all" else TYPES.get(word.lower()) or int(word, 16)
 
 
+def seen_text(text: str) -> str:
+    """The text as a terminal may have it: what isn't printable is escaped, but for tabs."""
+    return "".join(it if it.isprintable() or it == "\t" else f"\\u{{{ord(it):x}}}" for it in text)
+
+
 def line_from(number: int, raw: bytes) -> Line:
     text = raw.decode("utf-8", "surrogateescape").removesuffix("\r")
     words = [Word(it[0], it.start() + 1) for it in re.finditer(r"[^ \t]+", text.split("#", 1)[0])]

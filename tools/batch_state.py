@@ -2,7 +2,7 @@
 
 The program alone judges lines. This follows those that it accepted, by the rules of docs/FORMATS.md: which
 pref, handle and index a line gets, which actions it makes, binds and lets go. Its test holds the filters and
-actions that it comes to against the text of `show`. Not kept: serials, the order of filters, values of fields.
+actions that it comes to against the text of `show`. Not kept: serials, the order of filters, their values.
 """
 from collections.abc import Iterator
 from dataclasses import dataclass, field

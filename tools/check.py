@@ -1,30 +1,26 @@
 """Says of a batch what is wrong with it, and where Linux would do otherwise, with carets under the words.
 
-The program judges: it is asked to `show` the batch, and its refusal is told as `FILE:LINE:COLUMN: REFUSAL`, with
-the line, carets under the bad word (under all words where the refusal is by the state), and the cure from
-docs/FORMATS.md. Columns count characters from 1. Warnings have the names of the sections of docs/LINUX.md; they
-change no exit number, which is that of `show`. What isn't promised: that a batch without warnings does the same
-on Linux. A batch is read twice, so it has to be a file.
+The program judges: it is asked to `show` the batch, and its refusal is told as `FILE:LINE:COLUMN: REFUSAL`,
+with the line, carets under the bad word (under all words where the state refused it), and the cure from
+docs/FORMATS.md. Columns count characters from 1. Warnings have the names of the sections of docs/LINUX.md;
+they change no exit number, which is that of `show`. What isn't promised: that a batch without warnings does
+the same on Linux. A batch is read twice, so it has to be a file.
 """
+import re
 import sys
 from collections.abc import Iterator
 
-from batch_lines import Line, lines_of, request_of
+from batch_lines import Line, lines_of, request_of, seen_text
 from batch_state import State
-from clsact_texts import Object, spell_object
+from clsact_texts import Object, reason_of
 from cures import cure_of_reason, cure_of_word
 from linux_warnings import Look, Seen, Warned, warned_before, warned_behind, warned_refused
 from program import Answer, ask, take_program
 from tool_ends import OneLineParser, end_with, shown
 
 
-def seen_text(text: str) -> str:
-    """The text as a terminal may have it: what isn't printable is escaped, but for tabs."""
-    return "".join(it if it.isprintable() or it == "\t" else f"\\u{{{ord(it):x}}}" for it in text)
-
-
 def span(line: Line, first: int, behind: int) -> tuple[int, int]:
-    """The columns of a line's words from one on and up to another; one place behind the last where none is there."""
+    """The columns of a line's words from one on and up to another, or the one behind the last word."""
     if first >= len(line.words):
         return line.end, line.end + 1
     last = line.words[behind - 1]
@@ -34,8 +30,8 @@ def span(line: Line, first: int, behind: int) -> tuple[int, int]:
 def picture(line: Line, first: int, behind: int) -> str:
     """The line, and carets under the columns."""
     before, under = seen_text(line.text[: first - 1]), seen_text(line.text[first - 1: behind - 1]) or " "
-    space = "".join(it if it == "\t" else " " for it in before)
-    return f"{seen_text(line.text)}\n{space}{'^' * len(under)}"
+    below = re.sub(r"[^\t]", " ", before) + re.sub(r"[^\t]", "^", under)
+    return f"{seen_text(line.text)}\n{below}"
 
 
 def refusal(name: str, line: Line, said: Object) -> str:
@@ -43,7 +39,7 @@ def refusal(name: str, line: Line, said: Object) -> str:
     is_word = said["reason"] == "Syntax"
     place = (said["word"] - 1, said["word"]) if is_word else (0, len(line.words))
     first, behind = span(line, *place)
-    reason = (spell_object(said) or "").split(" ", 6)[-1]
+    reason = reason_of(said)
     cure = cure_of_word(line, said["word"]) if is_word else cure_of_reason(said["reason"])
     told = f"{shown(name)}:{line.number}:{first}: {reason}\n{picture(line, first, behind)}"
     return told + (f"\ncure: {cure.cure} ({cure.why})" if cure else "")
@@ -90,8 +86,8 @@ def tell(name: str, answer: Answer, is_warned: bool) -> None:
 
 def main(words: list[str]) -> int:
     about = "Applies a batch to an empty device, and shows where a line is refused, with its cure."
-    more = """An accepted batch is one line: how many lines have words, how many filters and actions stand behind
-        them. Warnings tell where Linux does otherwise, by the names of sections of docs/LINUX.md.
+    more = """An accepted batch is one line: how many lines have words, how many filters and actions stand
+        behind them. Warnings tell where Linux does otherwise, by the names of sections of docs/LINUX.md.
         Exit numbers are those of `./clsact show`; warnings change none."""
     parser = OneLineParser(prog="./clsact check", description=about, epilog=more)
     parser.add_argument("BATCH", help="a file of tc lines")

@@ -232,6 +232,11 @@ def spell_object(said: Object) -> str | None:
     return None
 
 
+def reason_of(said: Object) -> str:
+    """Why a line was refused, as the text says it behind `refused K control C line L`."""
+    return (spell_object(said) or "").split(" ", 6)[-1]
+
+
 def lines_of(file: BinaryIO, name: str) -> Iterator[tuple[int, str]]:
     """The lines of a file with their numbers, each of them whole and of ASCII."""
     for number, line in enumerate(iter(lambda: file.readline(LONGEST), b""), 1):

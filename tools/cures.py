@@ -1,7 +1,8 @@
 """Why a line was refused, and its cure: the tables of docs/FORMATS.md, which have both once.
 
-A refusal by the state has its row by its name. A bad word has the first row of the list below whose test holds;
-the list has each row of the table of bad words under the words of its first cell, and its test sees to that.
+A refusal by the state has its row by its name. A bad word has the first row of the list below whose test
+holds; the list has each row of the table of bad words under the words of its first cell. A row that only one
+of both has gives no cure, and fails the gate.
 """
 import re
 from collections.abc import Callable
@@ -15,8 +16,10 @@ FORMATS = CLSACT.removesuffix("clsact") + "docs/FORMATS.md"
 OPTIONS = ("protocol", "chain", "handle", *PREFS)
 NUMBERS = ("chain", "handle", "index", "jump", "id", "mark", "queue_mapping", "priority", *PREFS)
 NUMBER_FIELDS = ("vlan_id", "cvlan_id", "vlan_prio", "cvlan_prio", "src_port", "dst_port")
-FIELDS = ("dst_mac", "src_mac", "ip_proto", "src_ip", "dst_ip", "tcp_flags", "ip_tos", "ip_ttl", *NUMBER_FIELDS)
+OTHER_FIELDS = ("dst_mac", "src_mac", "ip_proto", "src_ip", "dst_ip", "tcp_flags", "ip_tos", "ip_ttl")
+FIELDS = NUMBER_FIELDS + OTHER_FIELDS
 TYPES = ("protocol", "vlan_ethtype", "cvlan_ethtype")
+OF_ACTIONS = ("index", "id", "priority", "protocol", "mark", "queue_mapping")
 PORTS = ("src_port", "dst_port", "tcp_flags")
 
 
@@ -29,7 +32,7 @@ class Cure:
 
 
 class Bad:
-    """A bad word: the words before it, itself (empty where words are missing), and how far its action goes back."""
+    """A bad word (empty where words are missing), the words before it, and those of its action."""
 
     def __init__(self, line: Line, number: int) -> None:
         texts = [it.text for it in line.words]
@@ -45,10 +48,9 @@ class Bad:
 
     def has_stood(self) -> bool:
         """Whether the word is a name that stands before it, in its action or among options and fields."""
-        names = OPTIONS + FIELDS + TYPES if not self.action else ("index", "id", "priority", "protocol", "mark")
+        names = OF_ACTIONS if self.action else OPTIONS + FIELDS + TYPES
         spellings = PREFS if self.word in PREFS and not self.action else (self.word,)
-        scope = self.action or self.before[5:]
-        return self.word in names + ("queue_mapping",) and any(it in scope for it in spellings)
+        return self.word in names and any(it in (self.action or self.before[5:]) for it in spellings)
 
     def is_value(self) -> bool:
         """Whether the word before it is a name, so that it stands where a value is due."""
@@ -70,14 +72,16 @@ ROWS: list[tuple[str, Callable[[Bad], bool]]] = [
     ("`ingress`, `handle` of a `qdisc` line",
      lambda it: it.starts("qdisc") and it.word in ("ingress", "egress", "handle", "root")),
     ("`eth1`", lambda it: it.last == "dev" and it.at == 3),
-    ("`protocol`, `pref` behind `eth0`", lambda it: it.starts("filter") and it.at == 4 and it.word in OPTIONS),
+    ("`protocol`, `pref` behind `eth0`",
+     lambda it: it.starts("filter") and it.at == 4 and it.word in OPTIONS),
     ("`ingress` behind `protocol` or `pref`",
      lambda it: it.starts("filter") and it.word in ("ingress", "egress") and it.last != "dev"),
     ("`action`", lambda it: it.word == "action" and it.before.count("action") == 16),
     ("`goto` behind `actions`", lambda it: it.starts("actions") and it.word == "goto"),
     ("`index` behind `actions add action gact`",
      lambda it: it.starts("actions", "add", "action") and it.action in ([], ["gact"]) and it.word == "index"),
-    ("`pipe` or `index` behind `skbedit`, `vlan push`, `vlan modify`", lambda it: it.lacks() and not it.is_value()),
+    ("`pipe` or `index` behind `skbedit`, `vlan push`, `vlan modify`",
+     lambda it: it.lacks() and not it.is_value()),
     ("`flower` of a replace or a del",
      lambda it: it.starts("filter") and it.word == "flower" and it.before[1:2] != ["add"]),
     ("a name that stood before", lambda it: not it.is_value() and it.has_stood()),
@@ -114,4 +118,5 @@ def cure_of_word(line: Line, number: int) -> Cure | None:
 
 def cure_of_reason(reason: str) -> Cure | None:
     """The row for a refusal by the state."""
-    return next((row for names, row in table("Reason").items() if reason in re.findall(r"`(\w+)", names)), None)
+    rows = table("Reason").items()
+    return next((row for names, row in rows if reason in re.findall(r"`(\w+)", names)), None)

@@ -1,11 +1,11 @@
 """Writes the state that a batch leaves as a batch that tc itself takes.
 
-The program is asked to `show` the batch, and what it shows is written again: actions that stand by themselves as
-`actions add`, each other one in full in the first filter that names it, so that it is held by as many as before;
-fields in the order in which tc reads them; the mask of a time to live in hexadecimal. `show` of what is written
-is `show` of the batch, but for the serials. A filter that tc refuses all the same (a port 0, an address under
-`protocol all`) is written as it is, and told on standard error. What isn't promised: that a kernel has room for
-it, and that Linux then does the same with packets (docs/LINUX.md).
+The program is asked to `show` the batch, and what it shows is written again: actions that stand by themselves
+as `actions add`, each other one in full in the first filter that names it, so that it is held by as many as
+before; fields in the order in which tc reads them; the mask of a time to live in hexadecimal. `show` of what
+is written is `show` of the batch, but for the serials. A filter that tc refuses all the same (a port 0, an
+address under `protocol all`) is written as it is, and told on standard error. What isn't promised: that a
+kernel has room for it, and that Linux then does the same with packets (docs/LINUX.md).
 """
 import sys
 from collections.abc import Iterator
@@ -16,8 +16,9 @@ from program import ask, take_program
 from tc_rules import faults, needs_hexadecimal
 from tool_ends import OneLineParser, end_with, shown
 
-ORDER = ("dst_mac", "src_mac", "vlan_id", "vlan_prio", "vlan_ethtype", "cvlan_id", "cvlan_prio", "cvlan_ethtype",
-         "ip_proto", "src_ip", "dst_ip", "src_port", "dst_port", "tcp_flags", "ip_tos", "ip_ttl")
+TAGGED = ("vlan_id", "vlan_prio", "vlan_ethtype", "cvlan_id", "cvlan_prio", "cvlan_ethtype")
+BEHIND = ("ip_proto", "src_ip", "dst_ip", "src_port", "dst_port", "tcp_flags", "ip_tos", "ip_ttl")
+ORDER = ("dst_mac", "src_mac", *TAGGED, *BEHIND)
 PROTOCOLS = {"icmp": "0x1", "icmpv6": "0x3a"}
 Name = tuple[str, int]
 
@@ -78,19 +79,23 @@ class Export:
     def filter_line(self, said: Object) -> str:
         """A filter's line, which makes those of its actions that nothing made before it."""
         fields, protocol = fields_of(said), type_of(str(said["protocol"]))
-        self.refused += [(self.count + 1, f"{why}: {it.name} {it.value}") for it, why in faults(protocol, fields)]
+        for it, why in faults(protocol, fields):
+            self.refuse(f"{why}: {it.name} {it.value}")
         if protocol == 0:
-            self.refused.append((self.count + 1, "protocol 0x0"))
-        words = ["filter add dev eth0", said["hook"], "protocol", str(said["protocol"]), "pref", str(said["pref"])]
-        words += ["chain", str(said["chain"]), "handle", said["handle"], "flower"]
-        words += [f"{it.name} {it.value}" for it in fields]
+            self.refuse("protocol 0x0")
+        place = "protocol {protocol} pref {pref} chain {chain} handle {handle}".format(**said)
+        words = [f"filter add dev eth0 {said['hook']} {place} flower", *(f"{it.name} {it.value}" for it in fields)]
         return " ".join([*words, *self.action_words(said)])
+
+    def refuse(self, why: str) -> None:
+        """Keeps why tc refuses the next line."""
+        self.refused.append((self.count + 1, why))
 
     def action_words(self, said: Object) -> Iterator[str]:
         own: set[Name] = set()
         for name in map(name_of, said["actions"]):
             if name in own:
-                self.refused.append((self.count + 1, f"a list that binds what it makes itself: {name[0]} {name[1]}"))
+                self.refuse(f"a list that binds what it makes itself: {name[0]} {name[1]}")
             if name in self.made:
                 yield f"action {name[0]} index {name[1]}"
             else:
@@ -124,8 +129,8 @@ def main(words: list[str]) -> int:
         return answer.number
     objects = list(answer.objects)
     if objects[0]["type"] == "refused":
-        told = f"{shown(given.BATCH)}:{objects[0]['line']}: refused, so nothing is exported; see `./clsact check`"
-        print(told, file=sys.stderr)
+        told = f"{shown(given.BATCH)}:{objects[0]['line']}: refused, so nothing is exported"
+        print(f"{told}; see `./clsact check`", file=sys.stderr)
         return 1
     return write(given.BATCH, objects)
 

@@ -1,7 +1,8 @@
-"""What tc itself refuses of a filter's fields, though it is good here: docs/LINUX.md, "What tc asks of fields".
+"""What tc itself refuses of a filter's fields, though it is good here ("What tc asks of fields").
 
 tc reads the fields of a line one after the other and goes by the EtherType that it has come to: that of the
 protocol, then of `vlan_ethtype`, then of `cvlan_ethtype`. Tried with iproute2 6.1; the kernel isn't asked.
+docs/LINUX.md has these rules in words.
 """
 from collections.abc import Iterator
 
