@@ -1,0 +1,175 @@
+"""Batch files as tools see them: lines, their words with columns, and what a line of the grammar asks for.
+
+Lines and words are cut as docs/FORMATS.md says. `request_of` is for lines that the program took for good: it
+looks for the parts of a line and checks none of them, so a line with a bad word may be read as anything, or
+end in a LookupError or a ValueError.
+"""
+import re
+from collections.abc import Iterator
+from dataclasses import dataclass, field
+
+from tool_ends import Fault, shown
+
+TYPES = {"ip": 0x800, "ipv4": 0x800, "ipv6": 0x86DD, "arp": 0x806, "802.1q": 0x8100, "802.1ad": 0x88A8}
+PREFS = ("pref", "prio", "priority", "preference")
+WIDTHS = {"tcp_flags": 12, "ip_tos": 8, "ip_ttl": 8}
+
+
+@dataclass(frozen=True)
+class Word:
+    """A word of a line, and its column from 1."""
+
+    text: str
+    column: int
+
+
+@dataclass(frozen=True)
+class Line:
+    """A line of a batch: its number from 1, its text without the end, its words."""
+
+    number: int
+    text: str
+    words: list[Word]
+
+    @property
+    def end(self) -> int:
+        """The column behind the last word."""
+        return self.words[-1].column + len(self.words[-1].text)
+
+
+@dataclass(frozen=True)
+class Action:
+    """An action of a line, from which of the line's words on, and up to which."""
+
+    kind: str
+    named: bool
+    operation: str
+    control: str
+    jump: int
+    index: int
+    words: dict[str, int]
+    first: int
+    behind: int
+
+
+@dataclass(frozen=True)
+class Field:
+    """A field of a filter, and at which of the line's words its value stands."""
+
+    name: str
+    value: str
+    at: int
+
+    @property
+    def mask(self) -> int:
+        """Which bits of the value count, as a number; the length of its prefix for an address."""
+        value, _, given = self.value.partition("/")
+        if self.name.endswith("_ip"):
+            return int(given or (128 if ":" in value else 32))
+        if self.name.endswith("_mac"):
+            return mac_mask(given)
+        base = 0 if self.name == "ip_ttl" else 16
+        return int(given, base) if given else (1 << WIDTHS.get(self.name, 16)) - 1
+
+
+@dataclass
+class Request:
+    """What a line asks for: `words` has at which of the line's words an option's value stands."""
+
+    sort: str
+    verb: str
+    hook: str = ""
+    protocol: int | None = None
+    pref: int = 0
+    chain: int = 0
+    handle: int = 0
+    fields: list[Field] = field(default_factory=list)
+    actions: list[Action] = field(default_factory=list)
+    words: dict[str, int] = field(default_factory=dict)
+
+
+def mac_mask(given: str) -> int:
+    if ":" in given:
+        return int(given.replace(":", ""), 16)
+    length = int(given or 48)
+    return (1 << 48) - (1 << (48 - length))
+
+
+def number_of(word: str) -> int:
+    return int(word, 16) if word[:2] in ("0x", "0X") else int(word)
+
+
+def type_of(word: str) -> int | None:
+    """The EtherType that a word spells; nothing for `all`."""
+    return None if word == "all" else TYPES.get(word.lower()) or int(word, 16)
+
+
+def seen_text(text: str) -> str:
+    """The text as a terminal may have it: what isn't printable is escaped, but for tabs."""
+    return "".join(it if it.isprintable() or it == "\t" else f"\\u{{{ord(it):x}}}" for it in text)
+
+
+def line_from(number: int, raw: bytes) -> Line:
+    text = raw.decode("utf-8", "surrogateescape").removesuffix("\r")
+    words = [Word(it[0], it.start() + 1) for it in re.finditer(r"[^ \t]+", text.split("#", 1)[0])]
+    return Line(number, text, words)
+
+
+def lines_of(name: str) -> Iterator[Line]:
+    """The lines of a batch file that have words."""
+    try:
+        with open(name, "rb") as file:
+            lines = file.read().split(b"\n")
+    except OSError as error:
+        raise Fault(f"{shown(name)}: cannot read: {error.strerror}") from None
+    return (line for number, raw in enumerate(lines, 1) if (line := line_from(number, raw)).words)
+
+
+def action_from(texts: list[str], at: int) -> Action:
+    """The action whose kind or control stands at a place."""
+    first, operation, control, kind = at, "", "pipe", "gact"
+    if texts[at] in ("gact", "vlan", "skbedit"):
+        kind, at = texts[at], at + 1
+    if kind == "vlan" and texts[at] != "index":
+        operation, at = texts[at], at + 1
+    named, words, jump = not operation and texts[at] == "index", {}, 0
+    while at < len(texts) and texts[at] != "action":
+        if texts[at] in ("index", "id", "protocol", "priority", "mark", "queue_mapping"):
+            words[texts[at]] = at + 1
+            at += 2
+            continue
+        control = {"pass": "ok", "shot": "drop"}.get(texts[at], texts[at])
+        at += {"jump": 2, "goto": 3}.get(control, 1)
+        jump = number_of(texts[at - 1]) if control in ("jump", "goto") else 0
+        words |= {control: at - 1}
+    index = number_of(texts[words["index"]]) if "index" in words else 0
+    return Action(kind, named, operation, control, jump, index, words, first, at)
+
+
+def take_options(request: Request, texts: list[str], at: int) -> int:
+    """Reads the options from a place on, up to `flower` or the line's end."""
+    while at < len(texts) and texts[at] != "flower":
+        name = "pref" if texts[at] in PREFS else texts[at]
+        request.words[name] = at + 1
+        if name == "protocol":
+            request.protocol = type_of(texts[at + 1])
+        else:
+            setattr(request, name, number_of(texts[at + 1]))
+        at += 2
+    return at + 1
+
+
+def request_of(line: Line) -> Request:
+    """What a good line asks for."""
+    texts = [it.text for it in line.words]
+    request, at = Request(texts[0], texts[1]), 2
+    if request.sort == "filter":
+        request.hook = texts[4]
+        at = take_options(request, texts, 5)
+        while at < len(texts) and texts[at] != "action":
+            request.fields.append(Field(texts[at], texts[at + 1], at + 1))
+            at += 2
+    while request.sort != "qdisc" and at < len(texts):
+        request.actions.append(action_from(texts, at + 1))
+        at = request.actions[-1].behind
+    return request

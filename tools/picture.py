@@ -1,0 +1,255 @@
+"""Draws a run: what its packets met while lines were applied, as SVG.
+
+From left to right are the points, the numbers of edits accepted so far; each accepted edit is a line between
+two points, and a refused line a cross. Each packet is a row with a dot a visit at the point that answered it,
+the first of them (the hook's tables) with a ring. Blue passed, orange was dropped; the verdict also stands at
+the row's end. Dots and lines have tooltips. Above 500 packets an even sample is drawn, dots and edits that
+would lie on one another are drawn as one, and the picture says so. It is light or dark as its reader likes.
+"""
+import os
+from collections.abc import Iterator
+from html import escape
+
+from batch_lines import seen_text
+from clsact_texts import Object, reason_of, spell_object
+from job_runs import Event, Job, Report
+from tool_ends import Fault, OneLineParser, end_with, shown
+
+WIDTH, LEFT, RIGHT, TOP = 880, 130, 60, 112
+MOST, LISTED = 500, 12
+HEIGHTS = ((20, 24), (60, 16), (150, 11))
+EVERY: list[int] = [digit * 10 ** zeros for zeros in range(9) for digit in (1, 2, 5)]
+STYLE = """
+text { font: 12px sans-serif; fill: #333 } .head { font-size: 16px; font-weight: bold }
+.small { font-size: 11px }
+.mid { text-anchor: middle } .end { text-anchor: end } .note { fill: #666 } .back { fill: #fff }
+.pass { fill: #0072b2 } .drop { fill: #d55e00 } .ring { fill: none; stroke: #333; stroke-width: 1.5 }
+.fine { stroke-width: .8 } .row { stroke: #bbb } .axis { stroke: #555 } .round { fill: #ececec }
+.edit { stroke: #555; stroke-dasharray: 3 3 } .thin { opacity: .35 }
+.cross { stroke: #a0005a; stroke-width: 2 }
+@media (prefers-color-scheme: dark) {
+text { fill: #ddd } .note { fill: #aaa } .back { fill: #14181d }
+.pass { fill: #56b4e9 } .drop { fill: #f08c3a }
+.ring { stroke: #ddd } .row { stroke: #4a4f57 } .edit, .axis { stroke: #999 } .round { fill: #272d35 }
+.cross { stroke: #ff8ad0 }
+}
+"""
+
+
+def clean(text: str) -> str:
+    return escape(seen_text(text.replace("\t", " ")))
+
+
+def text(x: float, y: float, what: str, sort: str = "") -> str:
+    return f'<text x="{x:.1f}" y="{y:.1f}" class="{sort}">{clean(what)}</text>'
+
+
+def line(x: float, y: float, to_x: float, to_y: float, sort: str) -> str:
+    return f'<line x1="{x:.1f}" y1="{y:.1f}" x2="{to_x:.1f}" y2="{to_y:.1f}" class="{sort}"/>'
+
+
+def titled(what: str, title: str) -> str:
+    return f"<g>{what}<title>{clean(title)}</title></g>"
+
+
+def sampled(count: int) -> list[int]:
+    """The places of an even sample."""
+    return [place * count // MOST for place in range(MOST)] if count > MOST else list(range(count))
+
+
+def event_text(event: Event) -> str:
+    place = f"control {event.said['control']}, {event.batch} line {event.said['line']}"
+    told = f"edit {event.point}" if event.is_edit else reason_of(event.said)
+    return f"{told} ({place}): {event.text}"
+
+
+class Picture:
+    """The picture of a report: where its points and rows lie, and what is drawn."""
+
+    def __init__(self, job: str, report: Report) -> None:
+        self.name, self.report = shown(os.path.basename(job)), report
+        packets = [(number, it) for number, round in enumerate(report.rounds, 1) for it in round.packets]
+        self.count = len(packets)
+        self.packets = [packets[place] for place in sampled(len(packets))]
+        lowest = min((min(it["points"]) for _, it in self.packets), default=0)
+        self.low = lowest - 1 if lowest > 20 else 0
+        self.step = min(150.0, (WIDTH - LEFT - RIGHT) / (report.point - self.low + 1))
+        self.row = next((height for most, height in HEIGHTS if len(packets) <= most), 7)
+        self.every = next(it for it in EVERY if it * self.step >= 34)
+        self.bottom = TOP + self.row * max(1, len(self.packets))
+        self.notes: list[str] = []
+        self.is_shared, self.ring = False, "ring" if self.row > 7 else "ring fine"
+
+    def edge(self, point: int) -> float:
+        """Where the column of a point begins, which is where its edit's line is."""
+        return LEFT + (point - self.low) * self.step
+
+    def middle(self, point: int) -> float:
+        return self.edge(point) + self.step / 2
+
+    def rounds(self) -> Iterator[str]:
+        """A strip for each round, from the point that it begins with to the one that it ends with."""
+        for number, round in enumerate(self.report.rounds, 1):
+            if round.point < self.low:
+                continue
+            first = self.middle(max(round.before, self.low))
+            width = max(1.5, self.middle(round.point) - first - 3)
+            place = f'x="{first + 1.5:.1f}" y="{TOP - 48}" width="{width:.1f}" height="18"'
+            label = f"round {number}" if width > 50 else str(number) if width > 18 else ""
+            drawn = text(first + 1.5 + width / 2, TOP - 35, label, "mid small")
+            yield titled(f'<rect {place} class="round"/>{drawn}', f"round {number}")
+
+    def events(self) -> Iterator[str]:
+        """A line for each edit, a cross for each refused line; those closer than two pixels share one."""
+        near: dict[tuple[int, bool], list[Event]] = {}
+        drawn = (it for round in self.report.rounds for it in round.events if not self.low or it.point > self.low)
+        for event in drawn:
+            near.setdefault((int(self.edge(event.point) / 2), event.is_edit), []).append(event)
+        for (_, is_edit), events in near.items():
+            told = "\n".join(map(event_text, events[:LISTED])) + "\n.." * (len(events) > LISTED)
+            yield titled(self.edit(events) if is_edit else self.cross(events[0]), told)
+        if any(is_edit and len(events) > 1 for (_, is_edit), events in near.items()):
+            self.notes.append("edits that lie on one another share a line")
+
+    def edit(self, events: list[Event]) -> str:
+        """The line of edits, with the number of one of them where there is room."""
+        x, is_wide = self.edge(events[0].point), self.step > 46
+        drawn = line(x, TOP - 14, x, self.bottom, "edit" if is_wide else "edit thin")
+        for point in [it.point for it in events if it.point % self.every == 0]:
+            drawn += text(x, TOP - 18, f"edit {point}" if is_wide else str(point), "mid small")
+        return drawn
+
+    def cross(self, event: Event) -> str:
+        x, y = self.middle(event.point), TOP - 7
+        return line(x - 4, y - 4, x + 4, y + 4, "cross") + line(x - 4, y + 4, x + 4, y - 4, "cross")
+
+    def rows(self) -> Iterator[str]:
+        for place, (number, packet) in enumerate(self.packets):
+            y = TOP + self.row * (place + 0.5)
+            yield from self.labels(place, number, packet, y + 4)
+            yield from self.visits(packet, y)
+
+    def labels(self, place: int, number: int, packet: Object, y: float) -> Iterator[str]:
+        """The packet's number and worker, its round where there are more with packets, and its verdict."""
+        if self.row < 11 and place % 10:
+            return
+        rounds = sum(bool(it.packets) for it in self.report.rounds)
+        front = f"round {number}, " if rounds > 1 else ""
+        short = f"{front}packet {packet['packet']}" + f", worker {packet['worker']}" * (rounds < 2)
+        yield text(LEFT - 10, y, short, "end small")
+        yield text(self.edge(self.report.point + 1) + 10, y, packet["verdict"], "small")
+
+    def visits(self, packet: Object, y: float) -> Iterator[str]:
+        """The packet's dots, side by side in the column of their point, as far as there is room."""
+        radius = min(4.5, self.row / 2 - 1.5)
+        places = self.places(packet["points"])
+        yield line(min(places), y, max(places), y, "row")
+        for x, visits in places.items():
+            dot = f'<circle cx="{x:.1f}" cy="{y:.1f}" r="{radius}" class="{packet["verdict"]}"/>'
+            ring = f'<circle cx="{x:.1f}" cy="{y:.1f}" r="{radius + 2}" class="{self.ring}"/>'
+            yield titled(dot + ring * (visits[0] == 0), visit_text(packet, visits))
+
+    def places(self, points: list[int]) -> dict[float, list[int]]:
+        """Where each dot lies, and for which visits it stands."""
+        columns: dict[int, list[int]] = {}
+        for visit, point in enumerate(points):
+            columns.setdefault(point, []).append(visit)
+        near: dict[int, tuple[float, list[int]]] = {}
+        for point, visits in columns.items():
+            dots = min(max(1, int(self.step / 14)), len(visits))
+            for dot in range(dots):
+                x = self.edge(point) + self.step * (dot + 1) / (dots + 1)
+                own = visits[dot:] if dot == dots - 1 else visits[dot:dot + 1]
+                near.setdefault(int(x / 3), (x, []))[1].extend(own)
+        self.is_shared = self.is_shared or len(near) < len(points)
+        return {x: sorted(visits) for x, visits in near.values()}
+
+    def axis(self) -> Iterator[str]:
+        """The points below the rows, and what they are."""
+        y, behind = self.bottom, self.report.point + 1
+        yield line(LEFT, y, self.edge(behind), y, "axis")
+        for point in range(-(-self.low // self.every) * self.every, behind, self.every):
+            yield line(self.middle(point), y, self.middle(point), y + 4, "axis")
+            yield text(self.middle(point), y + 17, str(point), "mid small")
+        yield text(LEFT, y + 36, "point: how many edits were accepted before", "note small")
+
+    def legend(self) -> Iterator[str]:
+        packets = f"{self.count} packet{'s' * (self.count != 1)}"
+        yield text(16, 26, f"{self.name}: {packets} and {self.report.point} edits", "head")
+        entries = [("pass", "passed"), ("drop", "dropped"), ("ring", "first visit: the hook's tables")]
+        x = 22.0
+        for sort, label in entries:
+            yield f'<circle cx="{x:.1f}" cy="44" r="{6.5 if sort == "ring" else 4.5}" class="{sort}"/>'
+            yield text(x + 11, 48, label, "small")
+            x += 34 + 5.6 * len(label)
+        yield line(x, 38, x, 50, "edit") + text(x + 8, 48, "an edit", "small")
+        yield line(x + 64, 40, x + 72, 48, "cross") + line(x + 64, 48, x + 72, 40, "cross")
+        yield text(x + 80, 48, "a refused line", "small")
+
+    def told(self) -> list[str]:
+        """What stands below the picture: the lines of its events where they are few, and what isn't drawn."""
+        events = [it for round in self.report.rounds for it in round.events]
+        listed = [event_text(it) for it in events] if len(events) <= LISTED else []
+        if self.count > MOST:
+            listed.append(f"{MOST} of {self.count} packets are drawn, evenly taken from all")
+        if self.low:
+            listed.append(f"points below {self.low} have no visit and aren't drawn")
+        if self.is_shared:
+            listed.append("visits of a packet that would lie on one another share a dot")
+        return listed + self.notes
+
+    def drawn(self) -> str:
+        """The whole picture."""
+        body = [*self.rounds(), *self.events(), *self.rows(), *self.axis(), *self.legend()]
+        below = [it if len(it) < 125 else it[:122] + ".." for it in self.told()]
+        body += [text(16, self.bottom + 60 + 17 * place, it, "note small") for place, it in enumerate(below)]
+        height = self.bottom + 62 + 17 * len(below)
+        size = f'viewBox="0 0 {WIDTH} {height}" width="{WIDTH}" height="{height}"'
+        title = f"Visits of {self.count} packets at the points of {self.report.point} edits"
+        head = [f'<svg xmlns="http://www.w3.org/2000/svg" {size} role="img">', f"<title>{title}</title>"]
+        head += [f"<style>{STYLE}</style>", f'<rect width="{WIDTH}" height="{height}" rx="6" class="back"/>']
+        return "\n".join([*head, *body, "</svg>\n"])
+
+
+def visit_text(packet: Object, visits: list[int]) -> str:
+    """A dot's tooltip: the packet, which of its visits these are, and the points."""
+    points = sorted({packet["points"][it] for it in visits})
+    sort = " (the hook's tables)" if visits == [0] else ""
+    first = visits[0] + 1
+    name = f"visit {first}{sort}" if len(visits) == 1 else f"{len(visits)} visits from {first} on"
+    point = f"point {points[0]}" if len(points) == 1 else f"points {points[0]} to {points[-1]}"
+    line = (spell_object(packet) or "").split(" points ")[0]
+    return f"{line}: {name} at {point} of {len(packet['points'])} visits"
+
+
+def put(name: str, content: str) -> None:
+    """Writes a file beside OUT and gives it that name, so that OUT is never half-written."""
+    beside = f"{os.path.realpath(name)}.{os.getpid()}.part"
+    try:
+        if os.path.exists(name) and not os.path.isfile(name):
+            beside = name
+        with open(beside, "w", encoding="utf-8") as file:
+            file.write(content)
+        if beside != name:
+            os.replace(beside, os.path.realpath(name))
+    except OSError as error:
+        if beside != name and os.path.exists(beside):
+            os.remove(beside)
+        raise Fault(f"{shown(name)}: cannot write: {error.strerror}") from None
+
+
+def main(words: list[str]) -> int:
+    about = "Draws what the packets of a run met while lines were applied, as SVG."
+    more = """The job's batches are read under the names that it gives them, so start it where the job runs.
+        Nothing is written where a file breaks its form, or where the report isn't one of the job."""
+    parser = OneLineParser(prog="./clsact picture", description=about, epilog=more)
+    parser.add_argument("JOB", help="the job file")
+    parser.add_argument("REPORT", help="the report of its run")
+    parser.add_argument("OUT", help="the picture; what stood there is replaced")
+    given = parser.parse_args(words)
+    put(given.OUT, Picture(given.JOB, Report(given.REPORT, Job(given.JOB))).drawn())
+    return 0
+
+
+if __name__ == "__main__":
+    end_with(main)
