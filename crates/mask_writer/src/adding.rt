@@ -1,5 +1,6 @@
 //! Filters that are put into masks.
-ghost use Rattle.block_codec.specs.declared.places.TheConstants.{BLOCK_WORDS, MASK_SLOTS, POOL_BLOCKS, ROOTS};
+ghost use Rattle.block_codec.specs.declared.places.TheConstants.{MASK_SLOTS, POOL_BLOCKS};
+ghost use Rattle.block_codec.specs.Shapes.{HasPoolAndRoots};
 ghost use Rattle.std.specs.Prelude.{◌≡◌, ◌≢◌, ◌<◌, ◌≤◌, ◌++◌, ◌∷◌, ℕ, List, [], length, slice_index};
 ghost use Rattle.store_history.specs.History.{root_of};
 ghost use Rattle.pin_store.specs.Layout.{block_words};
@@ -40,8 +41,7 @@ pub(crate) fn insert_filter<L: Law, E: EditName<L::Entry>>(
     edit: Point,
 )
     requires store { IsSeatOf store.now writer.old.place }
-    requires shape { (store.now.shape.words ≡ BLOCK_WORDS) × (POOL_BLOCKS ≤ store.now.shape.blocks)
-        × (ROOTS ≤ store.now.shape.roots) }
+    requires shape { HasPoolAndRoots store.now.shape.words store.now.shape.blocks store.now.shape.roots }
     requires slot { slot < MASK_SLOTS }
     requires stands { (kept : KeptMask) × Stands mirror.old slot kept }
     requires storable { IsStorableFilter filter.now }

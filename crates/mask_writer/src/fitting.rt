@@ -8,7 +8,8 @@ use store_history::{EditName, Law};
 use tc_base::Point;
 
 impl MaskWriter {
-    ghost use Rattle.block_codec.specs.declared.places.TheConstants.{BLOCK_WORDS, MASK_SLOTS, POOL_BLOCKS, ROOTS};
+    ghost use Rattle.block_codec.specs.declared.places.TheConstants.{MASK_SLOTS};
+    ghost use Rattle.block_codec.specs.Shapes.{HasPoolAndRoots};
     ghost use Rattle.std.specs.Prelude.{◌≡◌, ◌≢◌, ◌<◌, ◌≤◌, ◌+◌, ◌*◌, ◌++◌, ◌∷◌, ℕ, List, length, take};
     ghost use Rattle.std.specs.Prelude.{slice_index, slice_set, Some, IsTrue};
     ghost use Rattle.store_history.specs.History.{root_of};
@@ -41,8 +42,7 @@ impl MaskWriter {
         stamp: Point,
     )
         requires store { IsSeatOf store.now writer.old.place }
-        requires shape { (store.now.shape.words ≡ BLOCK_WORDS) × (POOL_BLOCKS ≤ store.now.shape.blocks)
-            × (ROOTS ≤ store.now.shape.roots) }
+        requires shape { HasPoolAndRoots store.now.shape.words store.now.shape.blocks store.now.shape.roots }
         requires slot { slot < MASK_SLOTS }
         requires size { IsTrue (is_size size) × (size ≡ 16 * length given.now.rows) }
         requires rows { AreFree self.old given.now.rows }

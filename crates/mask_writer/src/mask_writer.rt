@@ -42,7 +42,8 @@ impl Model for MaskWriter {
 }
 
 impl MaskWriter {
-    ghost use Rattle.block_codec.specs.declared.places.TheConstants.{BLOCK_WORDS, MASK_SLOTS, POOL_BLOCKS, ROOTS};
+    ghost use Rattle.block_codec.specs.declared.places.TheConstants.{MASK_SLOTS, POOL_BLOCKS};
+    ghost use Rattle.block_codec.specs.Shapes.{HasPoolAndRoots};
     ghost use Rattle.std.specs.Prelude.{◌≢◌, ◌<◌, ◌+◌, ◌++◌, ◌∷◌, List, [], length, slice_index, slice_set};
     ghost use Rattle.store_history.specs.declared.history.Named.{Named};
     ghost use Rattle.store_history.specs.History.{root_of};
@@ -59,7 +60,7 @@ impl MaskWriter {
 
     /// Takes the room for the masks of a store of this shape. No mask stands. No other call takes memory.
     pub fn with_room(alloc: Global, _shape: Shape) -> Result<MaskWriter, NoMemory>
-        requires { (_shape.words ≡ BLOCK_WORDS) × (POOL_BLOCKS ≤ _shape.blocks) × (ROOTS ≤ _shape.roots) }
+        requires { HasPoolAndRoots _shape.words _shape.blocks _shape.roots }
         ensures empty { IfOk result (λ made. (slot : ℕ) → IsEmptyAt made slot) }
         ensures kept { IfOk result (λ made. (shape : Shape) (cells : List ℕ) (roots : ℕ → Named)
             → AreNamed made shape cells roots) }
@@ -90,8 +91,7 @@ impl MaskWriter {
         edit: Point,
     )
         requires store { IsSeatOf store.now writer.old.place }
-        requires shape { (store.now.shape.words ≡ BLOCK_WORDS) × (POOL_BLOCKS ≤ store.now.shape.blocks)
-            × (ROOTS ≤ store.now.shape.roots) }
+        requires shape { HasPoolAndRoots store.now.shape.words store.now.shape.blocks store.now.shape.roots }
         requires slot { slot < MASK_SLOTS }
         requires stands { (kept : KeptMask) × StandsAt self.old slot kept }
         requires storable { IsStorableFilter filter.now }

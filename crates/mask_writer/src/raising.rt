@@ -1,5 +1,6 @@
 //! Masks that come to stand.
-ghost use Rattle.block_codec.specs.declared.places.TheConstants.{BLOCK_WORDS, MASK_SLOTS, POOL_BLOCKS, ROOTS};
+ghost use Rattle.block_codec.specs.declared.places.TheConstants.{MASK_SLOTS};
+ghost use Rattle.block_codec.specs.Shapes.{HasPoolAndRoots};
 ghost use Rattle.std.specs.Prelude.{◌≡◌, ◌≢◌, ℕ, ◌+◌, ◌<◌, ◌≤◌, ◌++◌, ◌∷◌, List, [], length, take, slice_index, slice_set, Some, All};
 ghost use Rattle.store_history.specs.History.{root_of};
 ghost use Rattle.pin_store.specs.Layout.{block_words};
@@ -43,8 +44,7 @@ impl MaskWriter {
         edit: Point,
     )
         requires store { IsSeatOf store.now writer.old.place }
-        requires shape { (store.now.shape.words ≡ BLOCK_WORDS) × (POOL_BLOCKS ≤ store.now.shape.blocks)
-            × (ROOTS ≤ store.now.shape.roots) }
+        requires shape { HasPoolAndRoots store.now.shape.words store.now.shape.blocks store.now.shape.roots }
         requires slot { slot < MASK_SLOTS }
         requires empty { IsEmptyAt self.old slot }
         requires mask { IsStorableMask mask.now }
@@ -109,8 +109,7 @@ impl MaskWriter {
         edit: Point,
     )
         requires store { IsSeatOf store.now writer.old.place }
-        requires shape { (store.now.shape.words ≡ BLOCK_WORDS) × (POOL_BLOCKS ≤ store.now.shape.blocks)
-            × (ROOTS ≤ store.now.shape.roots) }
+        requires shape { HasPoolAndRoots store.now.shape.words store.now.shape.blocks store.now.shape.roots }
         requires slot { slot < MASK_SLOTS }
         requires empty { IsEmptyAt self.old slot }
         requires mask { IsStorableMask mask.now }

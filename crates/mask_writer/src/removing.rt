@@ -11,7 +11,8 @@ use store_history::{EditName, Law};
 use tc_base::Point;
 
 impl MaskWriter {
-    ghost use Rattle.block_codec.specs.declared.places.TheConstants.{BLOCK_WORDS, MASK_SLOTS, POOL_BLOCKS, ROOTS};
+    ghost use Rattle.block_codec.specs.declared.places.TheConstants.{MASK_SLOTS};
+    ghost use Rattle.block_codec.specs.Shapes.{HasPoolAndRoots};
     ghost use Rattle.std.specs.Prelude.{◌≡◌, ◌≢◌, ℕ, ◌+◌, ◌<◌, ◌≤◌, ◌++◌, ◌∷◌, [], List, length, map, take};
     ghost use Rattle.store_history.specs.declared.history.Link.{Link};
     ghost use Rattle.store_history.specs.declared.history.Named.{Named};
@@ -64,8 +65,7 @@ impl MaskWriter {
         edit: Point,
     )
         requires store { IsSeatOf store.now writer.old.place }
-        requires shape { (store.now.shape.words ≡ BLOCK_WORDS) × (POOL_BLOCKS ≤ store.now.shape.blocks)
-            × (ROOTS ≤ store.now.shape.roots) }
+        requires shape { HasPoolAndRoots store.now.shape.words store.now.shape.blocks store.now.shape.roots }
         requires slot { slot < MASK_SLOTS }
         requires there { (kept : KeptMask) × (root : ℕ) × (front : List StoredFilter)
             × (filter : StoredFilter)
@@ -145,8 +145,7 @@ impl MaskWriter {
         edit: Point,
     )
         requires store { IsSeatOf store.now writer.old.place }
-        requires shape { (store.now.shape.words ≡ BLOCK_WORDS) × (POOL_BLOCKS ≤ store.now.shape.blocks)
-            × (ROOTS ≤ store.now.shape.roots) }
+        requires shape { HasPoolAndRoots store.now.shape.words store.now.shape.blocks store.now.shape.roots }
         requires slot { slot < MASK_SLOTS }
         requires storable { IsStorableFilter filter.now }
         requires there { (kept : KeptMask) × (front : List StoredFilter) × (old : StoredFilter)

@@ -1,5 +1,6 @@
 //! Masks that get another number of buckets.
-ghost use Rattle.block_codec.specs.declared.places.TheConstants.{BLOCK_WORDS, MASK_SLOTS, POOL_BLOCKS, ROOTS};
+ghost use Rattle.block_codec.specs.declared.places.TheConstants.{MASK_SLOTS};
+ghost use Rattle.block_codec.specs.Shapes.{HasPool, HasPoolAndRoots};
 ghost use Rattle.std.specs.Prelude.{◌≡◌, ◌≢◌, ◌<◌, ◌≤◌, ◌+◌, ◌*◌, ◌++◌, ◌∷◌, ℕ, List, length, take, drop};
 ghost use Rattle.std.specs.Prelude.{slice_index, slice_set, Some, IsTrue};
 ghost use Rattle.store_history.specs.History.{root_of};
@@ -69,7 +70,7 @@ fn relay<L: Law>(
     blocks: &[u32],
 ) -> usize
     requires store { IsSeatOf store.now writer.old.place }
-    requires shape { (store.now.shape.words ≡ BLOCK_WORDS) × (POOL_BLOCKS ≤ store.now.shape.blocks) }
+    requires shape { HasPool store.now.shape.words store.now.shape.blocks }
     requires slot { slot < MASK_SLOTS }
     requires mask { IsStorableMask mask.now }
     requires rows { AreFreeRows mirror.old mask.now.rows }
@@ -127,8 +128,7 @@ pub(crate) fn resize_mask<L: Law, E: EditName<L::Entry>>(
     stamp: Point,
 )
     requires store { IsSeatOf store.now writer.old.place }
-    requires shape { (store.now.shape.words ≡ BLOCK_WORDS) × (POOL_BLOCKS ≤ store.now.shape.blocks)
-        × (ROOTS ≤ store.now.shape.roots) }
+    requires shape { HasPoolAndRoots store.now.shape.words store.now.shape.blocks store.now.shape.roots }
     requires slot { slot < MASK_SLOTS }
     requires size { IsTrue (is_size size) × (size ≡ 16 * length given.now.rows) }
     requires rows { AreFreeRows mirror.old given.now.rows }

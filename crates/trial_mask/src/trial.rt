@@ -27,7 +27,8 @@ pub struct Trial {
 }
 
 impl Trial {
-    ghost use Rattle.block_codec.specs.declared.places.TheConstants.{BLOCK_WORDS, POOL_BLOCKS, ROOTS, ROWS};
+    ghost use Rattle.block_codec.specs.declared.places.TheConstants.{POOL_BLOCKS, ROWS};
+    ghost use Rattle.block_codec.specs.Shapes.{HasPoolAndRoots};
     ghost use Rattle.std.specs.Prelude.{◌≢◌, ◌≤◌, ◌↔◌, ◌++◌, ℕ, Some, None, IfSome, All, slice_get, drop, Ok, true, false, IsTrue};
     ghost use Rattle.std.specs.List.{remove};
     ghost use Rattle.pin_store.specs.Sheets.{base_of};
@@ -46,7 +47,7 @@ impl Trial {
         store: &Store<LoneLaw>,
     ) -> Result<Trial, NoMemory>
         requires store { IsSeatOf store.now writer.old.place }
-        requires shape { (store.now.shape.words ≡ BLOCK_WORDS) × (POOL_BLOCKS ≤ store.now.shape.blocks) × (ROOTS ≤ store.now.shape.roots) }
+        requires shape { HasPoolAndRoots store.now.shape.words store.now.shape.blocks store.now.shape.roots }
         requires new { (seen_by writer.old.place ≡ []) × (base_of (sheet_of writer.old.place) ≡ 0) }
         ensures store { IsSeatOf store.now writer.new.place }
         ensures tried { IfOk result (λ t. IsTried t store.now.shape writer.new.place) }
@@ -80,7 +81,7 @@ impl Trial {
         filter: StoredFilter,
     ) -> Result<(), NoMemory>
         requires store { IsSeatOf store.now writer.old.place }
-        requires shape { (store.now.shape.words ≡ BLOCK_WORDS) × (POOL_BLOCKS ≤ store.now.shape.blocks) × (ROOTS ≤ store.now.shape.roots) }
+        requires shape { HasPoolAndRoots store.now.shape.words store.now.shape.blocks store.now.shape.roots }
         requires tried { IsTried self.old store.now.shape writer.old.place }
         requires rest { IsAtRest self.old }
         requires room { (self.old.blocks < POOL_BLOCKS) × (self.old.point + 1 < 2 ^ 32) }
@@ -114,7 +115,7 @@ impl Trial {
         size: u32,
     ) -> Result<(), NoMemory>
         requires store { IsSeatOf store.now writer.old.place }
-        requires shape { (store.now.shape.words ≡ BLOCK_WORDS) × (POOL_BLOCKS ≤ store.now.shape.blocks) × (ROOTS ≤ store.now.shape.roots) }
+        requires shape { HasPoolAndRoots store.now.shape.words store.now.shape.blocks store.now.shape.roots }
         requires tried { IsTried self.old store.now.shape writer.old.place }
         requires room { (self.old.blocks + length self.old.filters.items + 1 ≤ POOL_BLOCKS) × (self.old.rows + 64 ≤ ROWS) }
         requires size { (size ≡ size_of (length self.old.filters.items)) × IsTrue (is_size size) × (size ≤ 1024) }
@@ -144,7 +145,7 @@ impl Trial {
         store: &Store<LoneLaw>,
     ) -> Result<(), NoMemory>
         requires store { IsSeatOf store.now writer.old.place }
-        requires shape { (store.now.shape.words ≡ BLOCK_WORDS) × (POOL_BLOCKS ≤ store.now.shape.blocks) × (ROOTS ≤ store.now.shape.roots) }
+        requires shape { HasPoolAndRoots store.now.shape.words store.now.shape.blocks store.now.shape.roots }
         requires tried { IsTried self.old store.now.shape writer.old.place }
         requires room { (self.old.blocks + length self.old.filters.items + 1 ≤ POOL_BLOCKS) × (self.old.rows + 64 ≤ ROWS) }
         ensures store { IsSeatOf store.now writer.new.place }
@@ -191,7 +192,7 @@ impl Trial {
         filter: StoredFilter,
     ) -> Result<bool, NoMemory>
         requires store { IsSeatOf store.now writer.old.place }
-        requires shape { (store.now.shape.words ≡ BLOCK_WORDS) × (POOL_BLOCKS ≤ store.now.shape.blocks) × (ROOTS ≤ store.now.shape.roots) }
+        requires shape { HasPoolAndRoots store.now.shape.words store.now.shape.blocks store.now.shape.roots }
         requires tried { IsTried self.old store.now.shape writer.old.place }
         requires rest { IsAtRest self.old }
         requires fits { FitsBlock filter }
@@ -228,7 +229,7 @@ impl Trial {
         count: u32,
     ) -> Result<(), NoMemory>
         requires store { IsSeatOf store.now writer.old.place }
-        requires shape { (store.now.shape.words ≡ BLOCK_WORDS) × (POOL_BLOCKS ≤ store.now.shape.blocks) × (ROOTS ≤ store.now.shape.roots) }
+        requires shape { HasPoolAndRoots store.now.shape.words store.now.shape.blocks store.now.shape.roots }
         requires tried { IsTried self.old store.now.shape writer.old.place }
         requires rest { IsAtRest self.old }
         requires room { (self.old.blocks + count ≤ POOL_BLOCKS) × (self.old.point + 1 < 2 ^ 32) }
@@ -279,7 +280,7 @@ impl Trial {
         handle: u32,
     ) -> Result<bool, NoMemory>
         requires store { IsSeatOf store.now writer.old.place }
-        requires shape { (store.now.shape.words ≡ BLOCK_WORDS) × (POOL_BLOCKS ≤ store.now.shape.blocks) × (ROOTS ≤ store.now.shape.roots) }
+        requires shape { HasPoolAndRoots store.now.shape.words store.now.shape.blocks store.now.shape.roots }
         requires tried { IsTried self.old store.now.shape writer.old.place }
         requires rest { IsAtRest self.old }
         ensures store { IsSeatOf store.now writer.new.place }
