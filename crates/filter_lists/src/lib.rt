@@ -1,45 +1,49 @@
-//! The filters of the two hooks, as the nested lists in which a packet meets them, and the actions that filters share.
+//! The filters of the two hooks, as the nested lists in which a packet meets them, and the actions that
+//! filters share.
 //!
-//! A hook has tables, a table has masks, and a mask has filters. A packet asks a table for each of its masks once, and a line
-//! that names a table or a handle looks at the table of one chain and pref, so the filters stand nested. A filter has the serials
-//! of its actions, which stand in a registry beside the tables. What an edit means is written elsewhere, on the flat state of
-//! `filter_state`, where each filter is a row with all that it stands under. The two are tied by `Spells` (`specs/Spells.antt`):
-//! all is the state's, but for the order between rows of different masks, which means nothing.
+//! A hook has tables, a table has masks, and a mask has filters. A packet asks a table for each of its masks
+//! once, and a line that names a table or a handle looks at the table of one chain and pref, so the filters
+//! stand nested. A filter has the serials of its actions, which stand in a registry beside the tables. What
+//! an edit means is written elsewhere, on the flat state of `filter_state`, where each filter is a row with
+//! all that it stands under. The two are tied by `Spells` (`specs/Spells.antt`): all is the state's, but for
+//! the order between rows of different masks, which means nothing.
 //!
-//! `Lists::step` is that state's step. It is `prepare` and then `finish`: `prepare` looks for every refusal, takes the memory that
-//! the edit wants, and leaves the state as it was; `finish` does the edit, and can't be refused. Whoever must do something else in
-//! between, and may still give the edit up, calls the two apart. Clauses speak of every state that the lists spell, so no call
-//! carries a state along. The lists spell a sound state at all times: that is the invariant of `Lists`.
+//! `Lists::step` is that state's step. It is `prepare` and then `finish`: `prepare` looks for every refusal,
+//! takes the memory that the edit wants, and leaves the state as it was; `finish` does the edit, and can't be
+//! refused. Whoever must do something else in between, and may still give the edit up, calls the two apart.
+//! Clauses speak of every state that the lists spell, so no call carries a state along. The lists spell a
+//! sound state at all times: that is the invariant of `Lists`.
 //!
-//! The parts stand in crates of their own: the tables (filter_tables), what every edit asks (hook_lists), and the edits of filters
-//! (filter_adding, filter_replacing, filter_removing). Those of the qdisc and of actions apart from filters stand here.
+//! The parts stand in crates of their own: the tables (filter_tables), what every edit asks (hook_lists), and
+//! the edits of filters (filter_adding, filter_replacing, filter_removing). Those of the qdisc and of actions
+//! apart from filters stand here.
 //!
 //! # How a `filter add` goes through them
 //!
 //! ```text
-//! Lists::prepare --> plan_for --> filter_adding::prepare_addition
-//!                                  |
-//!                                  | look: every refusal, in the plain state's order; nothing is changed
-//!                                  |-- the qdisc, the pref, the protocol      hook_lists::check_hook, check_protocol
-//!                                  |-- the handle; the same mask and key      hook_lists::check_match: filter_tables,
-//!                                  |                                          and filter_index within a mask
-//!                                  |-- the line's actions, bound or made      hook_lists::resolve: action_plan over
-//!                                  |                                          act_registry
-//!                                  |-- tables, masks, filters, actions full   hook_lists::check_masks, check_actions
-//!                                  |
-//!                                  | make ready: all the memory, none of it used yet
-//!                                  |-- room for the actions                   hook_lists::reserve_actions
-//!                                  '-- a seat: in a mask that stands, or a    filter_tables: reserve
-//!                                      mask or table of the filter's own
-//! Lists::finish ---> carry ------> filter_adding::add: no memory, no refusal
-//!                                  |-- the actions are bound and made         hook_lists::carry_out
-//!                                  '-- the filter is put into its seat        filter_tables: put
+//! Lists::prepare -> plan_for -> filter_adding::prepare_addition
+//!   |
+//!   | look: every refusal, in the plain state's order; nothing is changed
+//!   |-- the qdisc, the pref, the protocol       hook_lists::check_hook, check_protocol
+//!   |-- the handle; the same mask and key       hook_lists::check_match: filter_tables, and filter_index
+//!   |                                           within a mask
+//!   |-- the line's actions, bound or made       hook_lists::resolve: action_plan over act_registry
+//!   |-- tables, masks, filters, actions full    hook_lists::check_masks, check_actions
+//!   |
+//!   | make ready: all the memory, none of it used yet
+//!   |-- room for the actions                    hook_lists::reserve_actions
+//!   '-- a seat: in a mask that stands, or a     filter_tables: reserve
+//!       mask or a table of the filter's own
+//! Lists::finish -> carry -> filter_adding::add: no memory, no refusal
+//!   |-- the actions are bound and made          hook_lists::carry_out
+//!   '-- the filter is put into its seat         filter_tables: put
 //! ```
 //!
-//! A replace and a del go the same two ways through filter_replacing and filter_removing; a replace of a filter that
-//! isn't there is an add.
+//! A replace and a del go the same two ways through filter_replacing and filter_removing; a replace of a
+//! filter that isn't there is an add.
 //!
-//! One thread changes the lists at a time, by `&mut`, and any may read them by `&`. Only `step` and `prepare` take memory.
+//! One thread changes the lists at a time, by `&mut`, and any may read them by `&`. Only `step` and `prepare`
+//! take memory.
 //!
 //! Not promised: that memory suffices.
 #![tactic(auto)]
