@@ -1,6 +1,6 @@
 //! The top call.
 ghost use Rattle.tool_words.specs.Command.{texts};
-ghost use Rattle.tool_run.specs.Promises.{UsageForNoCommand, DoneIfDelivered, HasCause, DueUnlessFailed, DoneIfReady, NothingIfAtFault, CameInOrder};
+ghost use Rattle.tool_run.specs.Promises.{UsageExactlyForNoCommand, DoneOnlyIfDelivered, HasCause, DueUnlessFailed, DoneIfReady, NothingIfAtFault, CameInOrder};
 
 use std::alloc::Global;
 use std::sync::Wait;
@@ -18,8 +18,8 @@ pub fn tool<R: Threads + Wait + Sync, S: Shelf, O: Sink, G: Gate>(
     out: &mut O,
     _gates: &G,
 ) -> Status
-    ensures usage { UsageForNoCommand (texts words.now) result }
-    ensures done { DoneIfDelivered S.held O.written shelf.old shelf.new out.old out.new (texts words.now)
+    ensures usage { UsageExactlyForNoCommand (texts words.now) result }
+    ensures done { DoneOnlyIfDelivered S.held O.written shelf.old shelf.new out.old out.new (texts words.now)
         result }
     ensures cause { HasCause S.held S.read_faults S.failed_name S.write_faults O.faults
         shelf.old shelf.new out.old out.new (texts words.now) result }

@@ -126,8 +126,9 @@ abbrev pub FilesPut : ℕ → List ℕ → Generated → Option Held → Option 
 FilesPut many front made old now = ArePut old now (take many (files_in front made))
 
 -- the batch was put, then the capture, then the job, then the output
-pub batch_put : (front : List ℕ) (made : Generated) (a b : Option Held) → OthersStay a b (front ++ codes ".tc")
-    → Stands b (front ++ codes ".tc") made.batch.items → FilesPut 1 front made a b
+pub batch_put : (front : List ℕ) (made : Generated) (a b : Option Held)
+    → OthersStay a b (front ++ codes ".tc") → Stands b (front ++ codes ".tc") made.batch.items
+    → FilesPut 1 front made a b
 batch_put front made a b stay stands =
     one_more_put a a b [] (batch_file front made) tt (none_put a) stay stands
 
@@ -156,7 +157,8 @@ output_put front made a b c put stay stands =
 pub capture_not_put : (front : List ℕ) (made : Generated) (a b c : Option Held) → FilesPut 1 front made a b
     → OthersStay b c (front ++ codes ".pcap") → PutUpTo a c (files_in front made)
 capture_not_put front made a b c put stay =
-    one_not_put a b c (files_in front made) 1 (capture_file front made) refl (capture_apart front made) put stay
+    one_not_put a b c (files_in front made) 1 (capture_file front made) refl (capture_apart front made) put
+    stay
 
 pub job_not_put : (front : List ℕ) (made : Generated) (a b c : Option Held) → FilesPut 2 front made a b
     → OthersStay b c (front ++ codes ".job") → PutUpTo a c (files_in front made)

@@ -13,13 +13,13 @@ use Rattle.tool_run.specs.Ready.{IsReady}
 use Rattle.tool_run.specs.Delivered.{DeliveredIn, LeavesAllUnlessRun, CameSoFarIn}
 
 -- Usage is the answer exactly where the words are no command
-abbrev pub UsageForNoCommand : List (List ℕ) → Status → Type 0
-UsageForNoCommand words result = (result ≡ statuses.Usage) ↔ (request_of words ≡ None)
+abbrev pub UsageExactlyForNoCommand : List (List ℕ) → Status → Type 0
+UsageExactlyForNoCommand words result = (result ≡ statuses.Usage) ↔ (request_of words ≡ None)
 
--- all is done only where all was put and written that the words and the held files give
-abbrev pub DoneIfDelivered : {S O : Type 0} → (S → Option Held) → (O → Option (List ℕ)) → S → S → O → O
+-- all is answered to be done only where all was put and written that the words and the held files give
+abbrev pub DoneOnlyIfDelivered : {S O : Type 0} → (S → Option Held) → (O → Option (List ℕ)) → S → S → O → O
     → List (List ℕ) → Status → Type 0
-DoneIfDelivered held written old new sink_old sink_new words result =
+DoneOnlyIfDelivered held written old new sink_old sink_new words result =
     IsAllDone result
     → DeliveredIn (held old) (held new) (written sink_old) (written sink_new) (request_of words) result
 

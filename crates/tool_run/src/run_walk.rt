@@ -104,7 +104,8 @@ fn deliver<S: Shelf, O: Sink>(
     out: &mut O,
 ) -> Result<(), Status>
     ensures put { OnOk result (Stands (S.held shelf.new) name.now answer.now.output.items) }
-    ensures wrote { OnOk result (Appended (O.written out.old) (O.written out.new) (told_text answer.now.text)) }
+    ensures wrote { OnOk result
+        (Appended (O.written out.old) (O.written out.new) (told_text answer.now.text)) }
     ensures others { OthersStay (S.held shelf.old) (S.held shelf.new) name.now }
     ensures front { (O.written out.new ≡ O.written out.old)
         ⊎ (Stands (S.held shelf.new) name.now answer.now.output.items

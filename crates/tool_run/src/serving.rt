@@ -5,7 +5,7 @@ ghost use Rattle.tool_words.specs.Requests.{request, HasFewFilters};
 ghost use Rattle.tool_words.specs.Ends.{status_after, IsAllDone};
 ghost use Rattle.tool_run.specs.Causes.{CausedTo};
 ghost use Rattle.tool_run.specs.Delivered.{DeliveredTo, LeavesAllUnlessRun, CameSoFar};
-ghost use Rattle.tool_run.specs.Promises.{UsageForNoCommand, DoneIfDelivered, HasCause, DueUnlessFailed, DoneIfReady, NothingIfAtFault, CameInOrder};
+ghost use Rattle.tool_run.specs.Promises.{UsageExactlyForNoCommand, DoneOnlyIfDelivered, HasCause, DueUnlessFailed, DoneIfReady, NothingIfAtFault, CameInOrder};
 
 use crate::input::not_built;
 use crate::run_gen::run_gen;
@@ -78,8 +78,8 @@ pub fn obey<S: Shelf, O: Sink>(
     shelf: &mut S,
     out: &mut O,
 ) -> Status
-    ensures usage { UsageForNoCommand (texts words.now) result }
-    ensures done { DoneIfDelivered S.held O.written shelf.old shelf.new out.old out.new (texts words.now)
+    ensures usage { UsageExactlyForNoCommand (texts words.now) result }
+    ensures done { DoneOnlyIfDelivered S.held O.written shelf.old shelf.new out.old out.new (texts words.now)
         result }
     ensures cause { HasCause S.held S.read_faults S.failed_name S.write_faults O.faults
         shelf.old shelf.new out.old out.new (texts words.now) result }
@@ -104,8 +104,8 @@ pub fn plain<S: Shelf, O: Sink>(
     out: &mut O,
 ) -> Status
     requires { asks_for_job (request_of (texts words.now)) ≡ false }
-    ensures usage { UsageForNoCommand (texts words.now) result }
-    ensures done { DoneIfDelivered S.held O.written shelf.old shelf.new out.old out.new (texts words.now)
+    ensures usage { UsageExactlyForNoCommand (texts words.now) result }
+    ensures done { DoneOnlyIfDelivered S.held O.written shelf.old shelf.new out.old out.new (texts words.now)
         result }
     ensures cause { HasCause S.held S.read_faults S.failed_name S.write_faults O.faults
         shelf.old shelf.new out.old out.new (texts words.now) result }

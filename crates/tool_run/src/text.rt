@@ -16,7 +16,8 @@ fn write_packet<O: Sink>(
     end: &PacketEnd,
     out: &mut O,
 ) -> Result<(), Put>
-    ensures all { OnOk result (Appended (O.written out.old) (O.written out.new) (packet_line number end.now)) }
+    ensures all { OnOk result
+        (Appended (O.written out.old) (O.written out.new) (packet_line number end.now)) }
     ensures up_to { AppendsUpTo (O.written out.old) (O.written out.new) (packet_line number end.now) }
     ensures later { O.faults out.old ≤ O.faults out.new }
     ensures cause { IsErrOf result Put.Failed → Rose (O.faults out.old) (O.faults out.new) }
