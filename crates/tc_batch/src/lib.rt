@@ -29,6 +29,7 @@ mod field_name;
 mod field_values;
 mod fields;
 mod keywords;
+mod kind_names;
 mod line_steps;
 mod marks;
 mod numbers;
@@ -39,4 +40,5 @@ mod steps;
 mod tag;
 
 pub use fault::LineFault;
+pub use kind_names::kind_name;
 pub use reading::{is_command, line, one_line};
