@@ -3,7 +3,7 @@ use Rattle.std.specs.Prelude.{ℕ, ◌+◌, ◌-◌, ◌≤◌, ◌==◌, ◌&&�
 use Rattle.std.specs.List.{flat_map}
 use Rattle.frame_edit.specs.declared.meta.Meta.{Meta}
 use Rattle.line_texts.specs.Texts.{class_text}
-use Rattle.tc_print.specs.ActionWords.{kind_text}
+use Rattle.tc_batch.specs.KindNames.{kind_text}
 use Rattle.walk_rules.specs.declared.verdict.Verdict.{Verdict}
 use Rattle.walk_rules.specs.declared.verdict.Verdict.TheVariants as verdicts
 use Rattle.batch_run.specs.declared.made_action.MadeAction.{MadeAction}

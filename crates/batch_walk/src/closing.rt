@@ -7,7 +7,7 @@ use crate::pieces::{push_count, push_text};
 use batch_run::MadeAction;
 use capture_walk::Count;
 use std::alloc::{AllocError, Global};
-use tc_print::kind_name;
+use tc_batch::kind_name;
 
 /// What a run came to.
 #[derive(Clone, Copy, Debug, PartialEq, Eq)]

@@ -16,7 +16,7 @@ use Rattle.filter_state.specs.declared.refusal.Refusal.TheVariants as refusals
 use Rattle.walk_rules.specs.declared.verdict.Verdict.{Verdict}
 use Rattle.walk_rules.specs.declared.verdict.Verdict.TheVariants as verdicts
 use Rattle.line_texts.specs.Texts.{handle_text, hex_text, two_digits, ether_type_text, protocol_text, class_text}
-use Rattle.tc_print.specs.ActionWords.{kind_text}
+use Rattle.tc_batch.specs.KindNames.{kind_text}
 use Rattle.tc_report.specs.Refusals.{refusal_words, syntax_words, place_words, refused_line}
 use Rattle.batch_walk.specs.declared.closing.Summary.{Summary}
 use Rattle.batch_run.specs.declared.made_action.MadeAction.{MadeAction}

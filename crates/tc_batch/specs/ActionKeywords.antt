@@ -4,6 +4,7 @@ use Rattle.std.specs.Str.{bytes_eq}
 use Rattle.act_kinds.specs.declared.params.Kind.{Kind}
 use Rattle.act_kinds.specs.declared.params.Kind.TheVariants as kinds
 use Rattle.act_kinds.specs.declared.params.Control.TheVariants as controls
+use Rattle.tc_batch.specs.KindNames.{kind_text}
 use Rattle.tc_batch.specs.declared.action_keywords.Site.{Site}
 use Rattle.tc_batch.specs.declared.action_keywords.Site.TheVariants as sites
 use Rattle.tc_batch.specs.declared.action_keywords.ControlWord.{ControlWord}
@@ -16,12 +17,12 @@ use Rattle.tc_batch.specs.declared.action_keywords.TagName.TheVariants as tag_na
 use Rattle.tc_batch.specs.declared.action_keywords.MarkName.{MarkName}
 use Rattle.tc_batch.specs.declared.action_keywords.MarkName.TheVariants as mark_names
 
--- the kinds of actions
+-- the kinds of actions, each by its name
 abbrev pub kind_word : List ℕ → Option Kind
 kind_word word =
-    if bytes_eq word (codes "gact") then Some kinds.Gact
-    else if bytes_eq word (codes "vlan") then Some kinds.Vlan
-    else if bytes_eq word (codes "skbedit") then Some kinds.Skbedit
+    if bytes_eq word (kind_text kinds.Gact) then Some kinds.Gact
+    else if bytes_eq word (kind_text kinds.Vlan) then Some kinds.Vlan
+    else if bytes_eq word (kind_text kinds.Skbedit) then Some kinds.Skbedit
     else None
 
 -- only an action that is written in a filter goes to a chain

@@ -1,4 +1,5 @@
 pub mod Keywords
+pub mod KindNames
 pub mod ActionKeywords
 pub mod FieldNames
 pub mod Options

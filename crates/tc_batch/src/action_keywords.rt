@@ -1,9 +1,9 @@
 //! The keywords of an action.
 ghost use Rattle.std.specs.Prelude.{◌≡◌};
-ghost use Rattle.tc_batch.specs.ActionKeywords.{kind_word, goto_word, control_word, vlan_verb, tag_name, mark_name};
+ghost use Rattle.tc_batch.specs.ActionKeywords.{goto_word, control_word, vlan_verb, tag_name, mark_name};
 
 use crate::keywords::spelled;
-use act_kinds::{Control, Kind};
+use act_kinds::Control;
 use tc_words::is_text;
 
 /// Where an action stands.
@@ -51,16 +51,6 @@ pub enum MarkName {
     Priority,
     Mark,
     Queue,
-}
-
-pub(crate) fn read_kind(word: &[u8]) -> Option<Kind>
-    ensures { result ≡ kind_word word.now }
-{
-    spelled!(word;
-        "gact" => Kind::Gact,
-        "vlan" => Kind::Vlan,
-        "skbedit" => Kind::Skbedit,
-    )
 }
 
 // Only an action that is written in a filter goes to a chain.

@@ -11,11 +11,12 @@ ghost use Rattle.tc_batch.specs.States.{context_of, state_of};
 ghost use Rattle.tc_batch.specs.Machine.{acted, after_control, on_control, after_whole, after_placed, on_placed, on_tagging, on_marking, after_vlan, on_kind, may_name, on_kinded, on_acting};
 
 use crate::action_keywords::{
-    ControlWord, MarkName, Site, TagName, TagVerb, VlanVerb, read_control_word, read_kind,
-    read_mark_name, read_tag_name, read_vlan_verb,
+    ControlWord, MarkName, Site, TagName, TagVerb, VlanVerb, read_control_word, read_mark_name,
+    read_tag_name, read_vlan_verb,
 };
 use crate::actions::{full_action, named_action};
 use crate::draft::Draft;
+use crate::kind_names::read_kind;
 use crate::line_steps::go_on_listed;
 use crate::marks::Marks;
 use crate::numbers::{read_chain, read_index};

@@ -29,6 +29,7 @@ mod field_name;
 mod field_values;
 mod fields;
 mod keywords;
+mod kind_names;
 mod line_steps;
 mod marks;
 mod numbers;
@@ -40,4 +41,5 @@ mod tag;
 
 pub use fault::LineFault;
 pub use field_name::FieldName;
+pub use kind_names::kind_name;
 pub use reading::{is_command, line, one_line};

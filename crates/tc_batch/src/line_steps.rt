@@ -8,13 +8,14 @@ ghost use Rattle.tc_batch.specs.declared.draft.Draft.{Draft};
 ghost use Rattle.tc_batch.specs.States.{State, state_of};
 ghost use Rattle.tc_batch.specs.Machine.{on_text, after_kind, after_flower, on_flower, on_setting, on_listed, on_field, after_actions, next_state};
 
-use crate::action_keywords::{Site, read_kind};
+use crate::action_keywords::Site;
 use crate::draft::Draft;
 use crate::field_name::{FieldName, read_field_name};
 use crate::keywords::{
     ActionVerb, FilterVerb, LineKind, OptionName, read_action_verb, read_filter_verb, read_hook,
     read_line_kind, read_option_name, read_qdisc_verb,
 };
+use crate::kind_names::read_kind;
 use crate::numbers::read_index;
 use crate::options::Options;
 use crate::stage::{Ending, Place, Stage};

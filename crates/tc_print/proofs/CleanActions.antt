@@ -21,7 +21,8 @@ use Rattle.act_kinds.specs.declared.params.Params.TheVariants as params
 use Rattle.act_kinds.specs.Ranges.{IsTpid, IsVlanId, IsVlanOp, IsControl, AreMarks, AreParams}
 use Rattle.filter_state.specs.declared.action_line.ActionLine.{ActionLine}
 use Rattle.filter_state.specs.Lines.{IsIndex, IsOfFilter, IsSharedAction, IsFilterAction, AreFilterActions}
-use Rattle.tc_print.specs.ActionWords.{kind_text, control_words, number_words, index_words, tag_words, op_words, class_words, mark_words, params_words, given_words, action_words, list_words}
+use Rattle.tc_batch.specs.KindNames.{kind_text}
+use Rattle.tc_print.specs.ActionWords.{control_words, number_words, index_words, tag_words, op_words, class_words, mark_words, params_words, given_words, action_words, list_words}
 
 pub clean_joined : (a b : List (List ℕ)) → list_all is_clean a ≡ true → list_all is_clean b ≡ true → list_all is_clean (a ++ b) ≡ true
 clean_joined a b clean_a clean_b = list_all-append is_clean a b ∙ and-both (list_all is_clean a) (list_all is_clean b) clean_a clean_b

@@ -22,7 +22,8 @@ use Rattle.filter_state.specs.declared.edit.Edit.{Edit}
 use Rattle.filter_state.specs.declared.edit.Edit.TheVariants as edits
 use Rattle.filter_state.specs.Lines.{IsPref, IsIndex, IsProtocol, IsFilter, IsLine}
 use Rattle.tc_batch.specs.Grammar.{Gives}
-use Rattle.tc_print.specs.ActionWords.{kind_text, number_words, index_words, list_words}
+use Rattle.tc_batch.specs.KindNames.{kind_text}
+use Rattle.tc_print.specs.ActionWords.{number_words, index_words, list_words}
 use Rattle.tc_print.specs.FieldWords.{fields_words}
 use Rattle.tc_print.specs.EditWords.{hook_text, protocol_words, handle_words, option_words, hook_words, body_words, filter_words, flower_words, edit_words, printed}
 use Rattle.tc_print.specs.Texts.{onto}

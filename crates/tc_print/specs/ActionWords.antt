@@ -7,17 +7,12 @@ use Rattle.act_kinds.specs.declared.params.Control.{Control}
 use Rattle.act_kinds.specs.declared.params.Control.TheVariants as controls
 use Rattle.act_kinds.specs.declared.params.Kind.{Kind}
 use Rattle.act_kinds.specs.declared.params.Kind.TheVariants as kinds
+use Rattle.tc_batch.specs.KindNames.{kind_text}
 use Rattle.act_kinds.specs.declared.params.VlanOp.{VlanOp}
 use Rattle.act_kinds.specs.declared.params.VlanOp.TheVariants as ops
 use Rattle.act_kinds.specs.declared.params.Params.{Params}
 use Rattle.act_kinds.specs.declared.params.Params.TheVariants as params
 use Rattle.filter_state.specs.declared.action_line.ActionLine.{ActionLine}
-
--- the module of tc that a kind is named after
-abbrev pub kind_text : Kind → List ℕ
-kind_text kinds.Gact = codes "gact"
-kind_text kinds.Vlan = codes "vlan"
-kind_text kinds.Skbedit = codes "skbedit"
 
 -- tc-actions(8), CONTROL: how the list of actions goes on
 abbrev pub control_words : Control → List (List ℕ)
@@ -59,9 +54,10 @@ mark_words priority mark queue = number_words (codes "queue_mapping") queue ++ (
 
 -- what an action does, and its control
 abbrev pub params_words : Params → List (List ℕ)
-params_words (params.Gact control) = codes "gact" ∷ control_words control
-params_words (params.Vlan op control) = codes "vlan" ∷ (op_words op ++ control_words control)
-params_words (params.Skbedit priority mark queue control) = codes "skbedit" ∷ (mark_words priority mark queue ++ control_words control)
+params_words (params.Gact control) = kind_text kinds.Gact ∷ control_words control
+params_words (params.Vlan op control) = kind_text kinds.Vlan ∷ (op_words op ++ control_words control)
+params_words (params.Skbedit priority mark queue control) =
+    kind_text kinds.Skbedit ∷ (mark_words priority mark queue ++ control_words control)
 
 -- in full, or the kind alone
 abbrev pub given_words : Kind → Option Params → List (List ℕ)

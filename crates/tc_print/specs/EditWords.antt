@@ -10,7 +10,8 @@ use Rattle.tc_base.specs.declared.hook.Proto.{Proto}
 use Rattle.filter_state.specs.declared.edit.FilterLine.{FilterLine}
 use Rattle.filter_state.specs.declared.edit.Edit.{Edit}
 use Rattle.filter_state.specs.declared.edit.Edit.TheVariants as edits
-use Rattle.tc_print.specs.ActionWords.{kind_text, number_words, action_words, list_words}
+use Rattle.tc_batch.specs.KindNames.{kind_text}
+use Rattle.tc_print.specs.ActionWords.{number_words, action_words, list_words}
 use Rattle.tc_print.specs.FieldWords.{fields_words}
 
 -- tc-clsact(8): the two hooks

@@ -4,11 +4,12 @@ ghost use Rattle.line_texts.specs.Texts.{ether_type_text};
 ghost use Rattle.tc_print.specs.ActionWords.{number_words, index_words, tag_words, op_words, class_words, mark_words, params_words, given_words, action_words, list_words};
 ghost use Rattle.tc_print.specs.Texts.{onto};
 
-use crate::controls::{kind_name, push_control, push_index};
+use crate::controls::{push_control, push_index};
 use crate::texts::{push_class_word, push_ether_type_word, push_named, push_word};
 use act_kinds::{Kind, Params, VlanOp};
 use filter_state::ActionLine;
 use std::alloc::AllocError;
+use tc_batch::kind_name;
 
 fn push_tag(out: &mut Vec<u8>, tpid: u16, id: u16) -> Result<(), AllocError>
     ensures { OnOk result (out.new.items ≡ fold onto out.old.items (tag_words tpid id)) }

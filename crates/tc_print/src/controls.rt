@@ -1,23 +1,12 @@
-//! Kinds of actions, controls and indices.
+//! Controls and indices.
 ghost use Rattle.std.specs.Prelude.{◌≡◌, [], ◌∷◌, fold, OnOk};
 ghost use Rattle.act_kinds.specs.declared.params.Control.TheVariants as controls;
-ghost use Rattle.tc_print.specs.ActionWords.{kind_text, control_words, index_words};
+ghost use Rattle.tc_print.specs.ActionWords.{control_words, index_words};
 ghost use Rattle.tc_print.specs.Texts.{onto};
 
 use crate::texts::{push_named, push_word};
-use act_kinds::{Control, Kind};
+use act_kinds::Control;
 use std::alloc::AllocError;
-
-/// The module of tc that a kind is named after.
-pub fn kind_name(kind: Kind) -> &'static str
-    ensures { result.now ≡ kind_text kind }
-{
-    match kind {
-        Kind::Gact => "gact",
-        Kind::Vlan => "vlan",
-        Kind::Skbedit => "skbedit",
-    }
-}
 
 fn push_goto(out: &mut Vec<u8>, chain: u32) -> Result<(), AllocError>
     ensures { OnOk result (out.new.items ≡ fold onto out.old.items (control_words (controls.Goto chain))) }

@@ -4,13 +4,14 @@ ghost use Rattle.tc_words.specs.Lines.{words_of};
 ghost use Rattle.filter_state.specs.declared.edit.Edit.{Edit};
 ghost use Rattle.filter_state.specs.Lines.{IsLine};
 ghost use Rattle.tc_batch.specs.Grammar.{Gives};
-ghost use Rattle.tc_print.specs.ActionWords.{kind_text, index_words, action_words, list_words};
+ghost use Rattle.tc_batch.specs.KindNames.{kind_text};
+ghost use Rattle.tc_print.specs.ActionWords.{index_words, action_words, list_words};
 ghost use Rattle.tc_print.specs.FieldWords.{fields_words};
 ghost use Rattle.tc_print.specs.EditWords.{hook_words, option_words, body_words, filter_words, flower_words, removal_words, qdisc_words, edit_words, printed};
 ghost use Rattle.tc_print.specs.Texts.{onto};
 
 use crate::actions::{push_action, push_actions};
-use crate::controls::{kind_name, push_index};
+use crate::controls::push_index;
 use crate::fields::push_fields;
 use crate::options::{push_hook, push_options};
 use crate::texts::push_word;
@@ -18,6 +19,7 @@ use act_kinds::Kind;
 use filter_state::{ActionLine, Edit, FilterLine};
 use std::alloc::{AllocError, Global};
 use tc_base::{Hook, NoMemory, Proto};
+use tc_batch::kind_name;
 
 /// Puts the words of a line behind one, that puts the hooks on the device or takes them off (tc-clsact(8)).
 ///

@@ -30,7 +30,6 @@ mod options;
 mod texts;
 
 pub use actions::push_action;
-pub use controls::kind_name;
 pub use edit::{print_edit, push_qdisc, push_shared};
 pub use fields::push_fields;
 pub use laws::printed_lines_give_their_edits;

@@ -4,7 +4,7 @@ use Rattle.std.specs.Fmt.{decimal}
 use Rattle.line_texts.specs.Texts.{handle_text, protocol_text}
 use Rattle.filter_state.specs.declared.refusal.Refusal.{Refusal}
 use Rattle.filter_state.specs.declared.refusal.Refusal.TheVariants as refusals
-use Rattle.tc_print.specs.ActionWords.{kind_text}
+use Rattle.tc_batch.specs.KindNames.{kind_text}
 use Rattle.tc_report.specs.Show.{text_line}
 
 -- a refusal's name, as it stands in the type

@@ -9,7 +9,8 @@ use Rattle.filter_state.specs.declared.edit.FilterLine.{FilterLine}
 use Rattle.filter_state.specs.States.{Row, Action, State}
 use Rattle.filter_state.specs.Actions.{has_serial}
 use Rattle.filter_state.specs.Tables.{first_where}
-use Rattle.tc_print.specs.ActionWords.{kind_text, action_words}
+use Rattle.tc_batch.specs.KindNames.{kind_text}
+use Rattle.tc_print.specs.ActionWords.{action_words}
 use Rattle.tc_print.specs.EditWords.{qdisc_words, filter_words}
 use Rattle.row_order_laws.specs.Sorted.{sorted}
 use Rattle.row_order_laws.specs.Rows.{row_before}

@@ -11,7 +11,7 @@ use filter_state::Refusal;
 use line_texts::{push_handle, push_number, push_protocol};
 use std::alloc::AllocError;
 use tc_base::{NoMemory, Proto};
-use tc_print::kind_name;
+use tc_batch::kind_name;
 
 fn push_spaced(out: &mut Vec<u8>, word: &str) -> Result<(), AllocError>
     ensures { OnOk result (out.new.items ≡ out.old.items ++ (32 ∷ word.now)) }
