@@ -27,7 +27,7 @@ use Rattle.lawful_runs.specs.Points.{seen_by}
 use Rattle.lawful_runs.specs.Outcomes.{IsRecordOf, IsWalked}
 use Rattle.lawful_runs.specs.Events.{GoesOn, IsLineOf, IsResult, events_of}
 use Rattle.lawful_runs.specs.Lawful.{outcomes_in}
-use Rattle.lawful_runs.proofs.Places.{each_at}
+use Rattle.filter_state.proofs.Places.{each_at}
 use Rattle.lawful_runs.proofs.Walks.{walk_over, point_within}
 use Rattle.line_cuts.specs.Numbers.{AreShort}
 use Rattle.report_stands.specs.Begun.{IsBegun, AreBegun}
