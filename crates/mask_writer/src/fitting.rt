@@ -8,7 +8,8 @@ use store_history::{EditName, Law};
 use tc_base::Point;
 
 impl MaskWriter {
-    ghost use Rattle.block_codec.specs.declared.places.TheConstants.{BLOCK_WORDS, MASK_SLOTS, POOL_BLOCKS, ROOTS};
+    ghost use Rattle.block_codec.specs.declared.places.TheConstants.{BLOCK_WORDS, MASK_SLOTS};
+    ghost use Rattle.block_codec.specs.declared.places.TheConstants.{POOL_BLOCKS, ROOTS};
     ghost use Rattle.std.specs.Prelude.{◌≡◌, ◌≢◌, ◌<◌, ◌≤◌, ◌+◌, ◌*◌, ◌++◌, ◌∷◌, ℕ, List, length, take};
     ghost use Rattle.std.specs.Prelude.{slice_index, slice_set, Some, IsTrue};
     ghost use Rattle.store_history.specs.History.{root_of};
@@ -22,7 +23,8 @@ impl MaskWriter {
     ghost use Rattle.mask_mirror.specs.Given.{AreGiven};
     ghost use Rattle.mask_mirror.specs.Linked.{placed, resized, raise_commits};
     ghost use Rattle.mask_mirror.specs.Forgetting.{bucket_blocks};
-    ghost use Rattle.mask_writer.specs.Standing.{masks_of, order_at, StandsAt, Holds, OthersStay, AreNamed, AreFree};
+    ghost use Rattle.mask_writer.specs.Standing.{masks_of, order_at, StandsAt, Holds};
+    ghost use Rattle.mask_writer.specs.Standing.{OthersStay, AreNamed, AreFree};
 
     /// Gives the mask at a slot another number of buckets, in the given rows: fills the first given blocks
     /// with its filters, in order, and the one behind them with the new record, and makes the commits that

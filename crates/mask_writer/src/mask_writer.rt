@@ -42,7 +42,8 @@ impl Model for MaskWriter {
 }
 
 impl MaskWriter {
-    ghost use Rattle.block_codec.specs.declared.places.TheConstants.{BLOCK_WORDS, MASK_SLOTS, POOL_BLOCKS, ROOTS};
+    ghost use Rattle.block_codec.specs.declared.places.TheConstants.{BLOCK_WORDS, MASK_SLOTS};
+    ghost use Rattle.block_codec.specs.declared.places.TheConstants.{POOL_BLOCKS, ROOTS};
     ghost use Rattle.std.specs.Prelude.{◌≢◌, ◌<◌, ◌+◌, ◌++◌, ◌∷◌, List, [], length, slice_index, slice_set};
     ghost use Rattle.store_history.specs.declared.history.Named.{Named};
     ghost use Rattle.store_history.specs.History.{root_of};
@@ -55,7 +56,8 @@ impl MaskWriter {
     ghost use Rattle.mask_mirror.specs.Changing.{root_for, insert_at};
     ghost use Rattle.mask_mirror.specs.Forgetting.{bucket_blocks};
     ghost use Rattle.mask_writer.specs.Telling.{joined};
-    ghost use Rattle.mask_writer.specs.Standing.{masks_of, order_at, StandsAt, IsEmptyAt, Holds, OthersStay, AreNamed};
+    ghost use Rattle.mask_writer.specs.Standing.{masks_of, order_at, StandsAt, IsEmptyAt, Holds};
+    ghost use Rattle.mask_writer.specs.Standing.{OthersStay, AreNamed};
 
     /// Takes the room for the masks of a store of this shape. No mask stands. No other call takes memory.
     pub fn with_room(alloc: Global, _shape: Shape) -> Result<MaskWriter, NoMemory>

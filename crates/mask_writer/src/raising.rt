@@ -1,6 +1,7 @@
 //! Masks that come to stand.
 ghost use Rattle.block_codec.specs.declared.places.TheConstants.{BLOCK_WORDS, MASK_SLOTS, POOL_BLOCKS, ROOTS};
-ghost use Rattle.std.specs.Prelude.{◌≡◌, ◌≢◌, ℕ, ◌+◌, ◌<◌, ◌≤◌, ◌++◌, ◌∷◌, List, [], length, take, slice_index, slice_set, Some, All};
+ghost use Rattle.std.specs.Prelude.{◌≡◌, ◌≢◌, ℕ, ◌+◌, ◌<◌, ◌≤◌, ◌++◌, ◌∷◌, List, [], length, take};
+ghost use Rattle.std.specs.Prelude.{slice_index, slice_set, Some, All};
 ghost use Rattle.store_history.specs.History.{root_of};
 ghost use Rattle.pin_store.specs.Layout.{block_words};
 ghost use Rattle.pin_store.specs.Sheets.{base_of, IsSameButCells};
@@ -12,7 +13,8 @@ ghost use Rattle.mask_table.specs.Buckets.{IsAmong};
 ghost use Rattle.mask_mirror.specs.Given.{AreGiven};
 ghost use Rattle.mask_mirror.specs.Linked.{placed, raise_commits};
 ghost use Rattle.mask_writer.specs.Telling.{begun};
-ghost use Rattle.mask_writer.specs.Standing.{masks_of, order_at, IsEmptyAt, Holds, OthersStay, AreNamed, AreFree};
+ghost use Rattle.mask_writer.specs.Standing.{masks_of, order_at, IsEmptyAt, Holds};
+ghost use Rattle.mask_writer.specs.Standing.{OthersStay, AreNamed, AreFree};
 
 use crate::blocks::Blocks;
 use crate::mask_writer::MaskWriter;

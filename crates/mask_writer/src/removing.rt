@@ -11,7 +11,8 @@ use store_history::{EditName, Law};
 use tc_base::Point;
 
 impl MaskWriter {
-    ghost use Rattle.block_codec.specs.declared.places.TheConstants.{BLOCK_WORDS, MASK_SLOTS, POOL_BLOCKS, ROOTS};
+    ghost use Rattle.block_codec.specs.declared.places.TheConstants.{BLOCK_WORDS, MASK_SLOTS};
+    ghost use Rattle.block_codec.specs.declared.places.TheConstants.{POOL_BLOCKS, ROOTS};
     ghost use Rattle.std.specs.Prelude.{◌≡◌, ◌≢◌, ℕ, ◌+◌, ◌<◌, ◌≤◌, ◌++◌, ◌∷◌, [], List, length, map, take};
     ghost use Rattle.store_history.specs.declared.history.Link.{Link};
     ghost use Rattle.store_history.specs.declared.history.Named.{Named};
@@ -177,8 +178,8 @@ impl MaskWriter {
             × (seen_by writer.new.place ≡ seen_by writer.old.place
             ++ replace_at (seen_by writer.old.place)
             (root_for kept.mask filter.now) given.now.blocks front filter.now edit E.edit ∷ [])
-            × (self.new.left_blocks ≡ map (λ (l : Link). l.block)
-            (take (length front + 1) (root_of (seen_by writer.old.place) (root_for kept.mask filter.now)).chain)) }
+            × (self.new.left_blocks ≡ map (λ (l : Link). l.block) (take (length front + 1)
+            (root_of (seen_by writer.old.place) (root_for kept.mask filter.now)).chain)) }
         ensures sheet { IsSameButCells (sheet_of writer.old.place) (sheet_of writer.new.place) }
         ensures others { (other : ℕ) → (IsAmong other given.now.blocks → ⊥) → other < store.now.shape.blocks
             → block_words store.now.shape (sheet_of writer.new.place).cells other
