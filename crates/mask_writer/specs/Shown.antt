@@ -1,4 +1,5 @@
--- How the masks are seen that a writer keeps in its arrays, and what always holds of these (this project's own).
+-- How the masks are seen that a writer keeps in its arrays, and what always holds of these (this project's
+-- own).
 use Rattle.block_codec.specs.declared.places.TheConstants.{MASK_SLOTS}
 use Rattle.std.specs.Prelude.{◌≡◌, ℕ, zero, suc, List, [], ◌∷◌, length, map, slice_index, slice_index_or, Option, Some, None}
 use Rattle.std.specs.List.{range_with_len}
@@ -23,7 +24,8 @@ abbrev pub followed : Mirror → ℕ → ℕ → List Placed
 followed mirror zero number = []
 followed mirror (suc many) zero = []
 followed mirror (suc many) (suc b) =
-    with_block b (slice_index_or mirror.filters.items b None) (followed mirror many (slice_index mirror.next.items b))
+    with_block b (slice_index_or mirror.filters.items b None)
+    (followed mirror many (slice_index mirror.next.items b))
 
 -- the chain of a bucket of a mask
 abbrev pub chain_of : Mirror → StoredMask → ℕ → List Placed
@@ -43,7 +45,8 @@ standing_of mirror (Some kept) order = Some (record {
 abbrev pub all_standing : Mirror → List (Option KeptMask) → List (Option Order) → List (Option Standing)
 all_standing mirror [] orders = []
 all_standing mirror (slot ∷ slots) [] = standing_of mirror slot None ∷ all_standing mirror slots []
-all_standing mirror (slot ∷ slots) (order ∷ orders) = standing_of mirror slot order ∷ all_standing mirror slots orders
+all_standing mirror (slot ∷ slots) (order ∷ orders) =
+    standing_of mirror slot order ∷ all_standing mirror slots orders
 
 -- THE ARRAYS ARE WHAT SOME ROOTS NAME, and each order that is told is that of the ages
 pub record IsTold (mirror : Mirror) (orders : List (Option Order)) : Type 0 where

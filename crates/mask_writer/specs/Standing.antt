@@ -1,4 +1,5 @@
--- What stands at a writer of masks: the words in which its calls speak of what it is seen as (this project's own).
+-- What stands at a writer of masks: the words in which its calls speak of what it is seen as (this project's
+-- own).
 use Rattle.block_codec.specs.declared.places.TheConstants.{MASK_SLOTS, POOL_BLOCKS, ROWS}
 use Rattle.std.specs.Prelude.{◌≡◌, ◌≢◌, ℕ, ◌<◌, ◌≤◌, List, [], ◌∷◌, length, map, slice_index_or, Option, Some, None, All, eqb}
 use Rattle.std.specs.List.{IsDistinct}
@@ -68,7 +69,8 @@ pub record Holds (writer : Masks) (slot last : ℕ) (fs : List StoredFilter) : T
 
 -- ---- what the roots name
 -- a block of the pool has a filter, which belongs into that bucket of so many, and is linked to another
-pub record IsFiled (shape : Shape) (cells : List ℕ) (size bucket : ℕ) (p : Placed) (link : Option ℕ) : Type 0 where
+pub record IsFiled (shape : Shape) (cells : List ℕ) (size bucket : ℕ) (p : Placed) (link : Option ℕ)
+    : Type 0 where
   pub pool : p.block < POOL_BLOCKS
   pub hashed : bucket_for size p.filter.key.words ≡ bucket
   pub there : IsFilterBlock (block_words shape cells p.block) (p.filter, link)
@@ -93,8 +95,8 @@ pub record BucketOf (writer : Masks) (root : ℕ) : Type 0 where
   pub same : root ≡ bucket_root kept.mask bucket
 
 -- the root of a bucket names the blocks of a chain, which have its filters
-pub record NamesChain (shape : Shape) (cells : List ℕ) (roots : ℕ → Named) (root size bucket : ℕ) (ps : List Placed)
-    : Type 0 where
+pub record NamesChain (shape : Shape) (cells : List ℕ) (roots : ℕ → Named) (root size bucket : ℕ)
+    (ps : List Placed) : Type 0 where
   pub named : (roots root).chain ≡ links_of shape cells (map (λ p. p.block) ps)
   pub filed : AreFiled shape cells size bucket ps
 
@@ -104,7 +106,8 @@ pub record AreNamed (writer : Masks) (shape : Shape) (cells : List ℕ) (roots :
   pub slots : length writer.at ≡ MASK_SLOTS
   pub masks : (slot : ℕ) (kept : KeptMask) → StandsAt writer slot kept → KeepsMask shape cells roots slot kept
   pub buckets : (root : ℕ) (at : BucketOf writer root)
-      → NamesChain shape cells roots (bucket_root at.kept.mask at.bucket) at.kept.mask.size at.bucket (chain_at writer at.slot at.bucket)
+      → NamesChain shape cells roots (bucket_root at.kept.mask at.bucket) at.kept.mask.size at.bucket
+      (chain_at writer at.slot at.bucket)
   pub apart : (root : ℕ) (one two : BucketOf writer root) → (one.slot ≡ two.slot) × (one.bucket ≡ two.bucket)
   pub once : (root other b : ℕ) → BucketOf writer root → BucketOf writer other
       → Names roots root b → Names roots other b → root ≡ other

@@ -23,7 +23,8 @@ lacks handle [] = true
 lacks handle (f ∷ fs) = not (f.handle == handle) && lacks handle fs
 
 -- others stand in the place of the filter with a handle, where it meets the test and no other has the handle
-abbrev pub rewritten : (StoredFilter → Bool) → ℕ → List StoredFilter → List StoredFilter → Option (List StoredFilter)
+abbrev pub rewritten : (StoredFilter → Bool) → ℕ → List StoredFilter → List StoredFilter
+    → Option (List StoredFilter)
 rewritten meets handle more [] = None
 rewritten meets handle more (f ∷ fs) =
     if f.handle == handle
@@ -42,5 +43,6 @@ without (Some o) filters handle = with_filters o.newest (rewritten (λ f. true) 
 -- a filter takes the place of the one with its handle and key
 abbrev pub exchanged : Option Order → List StoredFilter → ℕ → Option Order
 exchanged (Some o) (filter ∷ none) number =
-    with_filters o.newest (rewritten (λ f. bytes_eq f.key.words filter.key.words) filter.handle (filter ∷ []) o.filters)
+    with_filters o.newest
+    (rewritten (λ f. bytes_eq f.key.words filter.key.words) filter.handle (filter ∷ []) o.filters)
 exchanged before filters number = None

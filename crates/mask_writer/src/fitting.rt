@@ -23,7 +23,8 @@ impl MaskWriter {
     ghost use Rattle.mask_mirror.specs.Given.{AreGiven};
     ghost use Rattle.mask_mirror.specs.Linked.{placed, resized, raise_commits};
     ghost use Rattle.mask_mirror.specs.Forgetting.{bucket_blocks};
-    ghost use Rattle.mask_writer.specs.Standing.{masks_of, order_at, StandsAt, Holds, OthersStay, AreNamed, AreFree};
+    ghost use Rattle.mask_writer.specs.Standing.{masks_of, order_at, StandsAt, Holds};
+    ghost use Rattle.mask_writer.specs.Standing.{OthersStay, AreNamed, AreFree};
 
     /// Gives the mask at a slot another number of buckets, in the given rows: fills the first given blocks
     /// with its filters, in order, and the one behind them with the new record, and makes the commits that

@@ -12,16 +12,16 @@
 //!
 //! # What is said of a writer
 //!
-//! Clauses see a `MaskWriter` as the masks that stand (`specs/Masks.antt`): by slot the mask, the block of its
-//! record, by bucket the chain of its filters with their blocks, the latest first, and the order of all its
-//! filters, where it is told; beside these the blocks and the rows that the last changing call took out of
-//! masks. The arrays, the ages and the numbers of next blocks stand in the model's invariant alone: the chains
-//! are read off the arrays, and each order that is told is that of the ages.
+//! Clauses see a `MaskWriter` as the masks that stand (`specs/Masks.antt`): by slot the mask, the block of
+//! its record, by bucket the chain of its filters with their blocks, the latest first, and the order of all
+//! its filters, where it is told; beside these the blocks and the rows that the last changing call took out
+//! of masks. The arrays, the ages and the numbers of next blocks stand in the model's invariant alone: the
+//! chains are read off the arrays, and each order that is told is that of the ages.
 //!
-//! The order of the filters is nowhere in the arrays but by the ages. It is kept as a value that clauses alone
-//! read, which takes no memory (`told.rt`). Each call tells what becomes of it, and the invariant asks that the
-//! ages agree. It is told as long as edits of one mask come in rising numbers and a handle that is taken out or
-//! exchanged is that of one filter, with its key.
+//! The order of the filters is nowhere in the arrays but by the ages. It is kept as a value that clauses
+//! alone read, which takes no memory (`told.rt`). Each call tells what becomes of it, and the invariant asks
+//! that the ages agree. It is told as long as edits of one mask come in rising numbers, and a handle that is
+//! taken out or exchanged is that of one filter, with its key.
 //!
 //! The words of the clauses are of what is seen (`specs/Standing.antt`): `StandsAt`, which mask stands at a
 //! slot; `Holds`, which filters it has, in which order; `AreNamed`, that the roots name all that after all

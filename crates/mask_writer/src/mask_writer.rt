@@ -56,7 +56,8 @@ impl MaskWriter {
     ghost use Rattle.mask_mirror.specs.Changing.{root_for, insert_at};
     ghost use Rattle.mask_mirror.specs.Forgetting.{bucket_blocks};
     ghost use Rattle.mask_writer.specs.Telling.{joined};
-    ghost use Rattle.mask_writer.specs.Standing.{masks_of, order_at, StandsAt, IsEmptyAt, Holds, OthersStay, AreNamed};
+    ghost use Rattle.mask_writer.specs.Standing.{masks_of, order_at, StandsAt, IsEmptyAt, Holds};
+    ghost use Rattle.mask_writer.specs.Standing.{OthersStay, AreNamed};
 
     /// Takes the room for the masks of a store of this shape. No mask stands. No other call takes memory.
     pub fn with_room(alloc: Global, _shape: Shape) -> Result<MaskWriter, NoMemory>

@@ -13,7 +13,8 @@ ghost use Rattle.mask_table.specs.Buckets.{IsAmong};
 ghost use Rattle.mask_mirror.specs.Given.{AreGiven};
 ghost use Rattle.mask_mirror.specs.Linked.{placed, raise_commits};
 ghost use Rattle.mask_writer.specs.Telling.{begun};
-ghost use Rattle.mask_writer.specs.Standing.{masks_of, order_at, IsEmptyAt, Holds, OthersStay, AreNamed, AreFree};
+ghost use Rattle.mask_writer.specs.Standing.{masks_of, order_at, IsEmptyAt, Holds};
+ghost use Rattle.mask_writer.specs.Standing.{OthersStay, AreNamed, AreFree};
 
 use crate::blocks::Blocks;
 use crate::mask_writer::MaskWriter;

@@ -176,8 +176,8 @@ impl MaskWriter {
             × (seen_by writer.new.place ≡ seen_by writer.old.place
             ++ replace_at (seen_by writer.old.place)
             (root_for kept.mask filter.now) given.now.blocks front filter.now edit E.edit ∷ [])
-            × (self.new.left_blocks ≡ map (λ (l : Link). l.block)
-            (take (length front + 1) (root_of (seen_by writer.old.place) (root_for kept.mask filter.now)).chain)) }
+            × (self.new.left_blocks ≡ map (λ (l : Link). l.block) (take (length front + 1)
+            (root_of (seen_by writer.old.place) (root_for kept.mask filter.now)).chain)) }
         ensures sheet { IsSameButCells (sheet_of writer.old.place) (sheet_of writer.new.place) }
         ensures others { (other : ℕ) → (IsAmong other given.now.blocks → ⊥) → other < store.now.shape.blocks
             → block_words store.now.shape (sheet_of writer.new.place).cells other
