@@ -14,11 +14,17 @@ use Rattle.act_kinds.specs.declared.params.Params.TheVariants as params
 -- tc-skbedit(8): each of the three is set where it is given
 abbrev pub with_marks : Option ℕ → Option ℕ → Option ℕ → Meta → Meta
 with_marks priority mark queue meta =
-    record { priority = unwrap_or priority meta.priority; mark = unwrap_or mark meta.mark; queue = unwrap_or queue meta.queue }
+    record {
+      priority = unwrap_or priority meta.priority;
+      mark = unwrap_or mark meta.mark;
+      queue = unwrap_or queue meta.queue;
+    }
 
--- tc-vlan(8): a pushed tag has the given id and priority, and is not drop eligible; a push that finds no room changes nothing
+-- tc-vlan(8): a pushed tag has the given id and priority, and is not drop eligible; a push that finds no room
+-- changes nothing
 abbrev pub retagged_by : VlanOp → EditedFrame → EditedFrame
-retagged_by (ops.Push tpid id priority) frame = if lacks_room frame then frame else with_bytes frame (pushed frame.bytes tpid (control_of priority 0 id))
+retagged_by (ops.Push tpid id priority) frame = if lacks_room frame then frame
+    else with_bytes frame (pushed frame.bytes tpid (control_of priority 0 id))
 retagged_by ops.Pop frame = with_bytes frame (popped frame.bytes)
 retagged_by (ops.Modify tpid id priority) frame = with_bytes frame (modified frame.bytes id priority tpid)
 
@@ -26,7 +32,10 @@ retagged_by (ops.Modify tpid id priority) frame = with_bytes frame (modified fra
 abbrev pub acted_on : Params → EditedFrame → EditedFrame
 acted_on (params.Gact control) frame = frame
 acted_on (params.Vlan op control) frame = retagged_by op frame
-acted_on (params.Skbedit priority mark queue control) frame = record frame { meta = with_marks priority mark queue frame.meta }
+acted_on (params.Skbedit priority mark queue control) frame = record frame {
+  meta = with_marks priority mark
+      queue frame.meta;
+}
 
 -- a push that finds no room gives `drop`, whatever its control is: this project's own
 abbrev pub control_by : VlanOp → Control → EditedFrame → Control

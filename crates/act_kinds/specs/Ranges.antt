@@ -1,5 +1,5 @@
--- Which parameters a batch line can give. The greatest chain and jump are those of the kernel's TC_ACT_EXT_VAL_MASK
--- (include/uapi/linux/pkt_cls.h).
+-- Which parameters a batch line can give. The greatest chain and jump are those of the kernel's
+-- TC_ACT_EXT_VAL_MASK (include/uapi/linux/pkt_cls.h).
 use Rattle.std.specs.Prelude.{◌≡◌, ℕ, ◌<◌, ◌≤◌, ◌^◌, ◌⊎◌, Option, IfSome, IsSome}
 use Rattle.act_kinds.specs.declared.params.Control.{Control}
 use Rattle.act_kinds.specs.declared.params.Control.TheVariants as controls

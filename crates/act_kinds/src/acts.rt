@@ -1,7 +1,8 @@
 //! What actions do to frames.
 ghost use Rattle.std.specs.Prelude.{◌≡◌, ◌<◌};
 ghost use Rattle.frame_edit.specs.Tags.{control_of};
-ghost use Rattle.act_kinds.specs.Acts.{with_marks, retagged_by, acted_on, control_by, control_given, FitsTag, FitsFrames};
+ghost use Rattle.act_kinds.specs.Acts.{with_marks, retagged_by, acted_on, control_by, control_given, FitsTag};
+ghost use Rattle.act_kinds.specs.Acts.{FitsFrames};
 
 use crate::params::{Control, Params, VlanOp};
 use frame_edit::{Frame, Meta};
@@ -49,10 +50,12 @@ fn retag(op: VlanOp, control: Control, frame: &mut Frame) -> Control
     }
 }
 
-/// Does to a frame what an action does (tc-actions(8), tc-vlan(8), tc-skbedit(8)), and answers the control that it gives.
+/// Does to a frame what an action does (tc-actions(8), tc-vlan(8), tc-skbedit(8)), and answers the control
+/// that it gives.
 ///
-/// Asks that a VLAN id is below 4,096 and a VLAN priority below 8. A push that finds no room changes nothing and gives `drop`;
-/// one on a frame below 14 bytes, and a pop or a modify on an untagged one, change nothing and give the action's control.
+/// Asks that a VLAN id is below 4,096 and a VLAN priority below 8. A push that finds no room changes nothing
+/// and gives `drop`; one on a frame below 14 bytes, and a pop or a modify on an untagged one, change nothing
+/// and give the action's control.
 pub fn act(params: &Params, frame: &mut Frame) -> Control
     requires { FitsFrames params.now }
     ensures frame { frame.new ≡ acted_on params.now frame.old }

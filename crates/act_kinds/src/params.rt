@@ -13,8 +13,8 @@ pub enum Kind {
     Skbedit,
 }
 
-/// How a list of actions goes on after an action (tc-actions(8), CONTROL; jump and goto chain are those of the kernel's
-/// include/uapi/linux/pkt_cls.h).
+/// How a list of actions goes on after an action (tc-actions(8), CONTROL; jump and goto chain are those of
+/// the kernel's include/uapi/linux/pkt_cls.h).
 #[derive(Clone, Copy, Debug, PartialEq, Eq)]
 pub enum Control {
     /// `ok`: the packet passes.
@@ -33,8 +33,8 @@ pub enum Control {
     Goto(u32),
 }
 
-/// What is done to the outermost VLAN tag (IEEE 802.1Q, clause 9.6). An `id` has 12 bits and a `priority` 3; a `tpid` is the
-/// EtherType of the tag.
+/// What is done to the outermost VLAN tag (IEEE 802.1Q, clause 9.6). An `id` has 12 bits and a `priority` 3;
+/// a `tpid` is the EtherType of the tag.
 #[derive(Clone, Copy, Debug, PartialEq, Eq)]
 pub enum VlanOp {
     Push {

@@ -1,5 +1,5 @@
--- A run of a list of actions: where it stands, and how each control moves it (tc-actions(8), CONTROL; for jumps,
--- tcf_action_exec of the kernel's net/sched/act_api.c).
+-- A run of a list of actions: where it stands, and how each control moves it (tc-actions(8), CONTROL; for
+-- jumps, tcf_action_exec of the kernel's net/sched/act_api.c).
 use Rattle.std.specs.Prelude.{◌<◌, ◌≤◌, ℕ, ◌+◌, ◌-◌, Bool, true, false, ◌==◌, ◌||◌, nat_le, if◌then◌else◌}
 use Rattle.act_kinds.specs.declared.params.Control.{Control}
 use Rattle.act_kinds.specs.declared.params.Control.TheVariants as controls
@@ -20,8 +20,8 @@ pub record Run : Type 0 where
   pub jumps : ℕ
   pub ended : Bool
 
--- where a run of a list of that length begins: at the first action, with one jump fewer left than TCA_ACT_MAX_PRIO of the
--- kernel's include/uapi/linux/pkt_cls.h
+-- where a run of a list of that length begins: at the first action, with one jump fewer left than
+-- TCA_ACT_MAX_PRIO of the kernel's include/uapi/linux/pkt_cls.h
 abbrev pub begun : ℕ → Run
 begun length = record { length = length; at = 0; jumps = 31; ended = false }
 

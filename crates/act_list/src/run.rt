@@ -5,7 +5,8 @@ use std::marker::Model;
 // How many jumps are followed in one run (TCA_ACT_MAX_PRIO - 1 of the kernel's include/uapi/linux/pkt_cls.h).
 const JUMPS_MAX: u32 = 31;
 
-/// How a list of actions ends: the control that ended it, as tc-actions(8) names it. `Pipe` is the end behind the last action.
+/// How a list of actions ends: the control that ended it, as tc-actions(8) names it. `Pipe` is the end behind
+/// the last action.
 #[derive(Clone, Copy, Debug, PartialEq, Eq)]
 pub enum Ending {
     Accept,

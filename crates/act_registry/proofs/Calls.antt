@@ -1,4 +1,5 @@
--- What the calls of a registry make of its entries, where the entry that they name stands at a place that was found.
+-- What the calls of a registry make of its entries, where the entry that they name stands at a place that was
+-- found.
 use Rattle.std.proofs.Common.{◌≡◌, ℕ, ◌-◌, ◌<◌, ◌≤◌, Bool, true, false, List, length, get_or, set, Option, Some, None, refl, sym, ap, ◌∙◌, subst, arith}
 use Rattle.std.specs.Prelude.{find, filter, nat_lt, option_map, unwrap_or, IfSome, IsSomeAnd}
 use Rattle.std.specs.List.{All, remove}

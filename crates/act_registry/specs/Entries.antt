@@ -1,7 +1,9 @@
--- The live actions as a list, and what the calls make of it. The counts and their rules are those of the kernel's
--- net/sched/act_api.c, whose functions are named. Serials, and what names nothing, are this project's own.
+-- The live actions as a list, and what the calls make of it. The counts and their rules are those of the
+-- kernel's net/sched/act_api.c, whose functions are named. Serials, and what names nothing, are this
+-- project's own.
 use Rattle.act_registry.specs.declared.limits.TheConstants.{ACTIONS_MAX, MADE_MAX}
-use Rattle.std.specs.Prelude.{◌≡◌, ℕ, ◌+◌, ◌-◌, ◌<◌, ◌≤◌, Bool, true, false, not, ◌==◌, ◌&&◌, nat_lt, List, length, map, filter, find, Option, unwrap_or, if◌then◌else◌}
+use Rattle.std.specs.Prelude.{◌≡◌, ℕ, ◌+◌, ◌-◌, ◌<◌, ◌≤◌, Bool, true, false, not, ◌==◌, ◌&&◌, nat_lt, List}
+use Rattle.std.specs.Prelude.{length, map, filter, find, Option, unwrap_or, if◌then◌else◌}
 use Rattle.std.specs.List.{All, AllPairs, list_any, range_with_len}
 use Rattle.act_registry.specs.declared.entry.Entry.{Entry}
 
@@ -31,7 +33,8 @@ new_entry serial index params bound =
     record { serial = serial; index = index; params = params; references = 1; binds = if bound then 1 else 0 }
 
 -- the entries, with those changed that pass the test
-abbrev pub change_where : {P : Type 0} → (Entry P → Bool) → (Entry P → Entry P) → List (Entry P) → List (Entry P)
+abbrev pub change_where : {P : Type 0} → (Entry P → Bool) → (Entry P → Entry P) → List (Entry P)
+    → List (Entry P)
 change_where test change es = map (λ e. if test e then change e else e) es
 
 -- the entries that don't pass the test
@@ -50,14 +53,15 @@ unbound serial es = still_held (change_where (has_serial serial) bound_less es)
 abbrev pub is_used : {P : Type 0} → (P → ℕ) → ℕ → List (Entry P) → ℕ → Bool
 is_used kind_of kind es index = list_any (is_named kind_of kind index) es
 
--- the lowest index from 1 that the kind doesn't use: one of the numbers up to how many entries there are, or the next
--- (idr_alloc_u32 from 1, in tcf_idr_check_alloc)
+-- the lowest index from 1 that the kind doesn't use: one of the numbers up to how many entries there are, or
+-- the next (idr_alloc_u32 from 1, in tcf_idr_check_alloc)
 abbrev pub lowest_unused : {P : Type 0} → (P → ℕ) → ℕ → List (Entry P) → ℕ
 lowest_unused kind_of kind es =
     unwrap_or (find (λ index. not (is_used kind_of kind es index)) (range_with_len 1 (length es + 1))) 0
 
 -- the same as a relation: from 1 on, unused, and all below are used
-pub record IsLowestUnused {P : Type 0} (kind_of : P → ℕ) (kind : ℕ) (es : List (Entry P)) (index : ℕ) : Type 0 where
+pub record IsLowestUnused {P : Type 0} (kind_of : P → ℕ) (kind : ℕ) (es : List (Entry P))
+    (index : ℕ) : Type 0 where
   pub from_one : 1 ≤ index
   pub unused : is_used kind_of kind es index ≡ false
   pub lower : (below : ℕ) → 1 ≤ below → below < index → is_used kind_of kind es below ≡ true

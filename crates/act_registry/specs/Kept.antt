@@ -1,9 +1,12 @@
 -- What contracts see of a registry, and why its calls are refused (this project's own).
 use Rattle.act_registry.specs.declared.limits.TheConstants.{ACTIONS_MAX, MADE_MAX}
-use Rattle.std.specs.Prelude.{◌≡◌, ℕ, Bool, false, nat_lt, nat_le, List, length, Option, Some, None, Result, Ok, Err, IfErr, if◌then◌else◌}
+use Rattle.std.specs.Prelude.{◌≡◌, ℕ, Bool, false, nat_lt, nat_le, List, length, Option, Some, None, Result}
+use Rattle.std.specs.Prelude.{Ok, Err, IfErr, if◌then◌else◌}
 use Rattle.act_registry.specs.declared.entry.Entry.{Entry}
 use Rattle.act_registry.specs.declared.fault.RegistryFault.{RegistryFault}
-use Rattle.act_registry.specs.declared.fault.RegistryFault.TheVariants.{NoSuchAction, ActionExists, ActionBound, ActionsFull, CountersFull, NoMemory}
+use Rattle.act_registry.specs.declared.fault.RegistryFault.TheVariants.{NoSuchAction, ActionExists}
+use Rattle.act_registry.specs.declared.fault.RegistryFault.TheVariants.{ActionBound, ActionsFull}
+use Rattle.act_registry.specs.declared.fault.RegistryFault.TheVariants.{CountersFull, NoMemory}
 use Rattle.act_registry.specs.Entries.{is_used}
 
 -- the live entries by rising serial, how many were made so far, and for how many more there is room

@@ -1,4 +1,5 @@
--- The names that the registry keeps sorted beside its entries (this project's own). No contract that callers see speaks of them.
+-- The names that the registry keeps sorted beside its entries (this project's own). No contract that callers
+-- see speaks of them.
 use Rattle.std.specs.Prelude.{◌≡◌, ℕ, ◌≤◌, Bool, true, false, ◌==◌, ◌&&◌, ◌||◌, nat_lt, List, length, map}
 use Rattle.std.specs.List.{AllPairs, count_by}
 use Rattle.std.specs.List.Sorted.{IsPartitionPoint}
@@ -24,7 +25,8 @@ ComesBefore a b = is_before b.kind b.index a ≡ true
 -- all names before that place, and none from it on, stand before the kind and index
 abbrev pub IsPlaceFor : ℕ → ℕ → List Name → ℕ → Type 0
 IsPlaceFor kind index ns at =
-    (at ≤ length ns) × IsPartitionPoint (λ n. is_before kind index n ≡ true) (λ n. is_before kind index n ≡ false) ns at
+    (at ≤ length ns)
+    × IsPartitionPoint (λ n. is_before kind index n ≡ true) (λ n. is_before kind index n ≡ false) ns at
 
 -- the name of an entry
 abbrev pub name_of : {P : Type 0} → (P → ℕ) → Entry P → Name

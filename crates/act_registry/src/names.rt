@@ -13,7 +13,8 @@ pub(crate) struct Name {
     pub(crate) serial: u32,
 }
 
-/// How many names come before that kind and index: the place of the name that has them, or the place where it is to stand.
+/// How many names come before that kind and index: the place of the name that has them, or the place where it
+/// is to stand.
 pub(crate) fn place_for(names: &[Name], kind: u32, index: u32) -> usize
     requires { AllPairs ComesBefore names.now }
     ensures { IsPlaceFor kind index names.now result }

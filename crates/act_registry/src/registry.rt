@@ -1,5 +1,7 @@
 //! The registry: its entries, and their names beside them.
-ghost use Rattle.std.specs.Prelude.{◌≡◌, ◌<◌, ◌≤◌, ◌+◌, ◌∷◌, [], ◌++◌, ℕ, List, length, find, option_map, Some, None, IfSome, IfOk, IfErr, OnOk, OnErr, IsSomeAnd, false, if◌then◌else◌};
+ghost use Rattle.std.specs.Prelude.{◌≡◌, ◌<◌, ◌≤◌, ◌+◌, ◌∷◌, [], ◌++◌, ℕ, List, length, find, option_map};
+ghost use Rattle.std.specs.Prelude.{Some, None, IfSome, IfOk, IfErr, OnOk, OnErr, IsSomeAnd, false};
+ghost use Rattle.std.specs.Prelude.{if◌then◌else◌};
 ghost use Rattle.std.specs.List.{remove};
 ghost use Rattle.std.specs.Option.{IfNone, option_copied, ok_or};
 ghost use Rattle.act_registry.specs.declared.fault.RegistryFault.{RegistryFault};
@@ -33,7 +35,8 @@ impl<P: Kinded> Model for Registry<P> {
     ghost view = { λ r. record {
       entries = r.entries.items;
       made = r.made;
-      spare = min (vec_capacity r.entries - length r.entries.items) (vec_capacity r.names - length r.names.items);
+      spare = min (vec_capacity r.entries - length r.entries.items)
+          (vec_capacity r.names - length r.names.items);
     } };
 
     ghost invariant = { λ r.
@@ -42,7 +45,9 @@ impl<P: Kinded> Model for Registry<P> {
 
 impl<P: Kinded> Registry<P> {
     ghost use Rattle.act_registry.specs.declared.limits.TheConstants.{ACTIONS_MAX, MADE_MAX};
-    ghost use Rattle.act_registry.specs.Entries.{is_named, has_serial, bound_more, with_params, change_where, leave_out, unbound, new_entry, is_used, lowest_unused, index_for, IsLowestUnused, AreLive};
+    ghost use Rattle.act_registry.specs.Entries.{is_named, has_serial, bound_more, with_params, change_where};
+    ghost use Rattle.act_registry.specs.Entries.{leave_out, unbound, new_entry, is_used, lowest_unused};
+    ghost use Rattle.act_registry.specs.Entries.{index_for, IsLowestUnused, AreLive};
     ghost use Rattle.act_registry.specs.Kept.{refusal_of, is_taken, make_refusal, Told, delete_refusal};
     ghost use Rattle.act_registry.specs.OnePlace.{OnlyAt, NoPlace};
 
@@ -58,7 +63,8 @@ impl<P: Kinded> Registry<P> {
         }
     }
 
-    /// Makes room for so many actions more, and changes nothing else. The lists keep the allocator that `new` was given.
+    /// Makes room for so many actions more, and changes nothing else. The lists keep the allocator that `new`
+    /// was given.
     ///
     /// `NoMemory`: there was less room, and memory was refused.
     pub fn reserve(&mut self, more: u32) -> Result<(), NoMemory>
@@ -77,9 +83,9 @@ impl<P: Kinded> Registry<P> {
         Ok(())
     }
 
-    /// Makes an action, and answers its serial and its index: the given one, or the lowest from 1 that the kind doesn't
-    /// use (`tcf_idr_check_alloc`, `tcf_idr_create`). A `bound` action is made by a place in a filter. Any other is held on
-    /// its own, until it is deleted.
+    /// Makes an action, and answers its serial and its index: the given one, or the lowest from 1 that the
+    /// kind doesn't use (`tcf_idr_check_alloc`, `tcf_idr_create`). A `bound` action is made by a place in a
+    /// filter. Any other is held on its own, until it is deleted.
     ///
     /// `ActionExists`: a live action has the kind and the given index. `ActionsFull`: 1,024 actions are live.
     /// `CountersFull`: 16,384 were made in this run. `NoMemory`: none of these, and no room was reserved.
@@ -89,13 +95,18 @@ impl<P: Kinded> Registry<P> {
         index: Option<u32>,
         bound: bool,
     ) -> Result<(u32, u32), RegistryFault>
-        ensures refusal { Told (make_refusal P.kind_of (P.kind_of params) index self.old) self.old.spare result }
-        ensures named { IfOk result (λ named. named ≡ (self.old.made + 1, index_for P.kind_of (P.kind_of params) self.old.entries index)) }
-        ensures lowest { IfOk result (λ named. IfNone index (IsLowestUnused P.kind_of (P.kind_of params) self.old.entries named.1)) }
-        ensures entries { IfOk result (λ named. self.new.entries ≡ self.old.entries ++ new_entry named.0 named.1 params bound ∷ []) }
+        ensures refusal { Told (make_refusal P.kind_of (P.kind_of params) index self.old) self.old.spare
+            result }
+        ensures named { IfOk result (λ named. named
+            ≡ (self.old.made + 1, index_for P.kind_of (P.kind_of params) self.old.entries index)) }
+        ensures lowest { IfOk result
+            (λ named. IfNone index (IsLowestUnused P.kind_of (P.kind_of params) self.old.entries named.1)) }
+        ensures entries { IfOk result (λ named. self.new.entries ≡ self.old.entries
+            ++ new_entry named.0 named.1 params bound ∷ []) }
         ensures made { OnOk result (self.new.made ≡ self.old.made + 1) }
         ensures spare { 0 < self.old.spare → OnOk result (self.new.spare + 1 ≡ self.old.spare) }
-        ensures stays { OnErr result ((self.new.entries ≡ self.old.entries) × (self.new.made ≡ self.old.made) × (self.old.spare ≤ self.new.spare)) }
+        ensures stays { OnErr result ((self.new.entries ≡ self.old.entries) × (self.new.made ≡ self.old.made)
+            × (self.old.spare ≤ self.new.spare)) }
     {
         let kind = params.kind();
         self.check_make(kind, index)?;
@@ -108,9 +119,13 @@ impl<P: Kinded> Registry<P> {
     ///
     /// `NoSuchAction`: no live action has that kind and index.
     pub fn bind(&mut self, kind: u32, index: u32) -> Result<u32, RegistryFault>
-        requires { IfSome (find (is_named P.kind_of kind index) self.old.entries) (λ e. e.references < 4294967295) }
-        ensures serial { result ≡ ok_or (option_map (λ e. e.serial) (find (is_named P.kind_of kind index) self.old.entries)) RegistryFault.NoSuchAction }
-        ensures entries { OnOk result (self.new.entries ≡ change_where (is_named P.kind_of kind index) bound_more self.old.entries) }
+        requires { IfSome (find (is_named P.kind_of kind index) self.old.entries)
+            (λ e. e.references < 4294967295) }
+        ensures serial { result
+            ≡ ok_or (option_map (λ e. e.serial) (find (is_named P.kind_of kind index) self.old.entries))
+            RegistryFault.NoSuchAction }
+        ensures entries { OnOk result (self.new.entries
+            ≡ change_where (is_named P.kind_of kind index) bound_more self.old.entries) }
         ensures made { self.new.made ≡ self.old.made }
         ensures spare { self.new.spare ≡ self.old.spare }
         ensures stays { OnErr result (self.new ≡ self.old) }
@@ -123,8 +138,8 @@ impl<P: Kinded> Registry<P> {
         Ok(entry.serial)
     }
 
-    /// One place fewer in a filter names the action with that serial, and where no one holds it then, it is gone
-    /// (`__tcf_action_put`).
+    /// One place fewer in a filter names the action with that serial, and where no one holds it then, it is
+    /// gone (`__tcf_action_put`).
     pub fn unbind(&mut self, serial: u32)
         requires { IsSomeAnd (find (has_serial serial) self.old.entries) (λ e. 0 < e.binds) }
         ensures entries { self.new.entries ≡ unbound serial self.old.entries }
@@ -141,12 +156,16 @@ impl<P: Kinded> Registry<P> {
         }
     }
 
-    /// Gives the action with that index and the parameters' kind these parameters. It keeps its serial, index and counts.
+    /// Gives the action with that index and the parameters' kind these parameters. It keeps its serial, index
+    /// and counts.
     ///
     /// `NoSuchAction`: no live action has the parameters' kind and that index.
     pub fn change(&mut self, index: u32, params: P) -> Result<(), RegistryFault>
-        ensures refusal { refusal_of result ≡ (if is_used P.kind_of (P.kind_of params) self.old.entries index then None else Some RegistryFault.NoSuchAction) }
-        ensures entries { OnOk result (self.new.entries ≡ change_where (is_named P.kind_of (P.kind_of params) index) (with_params params) self.old.entries) }
+        ensures refusal { refusal_of result ≡ (if is_used P.kind_of (P.kind_of params) self.old.entries index
+            then None else Some RegistryFault.NoSuchAction) }
+        ensures entries { OnOk result (self.new.entries
+            ≡ change_where (is_named P.kind_of (P.kind_of params) index)
+            (with_params params) self.old.entries) }
         ensures made { self.new.made ≡ self.old.made }
         ensures spare { self.new.spare ≡ self.old.spare }
         ensures stays { OnErr result (self.new ≡ self.old) }
@@ -162,8 +181,10 @@ impl<P: Kinded> Registry<P> {
     ///
     /// `NoSuchAction`: there is none. `ActionBound`: so many places in filters name it.
     pub fn delete(&mut self, kind: u32, index: u32) -> Result<(), RegistryFault>
-        ensures refusal { refusal_of result ≡ delete_refusal (find (is_named P.kind_of kind index) self.old.entries) }
-        ensures entries { OnOk result (self.new.entries ≡ leave_out (is_named P.kind_of kind index) self.old.entries) }
+        ensures refusal { refusal_of result
+            ≡ delete_refusal (find (is_named P.kind_of kind index) self.old.entries) }
+        ensures entries { OnOk result (self.new.entries
+            ≡ leave_out (is_named P.kind_of kind index) self.old.entries) }
         ensures made { self.new.made ≡ self.old.made }
         ensures spare { self.old.spare ≤ self.new.spare }
         ensures stays { OnErr result (self.new ≡ self.old) }
@@ -208,7 +229,8 @@ impl<P: Kinded> Registry<P> {
         self.made
     }
 
-    /// Whether `make` would make an action of that kind, with that index if one is given. Want of memory is not looked at.
+    /// Whether `make` would make an action of that kind, with that index if one is given. Want of memory is
+    /// not looked at.
     ///
     /// `ActionExists`: a live action has the kind and the given index. `ActionsFull`: 1,024 actions are live.
     /// `CountersFull`: 16,384 were made in this run.
@@ -290,7 +312,8 @@ impl<P: Kinded> Registry<P> {
         requires in_run { self.old.made < MADE_MAX }
         requires free { NoPlace (is_named P.kind_of (P.kind_of params) index) self.old.entries }
         ensures serial { result ≡ self.old.made + 1 }
-        ensures entries { self.new.entries ≡ self.old.entries ++ new_entry (self.old.made + 1) index params bound ∷ [] }
+        ensures entries { self.new.entries ≡ self.old.entries
+            ++ new_entry (self.old.made + 1) index params bound ∷ [] }
         ensures made { self.new.made ≡ self.old.made + 1 }
         ensures spare { self.new.spare + 1 ≡ self.old.spare }
     {

@@ -15,7 +15,8 @@ pub(crate) fn insert_within<T: Drop>(items: &mut Vec<T>, place: usize, item: T)
     }
 }
 
-/// Puts an element behind the others. std's `push` leaves open whether the capacity stays, and its `insert` does not.
+/// Puts an element behind the others. std's `push` leaves open whether the capacity stays, and its `insert`
+/// does not.
 pub(crate) fn push_within<T: Drop>(items: &mut Vec<T>, item: T)
     requires { length items.old.items < vec_capacity items.old }
     ensures items { items.new.items ≡ items.old.items ++ item ∷ [] }

@@ -7,4 +7,5 @@ use Rattle.act_registry.specs.Entries.{has_serial, unbound}
 -- each place names an action that is bound still when the places before it are gone
 abbrev pub AreBound : List ℕ → List (Entry Params) → Type 0
 AreBound [] es = Unit {0}
-AreBound (serial ∷ serials) es = IsSomeAnd (find (has_serial serial) es) (λ e. 0 < e.binds) × AreBound serials (unbound serial es)
+AreBound (serial ∷ serials) es = IsSomeAnd (find (has_serial serial) es) (λ e. 0 < e.binds)
+    × AreBound serials (unbound serial es)

@@ -19,7 +19,8 @@ pub(crate) fn carry_out(parts: &[PlannedAction], registry: &mut Registry<Params>
     requires room { made_by parts.now ≤ registry.old.spare }
     requires few { length registry.old.entries + made_by parts.now ≤ ACTIONS_MAX }
     requires in_run { registry.old.made + made_by parts.now ≤ MADE_MAX }
-    requires references { Each (λ (action : Action). action.references + length parts.now < 4294967295) (actions_of registry.old.entries) }
+    requires references { Each (λ (action : Action). action.references + length parts.now < 4294967295)
+        (actions_of registry.old.entries) }
     ensures actions { actions_of registry.new.entries ≡ (carried (made_of registry.old) parts.now).actions }
     ensures made { registry.new.made ≡ (carried (made_of registry.old) parts.now).made }
 {
@@ -33,8 +34,10 @@ fn carry_out_one(part: &PlannedAction, registry: &mut Registry<Params>)
     requires room { makes part.now ≤ registry.old.spare }
     requires few { length registry.old.entries + makes part.now ≤ ACTIONS_MAX }
     requires in_run { registry.old.made + makes part.now ≤ MADE_MAX }
-    requires references { Each (λ (action : Action). action.references < 4294967295) (actions_of registry.old.entries) }
-    ensures actions { actions_of registry.new.entries ≡ (carried_one (made_of registry.old) part.now).actions }
+    requires references { Each (λ (action : Action). action.references < 4294967295)
+        (actions_of registry.old.entries) }
+    ensures actions { actions_of registry.new.entries
+        ≡ (carried_one (made_of registry.old) part.now).actions }
     ensures made { registry.new.made ≡ (carried_one (made_of registry.old) part.now).made }
     ensures spare { registry.old.spare ≤ registry.new.spare + makes part.now }
 {
@@ -49,7 +52,8 @@ fn make(registry: &mut Registry<Params>, params: Params, index: u32)
     requires room { 0 < registry.old.spare }
     requires few { length registry.old.entries < ACTIONS_MAX }
     requires in_run { registry.old.made < MADE_MAX }
-    ensures actions { actions_of registry.new.entries ≡ (made_more (made_of registry.old) params index 1).actions }
+    ensures actions { actions_of registry.new.entries
+        ≡ (made_more (made_of registry.old) params index 1).actions }
     ensures made { registry.new.made ≡ registry.old.made + 1 }
     ensures spare { registry.new.spare + 1 ≡ registry.old.spare }
 {
@@ -61,8 +65,10 @@ fn make(registry: &mut Registry<Params>, params: Params, index: u32)
 
 fn bind(registry: &mut Registry<Params>, kind: Kind, index: u32)
     requires there { IsSome (serial_of kind index (actions_of registry.old.entries)) }
-    requires references { Each (λ (action : Action). action.references < 4294967295) (actions_of registry.old.entries) }
-    ensures actions { actions_of registry.new.entries ≡ change_where (is_named kind index) more_bound (actions_of registry.old.entries) }
+    requires references { Each (λ (action : Action). action.references < 4294967295)
+        (actions_of registry.old.entries) }
+    ensures actions { actions_of registry.new.entries
+        ≡ change_where (is_named kind index) more_bound (actions_of registry.old.entries) }
     ensures made { registry.new.made ≡ registry.old.made }
     ensures spare { registry.new.spare ≡ registry.old.spare }
 {

@@ -6,7 +6,9 @@ ghost use Rattle.filter_state.specs.Sound.{Each};
 ghost use Rattle.filter_state.specs.Lines.{AreFilterActions, IsFilterAction};
 ghost use Rattle.filter_state.specs.Actions.{is_live, first_free, index_or_free, serial_of, resolved};
 ghost use Rattle.action_plan.specs.Entries.{actions_of};
-ghost use Rattle.action_plan.specs.Plans.{made_of, carried, carried_one, AreFit, FitsAs, made_by, serials_of, planned_by, made_or_refused, PlanTold, plan_or, AddTold, serial_to_make, is_to_make};
+ghost use Rattle.action_plan.specs.Plans.{made_of, carried, carried_one, AreFit, FitsAs, made_by, serials_of};
+ghost use Rattle.action_plan.specs.Plans.{planned_by, made_or_refused, PlanTold, plan_or, AddTold};
+ghost use Rattle.action_plan.specs.Plans.{serial_to_make, is_to_make};
 
 use crate::names::{free_index, next_serial, serial_of};
 use crate::planned::PlannedAction;
@@ -20,7 +22,8 @@ use std::alloc::Global;
 use std::marker::Model;
 use tc_base::{NoMemory, Numbers};
 
-/// What is to be done for the actions of a line, in order, while it is planned. It is large, so it is filled where it stands.
+/// What is to be done for the actions of a line, in order, while it is planned. It is large, so it is filled
+/// where it stands.
 #[derive(Drop)]
 pub struct ActionPlan {
     parts: ArrayVec<PlannedAction, 16>,
@@ -50,15 +53,17 @@ impl ActionPlan {
         }
     }
 
-    /// Plans the actions of a filter's line. An action that is live, or that an action before it is to make, is to be bound, and
-    /// any other is to be made, with its index or the lowest that its kind doesn't use.
+    /// Plans the actions of a filter's line. An action that is live, or that an action before it is to make,
+    /// is to be bound, and any other is to be made, with its index or the lowest that its kind doesn't use.
     ///
     /// `NoSuchAction`: the first that is named alone and isn't there. The plan then means nothing.
     pub fn fill(&mut self, registry: &Registry<Params>, lines: &[ActionLine]) -> Result<(), Refusal>
         requires empty { self.old ≡ [] }
         requires lines { AreFilterActions lines.now }
         requires few { length lines.now ≤ 16 }
-        ensures { PlanTold (made_of registry.now) (resolved (record { so_far = made_of registry.now; serials = [] }) lines.now) (plan_or self.new result) }
+        ensures { PlanTold (made_of registry.now)
+            (resolved (record { so_far = made_of registry.now; serials = [] }) lines.now)
+            (plan_or self.new result) }
     {
         for line in lines {
             match self.add(registry, line) {
@@ -96,7 +101,8 @@ impl ActionPlan {
         requires line { IsFilterAction line.now }
         requires few { length self.old < 16 }
         requires fit { AreFit (made_of registry.now) self.old }
-        ensures told { AddTold (planned_by (carried (made_of registry.now) self.old) line.now) self.old self.new result }
+        ensures told { AddTold (planned_by (carried (made_of registry.now) self.old) line.now) self.old
+            self.new result }
         ensures fit { OnOk result (AreFit (made_of registry.now) self.new) }
     {
         let part = self.next(registry, line)?;

@@ -58,8 +58,10 @@ impl PlannedActions {
         requires room { made_by self.now ≤ registry.old.spare }
         requires few { length registry.old.entries + made_by self.now ≤ ACTIONS_MAX }
         requires in_run { registry.old.made + made_by self.now ≤ MADE_MAX }
-        requires references { Each (λ (action : Action). action.references + length self.now < 4294967295) (actions_of registry.old.entries) }
-        ensures actions { actions_of registry.new.entries ≡ (carried (made_of registry.old) self.now).actions }
+        requires references { Each (λ (action : Action). action.references + length self.now < 4294967295)
+            (actions_of registry.old.entries) }
+        ensures actions { actions_of registry.new.entries
+            ≡ (carried (made_of registry.old) self.now).actions }
         ensures made { registry.new.made ≡ (carried (made_of registry.old) self.now).made }
     {
         carry_out(&self.parts, registry);

@@ -10,7 +10,8 @@ use act_registry::Registry;
 /// Lets the actions of these serials go, one place for each. An action that no one holds then is gone.
 pub fn unbind_all(registry: &mut Registry<Params>, serials: &[u32])
     requires { AreBound serials.now registry.old.entries }
-    ensures actions { actions_of registry.new.entries ≡ all_unbound serials.now (actions_of registry.old.entries) }
+    ensures actions { actions_of registry.new.entries
+        ≡ all_unbound serials.now (actions_of registry.old.entries) }
     ensures made { registry.new.made ≡ registry.old.made }
     ensures spare { registry.old.spare ≤ registry.new.spare }
 {

@@ -5,8 +5,8 @@ use tc_batch::{LineFault, is_command, line};
 use tc_print::print_edit;
 use tc_words::{lines, read_decimal};
 
-// Each table is lines in pairs: a batch line, and behind it what it says: the edit that it gives, as it is printed, or `bad` and
-// the number of its first bad word.
+// Each table is lines in pairs: a batch line, and behind it what it says: the edit that it gives, as it is
+// printed, or `bad` and the number of its first bad word.
 
 // Whole lines of each kind.
 const WHOLE_LINES: &[u8] = b"\
@@ -289,7 +289,8 @@ fn is_answered(alloc: Global, text: &[u8], answer: &[u8]) -> Result<bool, Fail> 
     }
 }
 
-// Whether each line of a table is answered so, and each printed line is read as the edit that it was printed from.
+// Whether each line of a table is answered so, and each printed line is read as the edit that it was printed
+// from.
 fn are_answered(alloc: Global, table: &[u8]) -> Result<bool, Fail> {
     let mut text = None;
     for row in &lines(alloc, table)? {

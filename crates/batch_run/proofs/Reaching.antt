@@ -17,8 +17,8 @@ use Rattle.batch_run.specs.Applied.{IsApplied}
 use Rattle.batch_run.proofs.CommandLines.{command_at, is_blank, is_one}
 use Rattle.batch_run.proofs.Counts.{IsNear, StepsNear, step_near}
 
--- a state that the lists spell stands before the line of that number: each accepted edit made one table and one mask at most, and
--- the edits that were accepted and the commands that are left have room
+-- a state that the lists spell stands before the line of that number: each accepted edit made one table and
+-- one mask at most, and the edits that were accepted and the commands that are left have room
 pub record Reached (lists : Kept) (so_far : SoFar) (number : ℕ) (texts : List (List ℕ)) (all : List Command) : Type 0 where
   pub state : State
   pub spells : Spells lists state

@@ -13,6 +13,8 @@ use Rattle.batch_run.specs.declared.stop.Stop.TheVariants as stops
 
 -- the lists then spell the step's next state, where the batch goes on, and else still the state
 abbrev pub IsApplied : State → Kept → List (List ℕ) → ℕ → Option Stop → Type 0
-IsApplied s new words line None = (edit : Edit) × Gives words edit × (next : State) × (done : Done) × (step s edit ≡ Ok (next, done)) × Spells new next
-IsApplied s new words line (Some (stops.Refused at refusal)) = (edit : Edit) × Gives words edit × (step s edit ≡ Err refusal) × (at ≡ line) × Spells new s
+IsApplied s new words line None = (edit : Edit) × Gives words edit × (next : State) × (done : Done)
+    × (step s edit ≡ Ok (next, done)) × Spells new next
+IsApplied s new words line (Some (stops.Refused at refusal)) = (edit : Edit) × Gives words edit
+    × (step s edit ≡ Err refusal) × (at ≡ line) × Spells new s
 IsApplied s new words line (Some (stops.Syntax at word)) = IsFirstBad words word × (at ≡ line) × Spells new s

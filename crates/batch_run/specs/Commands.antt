@@ -1,6 +1,7 @@
--- The commands of a batch file: its lines that have words, each with its number, from 1 and blank lines counted (this project's own,
--- after `tc -batch`).
-use Rattle.std.specs.Prelude.{ℕ, ◌+◌, ◌-◌, ◌==◌, List, [], ◌∷◌, length, map, Option, Some, None, if◌then◌else◌}
+-- The commands of a batch file: its lines that have words, each with its number, from 1 and blank lines
+-- counted (this project's own, after `tc -batch`).
+use Rattle.std.specs.Prelude.{ℕ, ◌+◌, ◌-◌, ◌==◌, List, [], ◌∷◌, length, map, Option, Some, None}
+use Rattle.std.specs.Prelude.{if◌then◌else◌}
 use Rattle.std.specs.Borrow.{Bor}
 use Rattle.tc_words.specs.Lines.{lines_of, words_of}
 

@@ -15,7 +15,7 @@ is_later made action = nat_lt made action.serial
 abbrev pub later_names : ℕ → List Action → List MadeAction
 later_names made actions = map name_of (filter (is_later made) actions)
 
--- what an edit made, between the states before and after it. It makes no action that is gone again after it, so none is missed
--- (`made_in_order`).
+-- what an edit made, between the states before and after it. It makes no action that is gone again after it,
+-- so none is missed (`made_in_order`).
 abbrev pub made_since : State → State → List MadeAction
 made_since s next = later_names s.actions_made next.actions

@@ -16,7 +16,8 @@ pub record SoFar : Type 0 where
   pub accepted : ℕ
   pub made : List MadeAction
 
--- the state that is left, how many edits were accepted, the actions that they made, and the refused line, where there is one
+-- the state that is left, how many edits were accepted, the actions that they made, and the refused line,
+-- where there is one
 pub record Ran : Type 0 where
   pub state : State
   pub accepted : ℕ
@@ -40,8 +41,10 @@ IsAfter more s so_far line (Err refusal) ran = ran ≡ ended s so_far (Some (sto
 abbrev pub IsRunFrom : State → SoFar → List Command → Ran → Type 0
 IsRunFrom s so_far [] ran = ran ≡ ended s so_far None
 IsRunFrom s so_far (command ∷ commands) ran =
-    ((edit : Edit) × Gives command.words edit × IsAfter (λ next more. IsRunFrom next more commands ran) s so_far command.line (step s edit) ran)
-    ⊎ ((word : ℕ) × IsFirstBad command.words word × (ran ≡ ended s so_far (Some (stops.Syntax command.line word))))
+    ((edit : Edit) × Gives command.words edit
+    × IsAfter (λ next more. IsRunFrom next more commands ran) s so_far command.line (step s edit) ran)
+    ⊎ ((word : ℕ) × IsFirstBad command.words word
+    × (ran ≡ ended s so_far (Some (stops.Syntax command.line word))))
 
 -- a run from a state on, before which so many edits were accepted; what those made isn't told
 abbrev pub IsRun : State → ℕ → List Command → Ran → Type 0

@@ -30,10 +30,11 @@ impl MadeAction {
     }
 }
 
-/// Puts the names of the entries that were made when `before` actions had been made already behind those that are there.
+/// Puts the names of the entries that were made when `before` actions had been made already behind those that
+/// are there.
 ///
-/// Entries stand in the order of their serials, so only the last ones are looked at. `NoMemory`: memory was refused; then some of the names
-/// may be there.
+/// Entries stand in the order of their serials, so only the last ones are looked at. `NoMemory`: memory was
+/// refused; then some of the names may be there.
 pub fn log_made(
     made: &mut Vec<MadeAction>,
     entries: &[Entry<Params>],
@@ -53,7 +54,8 @@ pub fn log_made(
 fn first_later(entries: &[Entry<Params>], before: u32) -> usize
     requires { AreRising entries.now }
     ensures within { result ≤ length entries.now }
-    ensures later { later_names before (actions_of entries.now) ≡ map name_of (actions_of (drop result entries.now)) }
+    ensures later { later_names before (actions_of entries.now)
+        ≡ map name_of (actions_of (drop result entries.now)) }
 {
     let mut first = entries.len();
     while first > 0 && entries[first - 1].serial > before {

@@ -29,13 +29,14 @@ pub struct BatchRun {
     pub stop: Option<Stop>,
 }
 
-/// Applies the lines of a batch file of at most 262,144 commands to lists in which nothing stands, up to the first line that is
-/// refused.
+/// Applies the lines of a batch file of at most 262,144 commands to lists in which nothing stands, up to the
+/// first line that is refused.
 ///
 /// `NoMemory`: memory was refused. Nothing is told of the lists then.
 pub fn run_batch(alloc: Global, texts: &[&[u8]]) -> Result<BatchRun, NoMemory>
     requires { length (commands_in texts.now) ≤ COMMANDS_MAX }
-    ensures { IfOk result (λ run. (ran : Ran) × Spells run.lists ran.state × (run.accepted ≡ ran.accepted) × (run.made.items ≡ ran.made) × (run.stop ≡ ran.stop)
+    ensures { IfOk result (λ run. (ran : Ran) × Spells run.lists ran.state × (run.accepted ≡ ran.accepted)
+        × (run.made.items ≡ ran.made) × (run.stop ≡ ran.stop)
         × IsRun no_state 0 (commands_in texts.now) ran) }
 {
     let mut lists = Lists::new(alloc);
@@ -78,7 +79,8 @@ fn apply(
     number: u64,
 ) -> Result<Option<Stop>, NoMemory>
     requires { MayStep lists.old }
-    ensures { IfOk result (λ stop. (s : State) → Spells lists.old s → IsApplied s lists.new (words_of text.now) number stop) }
+    ensures { IfOk result (λ stop. (s : State) → Spells lists.old s
+        → IsApplied s lists.new (words_of text.now) number stop) }
 {
     let edit = match line(alloc, text) {
         Ok(edit) => edit,

@@ -1,4 +1,5 @@
--- The text that `show` writes for a batch (this project's own): the refused line, if there is one, and the state that is left.
+-- The text that `show` writes for a batch (this project's own): the refused line, if there is one, and the
+-- state that is left.
 use Rattle.std.specs.Prelude.{ℕ, List, [], ◌++◌, Option, Some, None}
 use Rattle.batch_run.specs.declared.stop.Stop.{Stop}
 use Rattle.batch_run.specs.declared.stop.Stop.TheVariants as stops

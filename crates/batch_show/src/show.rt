@@ -22,12 +22,14 @@ pub struct Shown {
     pub refused: bool,
 }
 
-/// Applies the lines of a batch file of at most 262,144 commands to lists in which nothing stands, and makes the text that `show` writes.
+/// Applies the lines of a batch file of at most 262,144 commands to lists in which nothing stands, and makes
+/// the text that `show` writes.
 ///
 /// `NoMemory`: memory was refused.
 pub fn show_batch(alloc: Global, texts: &[&[u8]]) -> Result<Shown, NoMemory>
     requires { length (commands_in texts.now) ≤ COMMANDS_MAX }
-    ensures { IfOk result (λ s. (ran : Ran) × IsRun no_state 0 (commands_in texts.now) ran × (s.text.items ≡ shown ran) × (s.refused ≡ is_some ran.stop)) }
+    ensures { IfOk result (λ s. (ran : Ran) × IsRun no_state 0 (commands_in texts.now) ran
+        × (s.text.items ≡ shown ran) × (s.refused ≡ is_some ran.stop)) }
 {
     let run = run_batch(alloc, texts)?;
     let mut text = Vec::new(alloc);

@@ -6,4 +6,8 @@ use Rattle.capture_walk.specs.Captures.{passed}
 
 -- the packets that pass, in the order of bytes and with the fractions of the input
 abbrev pub output_of : State → Hook → Capture → Capture
-output_of s hook capture = record { big = capture.big; nanos = capture.nanos; packets = passed s hook capture.packets }
+output_of s hook capture = record {
+  big = capture.big;
+  nanos = capture.nanos;
+  packets = passed s hook capture.packets;
+}

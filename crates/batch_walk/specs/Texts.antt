@@ -1,5 +1,6 @@
 -- The lines of a walk. They are this project's own.
-use Rattle.std.specs.Prelude.{ℕ, ◌+◌, ◌-◌, ◌≤◌, ◌==◌, ◌&&◌, List, [], ◌∷◌, ◌++◌, get_or, map, if◌then◌else◌, codes, decimal}
+use Rattle.std.specs.Prelude.{ℕ, ◌+◌, ◌-◌, ◌≤◌, ◌==◌, ◌&&◌, List, [], ◌∷◌, ◌++◌, get_or, map, if◌then◌else◌}
+use Rattle.std.specs.Prelude.{codes, decimal}
 use Rattle.std.specs.List.{flat_map}
 use Rattle.frame_edit.specs.declared.meta.Meta.{Meta}
 use Rattle.line_texts.specs.Texts.{class_text}
@@ -28,7 +29,8 @@ verdict_text verdicts.Drop = codes " drop length "
 abbrev pub meta_text : Meta → List ℕ
 meta_text meta =
     if meta.priority == 0 && (meta.mark == 0 && meta.queue == 0) then []
-    else codes " priority " ++ class_text meta.priority ++ counted (codes " mark ") meta.mark ++ counted (codes " queue ") meta.queue
+    else codes " priority " ++ class_text meta.priority ++ counted (codes " mark ") meta.mark
+    ++ counted (codes " queue ") meta.queue
 
 -- how a packet ended: ` V length L`, and the metadata
 unfoldable pub end_text : Verdict → ℕ → Meta → List ℕ
@@ -36,7 +38,8 @@ end_text verdict length meta = counted (verdict_text verdict) length ++ meta_tex
 
 -- `packet N`, and how it ended
 abbrev pub packet_line : ℕ → PacketEnd → List ℕ
-packet_line number end = counted (codes "packet ") number ++ end_text end.verdict end.length end.meta ++ codes "\n"
+packet_line number end = counted (codes "packet ") number ++ end_text end.verdict end.length end.meta
+    ++ codes "\n"
 
 -- a line for each packet, numbered from here
 abbrev pub packet_lines : ℕ → List PacketEnd → List (List ℕ)
@@ -46,7 +49,8 @@ packet_lines number (end ∷ ends) = packet_line number end ∷ packet_lines (nu
 -- ---- an action
 -- `counter serial S KIND index I`
 unfoldable pub action_text : MadeAction → List ℕ
-action_text made = counted (codes "counter serial ") made.serial ++ codes " " ++ kind_text made.kind ++ counted (codes " index ") made.index
+action_text made = counted (codes "counter serial ") made.serial ++ codes " " ++ kind_text made.kind
+    ++ counted (codes " index ") made.index
 
 -- ` packets P bytes B`
 unfoldable pub count_text : Count → List ℕ
@@ -64,17 +68,20 @@ HasCount counts made = (1 ≤ made.serial) × (made.serial ≤ counts)
 
 -- a line for each action that was made
 abbrev pub counter_lines : List MadeAction → List Count → List (List ℕ)
-counter_lines made counts = map (λ (m : MadeAction). counter_line m (get_or counts (m.serial - 1) nothing_counted)) made
+counter_lines made counts =
+    map (λ (m : MadeAction). counter_line m (get_or counts (m.serial - 1) nothing_counted)) made
 
 -- ---- the end
 -- `summary edits E refused R`
 unfoldable pub edits_text : Summary → List ℕ
-edits_text summary = counted (codes "summary edits ") summary.edits ++ counted (codes " refused ") summary.refused
+edits_text summary = counted (codes "summary edits ") summary.edits
+    ++ counted (codes " refused ") summary.refused
 
 -- ` packets P passed Q dropped D`
 unfoldable pub verdicts_text : Summary → List ℕ
 verdicts_text summary =
-    counted (codes " packets ") (summary.passed + summary.dropped) ++ counted (codes " passed ") summary.passed ++ counted (codes " dropped ") summary.dropped
+    counted (codes " packets ") (summary.passed + summary.dropped)
+    ++ counted (codes " passed ") summary.passed ++ counted (codes " dropped ") summary.dropped
 
 abbrev pub summary_line : Summary → List ℕ
 summary_line summary = edits_text summary ++ verdicts_text summary ++ codes "\n"

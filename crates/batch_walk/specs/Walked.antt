@@ -1,5 +1,6 @@
 -- What `walk` writes for a batch and the packets of a capture (this project's own).
-use Rattle.std.specs.Prelude.{◌≡◌, ℕ, ◌-◌, Bool, true, false, List, length, map, count_by, ◌++◌, is_some, if◌then◌else◌}
+use Rattle.std.specs.Prelude.{◌≡◌, ℕ, ◌-◌, Bool, true, false, List, length, map, count_by, ◌++◌, is_some}
+use Rattle.std.specs.Prelude.{if◌then◌else◌}
 use Rattle.tc_base.specs.declared.hook.Hook.{Hook}
 use Rattle.pcap_io.specs.declared.capture.Packet.{Packet}
 use Rattle.walk_rules.specs.declared.verdict.Verdict.{Verdict}
@@ -36,11 +37,13 @@ summary_of accepted refused ends = record {
 -- the lines behind the packets' lines
 abbrev pub closing_after : Ran → List Outcome → List ℕ
 closing_after ran outcomes =
-    joined (closing_lines ran.made (counts_of ran.state.actions_made (executed_in outcomes)) (summary_of ran.accepted (is_some ran.stop) (map end_of outcomes)))
+    joined (closing_lines ran.made (counts_of ran.state.actions_made (executed_in outcomes))
+    (summary_of ran.accepted (is_some ran.stop) (map end_of outcomes)))
 
 -- the refused line, if there is one, the packets' lines, and the closing ones
 abbrev pub text_after : Ran → List Outcome → List ℕ
-text_after ran outcomes = stop_shown ran.accepted ran.stop ++ joined (packet_lines 1 (map end_of outcomes)) ++ closing_after ran outcomes
+text_after ran outcomes = stop_shown ran.accepted ran.stop ++ joined (packet_lines 1 (map end_of outcomes))
+    ++ closing_after ran outcomes
 
 -- THE TEXT OF A WALK: each packet by the plain walk of the state that the batch leaves
 unfoldable pub walk_text : Ran → Hook → List Packet → List ℕ

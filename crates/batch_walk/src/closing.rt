@@ -1,7 +1,8 @@
 //! The lines behind those of the packets.
 ghost use Rattle.std.specs.Prelude.{◌≡◌, ◌<◌, ◌+◌, ◌^◌, ◌++◌, length, IfOk, OnOk};
 ghost use Rattle.std.specs.List.{All};
-ghost use Rattle.batch_walk.specs.Texts.{action_text, count_text, counter_line, counter_lines, edits_text, verdicts_text, summary_line, closing_lines, joined, HasCount};
+ghost use Rattle.batch_walk.specs.Texts.{action_text, count_text, counter_line, counter_lines, edits_text};
+ghost use Rattle.batch_walk.specs.Texts.{verdicts_text, summary_line, closing_lines, joined, HasCount};
 
 use crate::pieces::{push_count, push_text};
 use batch_run::MadeAction;
@@ -78,8 +79,8 @@ fn push_verdicts(out: &mut Vec<u8>, summary: &Summary) -> Result<(), AllocError>
     push_count(out, " dropped ", summary.dropped)
 }
 
-/// Puts the line that tells what a run came to behind what is there. Its packets are those that passed and those that were dropped,
-/// together below 2^64.
+/// Puts the line that tells what a run came to behind what is there. Its packets are those that passed and
+/// those that were dropped, together below 2^64.
 pub fn push_summary(out: &mut Vec<u8>, summary: &Summary) -> Result<(), AllocError>
     requires { summary.now.passed + summary.now.dropped < 2 ^ 64 }
     ensures { OnOk result (out.new.items ≡ out.old.items ++ summary_line summary.now) }
@@ -89,7 +90,8 @@ pub fn push_summary(out: &mut Vec<u8>, summary: &Summary) -> Result<(), AllocErr
     push_text(out, "\n")
 }
 
-/// The lines behind those of the packets: a counter for each action that was made, the summary, `end`. `counts` begins with serial 1.
+/// The lines behind those of the packets: a counter for each action that was made, the summary, `end`.
+/// `counts` begins with serial 1.
 pub(crate) fn closing_text(
     alloc: Global,
     made: &[MadeAction],

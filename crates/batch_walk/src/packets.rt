@@ -31,7 +31,8 @@ fn push_meta(out: &mut Vec<u8>, meta: Meta) -> Result<(), AllocError>
     push_count(out, " queue ", u64::from(meta.queue))
 }
 
-/// Puts how a packet ended behind what is there: its verdict, its length in bytes, and its metadata unless all of them are 0.
+/// Puts how a packet ended behind what is there: its verdict, its length in bytes, and its metadata unless
+/// all of them are 0.
 #[tactic(auto, unfolding(crate::specs::Texts::end_text))]
 pub fn push_end(
     out: &mut Vec<u8>,

@@ -74,7 +74,9 @@ fn text_of(
     requires few { length ends.items < 2 ^ 64 }
     ensures stop { IfOk result (λ text. text.stop.items ≡ stop_shown run.now.accepted run.now.stop) }
     ensures ends { IfOk result (λ text. text.ends.items ≡ ends.items) }
-    ensures closing { IfOk result (λ text. text.closing.items ≡ joined (closing_lines run.now.made.items counts.now (summary_of run.now.accepted (is_some run.now.stop) ends.items))) }
+    ensures closing { IfOk result (λ text. text.closing.items
+        ≡ joined (closing_lines run.now.made.items counts.now
+        (summary_of run.now.accepted (is_some run.now.stop) ends.items))) }
 {
     let mut stop = Vec::new(alloc);
     push_stop(&mut stop, run.accepted, &run.stop)?;
@@ -86,8 +88,9 @@ fn text_of(
     })
 }
 
-/// Applies the lines of a batch file of at most 262,144 commands to lists in which nothing stands, walks each of at most 1,048,576
-/// packets through a hook of what the batch leaves, and makes what `walk` puts and writes.
+/// Applies the lines of a batch file of at most 262,144 commands to lists in which nothing stands, walks each
+/// of at most 1,048,576 packets through a hook of what the batch leaves, and makes what `walk` puts and
+/// writes.
 ///
 /// `NoMemory`: memory was refused.
 pub fn walk_batch(
@@ -99,7 +102,8 @@ pub fn walk_batch(
     requires commands { length (commands_in texts.now) ≤ COMMANDS_MAX }
     requires few { length packets.now ≤ PACKETS_MAX }
     requires short { AreShort packets.now }
-    ensures walked { IfOk result (λ w. (ran : Ran) × IsRun no_state 0 (commands_in texts.now) ran × IsWalked ran hook packets.now w) }
+    ensures walked { IfOk result (λ w. (ran : Ran) × IsRun no_state 0 (commands_in texts.now) ran
+        × IsWalked ran hook packets.now w) }
     ensures short { IfOk result (λ w. AreShort w.passed) }
 {
     let run = run_batch(alloc, texts)?;

@@ -6,7 +6,8 @@ use Rattle.store_history.specs.declared.history.Commit.{Commit}
 use Rattle.store_history.specs.History.{root_of, first_block, first_number, IsNamed, IsLinked}
 use Rattle.store_history.specs.Reads.{in_front, read_all, read_first}
 
--- where the next block's number is not 0, it is that of the block at the place, whose last word is the next one's
+-- where the next block's number is not 0, it is that of the block at the place, whose last word is the next
+-- one's
 pub next_at : (w : ℕ) (chain : List Link) (k n : ℕ) → n ≡ first_number (drop k chain) → n ≢ 0 → IsLinked w chain
     → (l : Link) × (slice_get chain k ≡ Some l) × (l.block + 1 ≡ n) × (get_or l.words (w - 1) 0 ≡ first_number (drop (suc k) chain)) × (k < length chain)
 next_at w [] zero n e ne h = absurd (ne e)

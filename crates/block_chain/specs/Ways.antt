@@ -16,9 +16,10 @@ block_words = 40
 abbrev pub HasRoot : Shape → ℕ → Type 0
 HasRoot shape root = (shape.words ≡ block_words) × (root < shape.roots)
 
--- before the block at a place of what a root names, at the end of what the reader has seen; `next` is that block's number plus 1, or 0
--- where the chain is over
-pub record IsBefore {E : Type 0} (shape : Shape) (p : Seat (Unit {0}) (View E)) (root place next : ℕ) : Type 0 where
+-- before the block at a place of what a root names, at the end of what the reader has seen; `next` is that
+-- block's number plus 1, or 0 where the chain is over
+pub record IsBefore {E : Type 0} (shape : Shape) (p : Seat (Unit {0}) (View E))
+    (root place next : ℕ) : Type 0 where
   pub next_is : next ≡ first_number (drop place (root_of (seen_by p) root).chain)
   pub inside : place ≤ length (root_of (seen_by p) root).chain
   pub linked : IsLinked block_words (root_of (seen_by p) root).chain

@@ -3,7 +3,8 @@ ghost use Rattle.std.specs.Prelude.{◌≡◌, ℕ, ◌+◌, ◌<◌, length, sl
 ghost use mathlib.Core.List.{IsPrefix};
 ghost use Rattle.store_history.specs.declared.history.Link.{Link};
 ghost use Rattle.store_history.specs.History.{root_of};
-ghost use Rattle.pin_store.specs.Calls.{seen_by, floor_start, loads_of, IsInside, IsSeatOf, IsSameReader, IsSameButLoads};
+ghost use Rattle.pin_store.specs.Calls.{seen_by, floor_start, loads_of, IsInside, IsSeatOf, IsSameReader};
+ghost use Rattle.pin_store.specs.Calls.{IsSameButLoads};
 ghost use Rattle.block_chain.specs.Ways.{block_words, IsBefore, HasRoot};
 
 use crate::block::load_block;
@@ -20,8 +21,8 @@ pub struct Walk {
 }
 
 impl Walk {
-    /// Before the first block of what a root names at the end of what the reader has then seen, with the root's stamp. The law holds
-    /// of that. One load, and `steps` counts it too.
+    /// Before the first block of what a root names at the end of what the reader has then seen, with the
+    /// root's stamp. The law holds of that. One load, and `steps` counts it too.
     pub fn along<L: Law, M: Ledger>(
         reader: &mut Reader<L>,
         store: &Store<L>,
@@ -48,8 +49,8 @@ impl Walk {
         (Walk { next }, named.stamp)
     }
 
-    /// Loads the next block, and goes on behind it. Answers false exactly where the chain is over, and then nothing is loaded.
-    /// Forty loads where there was a block, and `steps` counts the same.
+    /// Loads the next block, and goes on behind it. Answers false exactly where the chain is over, and then
+    /// nothing is loaded. Forty loads where there was a block, and `steps` counts the same.
     pub fn next_block<L: Law, M: Ledger>(
         &mut self,
         reader: &mut Reader<L>,
@@ -60,17 +61,22 @@ impl Walk {
         requires store { IsSeatOf store.now reader.old.place }
         requires shape { store.now.shape.words ≡ block_words }
         requires inside { IsInside reader.old.place }
-        requires before { (root : ℕ) × (place : ℕ) × IsBefore store.now.shape reader.old.place root place self.old.next }
+        requires before { (root : ℕ) × (place : ℕ)
+            × IsBefore store.now.shape reader.old.place root place self.old.next }
         ensures store { IsSeatOf store.now reader.new.place }
         ensures same { IsSameButLoads reader.old.place reader.new.place }
-        ensures block { result ≡ true → (root place : ℕ) → IsBefore store.now.shape reader.old.place root place self.old.next
-            → (l : Link) × (slice_get (root_of (seen_by reader.old.place) root).chain place ≡ Some l) × (words.new ≡ l.words)
+        ensures block { result ≡ true → (root place : ℕ)
+            → IsBefore store.now.shape reader.old.place root place self.old.next
+            → (l : Link) × (slice_get (root_of (seen_by reader.old.place) root).chain place ≡ Some l)
+            × (words.new ≡ l.words)
             × IsBefore store.now.shape reader.new.place root (place + 1) self.new.next }
         ensures loads { result ≡ true → loads_of reader.new.place ≡ loads_of reader.old.place + block_words }
         ensures steps { result ≡ true → steps.new ≡ steps.old + block_words }
-        ensures over { result ≡ false → (root place : ℕ) → IsBefore store.now.shape reader.old.place root place self.old.next
+        ensures over { result ≡ false → (root place : ℕ)
+            → IsBefore store.now.shape reader.old.place root place self.old.next
             → place ≡ length (root_of (seen_by reader.old.place) root).chain }
-        ensures none { result ≡ false → (loads_of reader.new.place ≡ loads_of reader.old.place) × (steps.new ≡ steps.old) }
+        ensures none { result ≡ false → (loads_of reader.new.place ≡ loads_of reader.old.place)
+            × (steps.new ≡ steps.old) }
     {
         if self.next == 0 {
             return false;

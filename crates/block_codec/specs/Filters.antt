@@ -6,7 +6,8 @@ use Rattle.block_codec.specs.Names.{action_word, IsActionName}
 
 -- the kind of block, the handle, how many actions there are, the key's words, and the actions
 abbrev pub filter_words : StoredFilter → List ℕ
-filter_words stored = 1 ∷ stored.handle ∷ length stored.actions ∷ (stored.key.words ++ map action_word stored.actions)
+filter_words stored = 1 ∷ stored.handle ∷ length stored.actions
+    ∷ (stored.key.words ++ map action_word stored.actions)
 
 -- the limits of a filter's numbers
 pub record IsStorableFilter (stored : StoredFilter) : Type 0 where

@@ -37,13 +37,15 @@ number_of (Some number) = number
 
 -- which of the three are given, priority and mark, and the queue
 abbrev pub skbedit_words : Option ℕ → Option ℕ → Option ℕ → List ℕ
-skbedit_words priority mark queue = (flag_of 1 priority + flag_of 2 mark + flag_of 4 queue) ∷ both (number_of priority) (number_of mark) ∷ number_of queue ∷ []
+skbedit_words priority mark queue = (flag_of 1 priority + flag_of 2 mark + flag_of 4 queue)
+    ∷ both (number_of priority) (number_of mark) ∷ number_of queue ∷ []
 
 -- the kind, the control, and three words by the kind
 abbrev pub params_words : Params → List ℕ
 params_words (params.Gact control) = 1 ∷ control_word control ∷ 0 ∷ 0 ∷ 0 ∷ []
 params_words (params.Vlan op control) = 2 ∷ control_word control ∷ vlan_words op
-params_words (params.Skbedit priority mark queue control) = 3 ∷ control_word control ∷ skbedit_words priority mark queue
+params_words (params.Skbedit priority mark queue control) =
+    3 ∷ control_word control ∷ skbedit_words priority mark queue
 
 -- the limits of parameters: a chain and a place to jump to
 abbrev pub AreStorable : Params → Type 0
@@ -60,7 +62,8 @@ FitsOp (ops.Modify tpid id priority) = (tpid < 2 ^ 16) × (id < 2 ^ 16) × IfSom
 abbrev pub FitParams : Params → Type 0
 FitParams (params.Gact control) = Unit {0}
 FitParams (params.Vlan op control) = FitsOp op
-FitParams (params.Skbedit priority mark queue control) = IfSome priority (λ n. n < 2 ^ 32) × IfSome mark (λ n. n < 2 ^ 32) × IfSome queue (λ n. n < 2 ^ 16)
+FitParams (params.Skbedit priority mark queue control) = IfSome priority (λ n. n < 2 ^ 32)
+    × IfSome mark (λ n. n < 2 ^ 32) × IfSome queue (λ n. n < 2 ^ 16)
 
 -- these are the words of those parameters
 pub record AreParamsIn (words : List ℕ) (given : Params) : Type 0 where

@@ -1,7 +1,8 @@
 -- What is looked at before words are read, and the things that they then are (this project's own).
 use Rattle.act_registry.specs.declared.limits.TheConstants.{MADE_MAX}
 use Rattle.block_codec.specs.declared.places.TheConstants.{ROWS}
-use Rattle.std.specs.Prelude.{◌≡◌, ℕ, ◌+◌, ◌*◌, ◌/◌, ◌%◌, ◌^◌, ◌<◌, ◌≤◌, ◌==◌, List, map, take, slice_index, slice_range, if◌then◌else◌, All, IsTrue}
+use Rattle.std.specs.Prelude.{◌≡◌, ℕ, ◌+◌, ◌*◌, ◌/◌, ◌%◌, ◌^◌, ◌<◌, ◌≤◌, ◌==◌, List, map, take, slice_index}
+use Rattle.std.specs.Prelude.{slice_range, if◌then◌else◌, All, IsTrue}
 use Rattle.std.specs.List.{range_with_len}
 use Rattle.tc_base.specs.declared.hook.Proto.{Proto}
 use Rattle.tc_base.specs.declared.hook.Proto.TheVariants as protocols
@@ -12,7 +13,8 @@ use Rattle.block_codec.specs.declared.table.StoredTable.{StoredTable}
 use Rattle.block_codec.specs.Blocks.{IsBlankFrom}
 use Rattle.block_codec.specs.Names.{action_in, mask_in, IsActionName, IsMaskName}
 
--- the words are those of a filter: its kind, its numbers within their limits, zeros behind its actions, and a link
+-- the words are those of a filter: its kind, its numbers within their limits, zeros behind its actions, and a
+-- link
 pub record HasFilter (words : List ℕ) : Type 0 where
   pub kind : slice_index words 0 ≡ 1
   pub handle : (1 ≤ slice_index words 1) × (slice_index words 1 ≤ 4294967295)
@@ -23,7 +25,11 @@ pub record HasFilter (words : List ℕ) : Type 0 where
 
 -- the filter that the words are then those of
 abbrev pub filter_read : List ℕ → StoredFilter
-filter_read words = record { handle = slice_index words 1; key = record { words = slice_range words 3 17 }; actions = map action_in (slice_range words 17 (17 + slice_index words 2)) }
+filter_read words = record {
+  handle = slice_index words 1;
+  key = record { words = slice_range words 3 17 };
+  actions = map action_in (slice_range words 17 (17 + slice_index words 2));
+}
 
 -- the number at a place of the rows' words
 abbrev pub row_in : List ℕ → ℕ → ℕ
@@ -53,13 +59,19 @@ pub record HasMask (words : List ℕ) : Type 0 where
 
 -- the mask that the words are then those of
 abbrev pub mask_read : List ℕ → StoredMask
-mask_read words = record { serial = slice_index words 1; size = slice_index words 2; mask = record { words = slice_range words 3 17 }; rows = rows_of (slice_index words 2 / 16) words }
+mask_read words = record {
+  serial = slice_index words 1;
+  size = slice_index words 2;
+  mask = record { words = slice_range words 3 17 };
+  rows = rows_of (slice_index words 2 / 16) words;
+}
 
 -- the protocol with a number
 abbrev pub protocol_in : ℕ → Proto
 protocol_in number = if number == 65536 then protocols.All else protocols.Ether number
 
--- the words are those of a table: its kind, its numbers within their limits, zeros behind its masks, and a link
+-- the words are those of a table: its kind, its numbers within their limits, zeros behind its masks, and a
+-- link
 pub record HasTable (words : List ℕ) : Type 0 where
   pub kind : slice_index words 0 ≡ 3
   pub pref : (1 ≤ slice_index words 1 / 2 ^ 32) × (slice_index words 1 / 2 ^ 32 ≤ 65535)
@@ -80,7 +92,8 @@ table_read words = record {
   masks = map mask_in (slice_range words 4 (4 + slice_index words 3));
 }
 
--- the words beside the parameters are those of an action: its kind, its numbers within their limits, zeros, and a link
+-- the words beside the parameters are those of an action: its kind, its numbers within their limits, zeros,
+-- and a link
 pub record HasAction (words : List ℕ) : Type 0 where
   pub kind : slice_index words 0 ≡ 4
   pub serial : (1 ≤ slice_index words 1 % 2 ^ 32) × (slice_index words 1 % 2 ^ 32 ≤ MADE_MAX)

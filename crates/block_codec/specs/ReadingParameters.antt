@@ -1,5 +1,6 @@
 -- The parameters that are made of five words, whether or not these are their words (this project's own).
-use Rattle.std.specs.Prelude.{ℕ, ◌-◌, ◌/◌, ◌%◌, ◌^◌, ◌==◌, List, Option, Some, None, slice_index, if◌then◌else◌}
+use Rattle.std.specs.Prelude.{ℕ, ◌-◌, ◌/◌, ◌%◌, ◌^◌, ◌==◌, List, Option, Some, None, slice_index}
+use Rattle.std.specs.Prelude.{if◌then◌else◌}
 use Rattle.act_kinds.specs.declared.params.Control.{Control}
 use Rattle.act_kinds.specs.declared.params.Control.TheVariants as controls
 use Rattle.act_kinds.specs.declared.params.VlanOp.{VlanOp}
@@ -39,7 +40,8 @@ abbrev pub given_if : ℕ → ℕ → Option ℕ
 given_if flag number = if flag == 1 then Some number else None
 
 abbrev pub skbedit_in : ℕ → ℕ → ℕ → Control → Params
-skbedit_in flags marks queue control = params.Skbedit (given_if (flags % 2) (marks % 2 ^ 32)) (given_if (flags / 2 % 2) (marks / 2 ^ 32)) (given_if (flags / 4 % 2) (queue % 2 ^ 16)) control
+skbedit_in flags marks queue control = params.Skbedit (given_if (flags % 2) (marks % 2 ^ 32))
+    (given_if (flags / 2 % 2) (marks / 2 ^ 32)) (given_if (flags / 4 % 2) (queue % 2 ^ 16)) control
 
 abbrev pub vlan_with : Control → Option VlanOp → Option Params
 vlan_with control None = None
@@ -55,4 +57,5 @@ params_with kind (Some control) a b c =
     else None
 
 abbrev pub params_in : List ℕ → Option Params
-params_in words = params_with (slice_index words 0) (control_in (slice_index words 1)) (slice_index words 2) (slice_index words 3) (slice_index words 4)
+params_in words = params_with (slice_index words 0) (control_in (slice_index words 1)) (slice_index words 2)
+    (slice_index words 3) (slice_index words 4)

@@ -1,5 +1,5 @@
--- What a store must have room for, so that it can keep a hook's masks (this project's own). Told of a store's words a block, its
--- blocks and its roots.
+-- What a store must have room for, so that it can keep a hook's masks (this project's own). Told of a store's
+-- words a block, its blocks and its roots.
 use Rattle.block_codec.specs.declared.places.TheConstants.{BLOCK_WORDS, POOL_BLOCKS, ROOTS}
 use Rattle.std.specs.Prelude.{◌≡◌, ℕ, ◌≤◌}
 

@@ -14,7 +14,8 @@ protocol_number (protocols.Ether number) = number
 
 -- the kind of block, serial and pref, chain and protocol, how many masks there are, and the masks
 abbrev pub table_words : StoredTable → List ℕ
-table_words stored = 3 ∷ both stored.serial stored.pref ∷ both stored.chain (protocol_number stored.protocol) ∷ length stored.masks ∷ map mask_word stored.masks
+table_words stored = 3 ∷ both stored.serial stored.pref ∷ both stored.chain (protocol_number stored.protocol)
+    ∷ length stored.masks ∷ map mask_word stored.masks
 
 -- the limits of a table's numbers
 pub record IsStorableTable (stored : StoredTable) : Type 0 where

@@ -25,8 +25,8 @@ pub struct StoredAction {
     pub params: Params,
 }
 
-/// Writes an action whose serial is from 1 to `MADE_MAX`, whose index isn't 0, and whose control goes to a chain or a place of
-/// 268,435,455 at most.
+/// Writes an action whose serial is from 1 to `MADE_MAX`, whose index isn't 0, and whose control goes to a
+/// chain or a place of 268,435,455 at most.
 pub fn write_action(stored: &StoredAction, link: Option<u32>, words: &mut [u64; 40])
     requires { IsStorableAction stored.now }
     ensures { IsActionBlock words.new (stored.now, link) }

@@ -1,5 +1,6 @@
 //! What all blocks have in common: the words that have a name, zeros, and the link.
-ghost use Rattle.std.specs.Prelude.{◌≡◌, ℕ, ◌%◌, ◌/◌, ◌^◌, ◌<◌, ◌≤◌, ◌↔◌, IsTrue, length, slice_index, slice_range};
+ghost use Rattle.std.specs.Prelude.{◌≡◌, ℕ, ◌%◌, ◌/◌, ◌^◌, ◌<◌, ◌≤◌, ◌↔◌, IsTrue, length, slice_index};
+ghost use Rattle.std.specs.Prelude.{slice_range};
 ghost use Rattle.block_codec.specs.Blocks.{both, plus_one, IsBlankFrom};
 
 use arrayvec::ArrayVec;

@@ -57,7 +57,8 @@ fn rows_word(rows: &[u32], at: usize) -> u64
         + row_at(rows, first + 3) * (1 << 48)
 }
 
-/// Writes a mask whose size is a power of two from 16 to 1,024, with a row below 8,192 for each sixteen buckets.
+/// Writes a mask whose size is a power of two from 16 to 1,024, with a row below 8,192 for each sixteen
+/// buckets.
 pub fn write_mask(stored: &StoredMask, link: Option<u32>, words: &mut [u64; 40])
     requires { IsStorableMask stored.now }
     ensures { IsMaskBlock words.new (stored.now, link) }

@@ -1,6 +1,7 @@
 //! Names of actions and masks in a word.
 ghost use Rattle.std.specs.Prelude.{◌≡◌, ◌↔◌, IsTrue};
-ghost use Rattle.block_codec.specs.Names.{action_word, mask_word, action_in, mask_in, IsActionName, IsMaskName};
+ghost use Rattle.block_codec.specs.Names.{action_word, mask_word, action_in, mask_in, IsActionName};
+ghost use Rattle.block_codec.specs.Names.{IsMaskName};
 
 use crate::block::{both_halves, high_half, low_half};
 use crate::places::{ACTION_SLOTS, MASK_SLOTS};

@@ -2,8 +2,10 @@
 ghost use Rattle.std.specs.Prelude.{◌≡◌, ◌%◌, ◌^◌, ◌↔◌, IsTrue, length};
 ghost use Rattle.act_kinds.specs.Ranges.{IsControl};
 ghost use Rattle.block_codec.specs.Blocks.{IsTheOnly, plus_one};
-ghost use Rattle.block_codec.specs.Parameters.{control_word, vlan_words, flag_of, number_of, skbedit_words, params_words, AreStorable, FitParams, AreParamsIn};
-ghost use Rattle.block_codec.specs.ReadingParameters.{control_in, priority_in, vlan_in, given_if, skbedit_in, params_in};
+ghost use Rattle.block_codec.specs.Parameters.{control_word, vlan_words, flag_of, number_of, skbedit_words};
+ghost use Rattle.block_codec.specs.Parameters.{params_words, AreStorable, FitParams, AreParamsIn};
+ghost use Rattle.block_codec.specs.ReadingParameters.{control_in, priority_in, vlan_in, given_if, skbedit_in};
+ghost use Rattle.block_codec.specs.ReadingParameters.{params_in};
 
 use crate::block::{both_halves, high_half, low_half};
 use act_kinds::{Control, Params, VlanOp};
@@ -255,7 +257,8 @@ fn are_storable(params: Params) -> bool
     }
 }
 
-// The parameters whose five words these are. What would be read is written again: so a bit that it doesn't have is not passed over.
+// The parameters whose five words these are. What would be read is written again: so a bit that it doesn't
+// have is not passed over.
 pub(crate) fn read_params(words: &[u64]) -> Option<Params>
     requires { length words.now ≡ 5 }
     ensures { IsTheOnly (AreParamsIn words.now) result }

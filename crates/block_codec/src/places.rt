@@ -47,8 +47,8 @@ pub const ROOTS: u32 = BUCKET_ROOTS + BUCKETS;
 /// The blocks of filters, masks and actions, which come first.
 pub const POOL_BLOCKS: u32 = 16_384;
 
-/// The block of table 0 of head place 0 of the ingress hook. That of table j of place p of hook h (ingress 0, egress 1) is
-/// 256 (2 h + p) + j further on.
+/// The block of table 0 of head place 0 of the ingress hook. That of table j of place p of hook h (ingress 0,
+/// egress 1) is 256 (2 h + p) + j further on.
 pub const HEAD_BLOCKS: u32 = POOL_BLOCKS;
 
 /// All blocks, 17,408.

@@ -1,5 +1,5 @@
--- The block of a mask reads as the mask, whatever the words of its key are: the same block with zeros in their place reads so, and the rows
--- stand behind them.
+-- The block of a mask reads as the mask, whatever the words of its key are: the same block with zeros in
+-- their place reads so, and the rows stand behind them.
 use Rattle.std.proofs.Common.{◌≡◌, ◌∙◌, ℕ, suc, ◌+◌, ◌*◌, ◌/◌, ◌%◌, ◌^◌, ◌-◌, ◌<◌, Bool, true, false, List, [], ◌∷◌, ◌++◌, length, map, take, drop, get_or, replicate, Option, Some, None, refl, sym, ap, subst, arith, append_assoc, length-append}
 use Rattle.std.specs.Prelude.{All, if◌then◌else◌}
 use Rattle.std.specs.List.{range_with_len}

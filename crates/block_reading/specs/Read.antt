@@ -1,7 +1,9 @@
--- How the forty words of a block read (this project's own): as the one thing whose words they are, or as nothing.
+-- How the forty words of a block read (this project's own): as the one thing whose words they are, or as
+-- nothing.
 use Rattle.act_registry.specs.declared.limits.TheConstants.{MADE_MAX}
 use Rattle.block_codec.specs.declared.places.TheConstants.{ACTION_SLOTS, MASK_SLOTS, ROWS}
-use Rattle.std.specs.Prelude.{ℕ, zero, suc, ◌+◌, ◌/◌, ◌%◌, ◌^◌, ◌==◌, ◌&&◌, Bool, true, nat_lt, nat_le, List, take, slice_index, slice_range, Option, Some, None, if◌then◌else◌}
+use Rattle.std.specs.Prelude.{ℕ, zero, suc, ◌+◌, ◌/◌, ◌%◌, ◌^◌, ◌==◌, ◌&&◌, Bool, true, nat_lt, nat_le, List}
+use Rattle.std.specs.Prelude.{take, slice_index, slice_range, Option, Some, None, if◌then◌else◌}
 use Rattle.std.specs.List.{list_all}
 use Rattle.std.specs.Option.{option_map}
 use Rattle.std.specs.Str.{bytes_eq}
@@ -40,7 +42,8 @@ is_blank_from at words = list_all is_zero (slice_range words at 39)
 
 -- ---- a filter
 abbrev pub is_action_word : ℕ → Bool
-is_action_word word = nat_le 1 (action_in word).serial && (nat_le (action_in word).serial MADE_MAX && nat_lt (action_in word).slot ACTION_SLOTS)
+is_action_word word = nat_le 1 (action_in word).serial
+    && (nat_le (action_in word).serial MADE_MAX && nat_lt (action_in word).slot ACTION_SLOTS)
 
 abbrev pub is_filter : List ℕ → Bool
 is_filter words =
@@ -101,7 +104,8 @@ is_storable (params.Skbedit priority mark queue control) = is_within control
 -- parameters whose words these are
 abbrev pub checked : List ℕ → Option Params → Option Params
 checked words None = None
-checked words (Some given) = if is_storable given && bytes_eq (params_words given) words then Some given else None
+checked words (Some given) = if is_storable given && bytes_eq (params_words given) words then Some given
+    else None
 
 abbrev pub params_of_words : List ℕ → Option Params
 params_of_words words = checked words (params_in words)
@@ -114,7 +118,12 @@ is_action words =
     && (is_blank_from 7 words && is_linked words))))
 
 abbrev pub action_with : List ℕ → Params → StoredAction
-action_with words given = record { serial = slice_index words 1 % 2 ^ 32; index = slice_index words 1 / 2 ^ 32; params = given }
+action_with words given = record {
+  serial = slice_index words 1 % 2 ^ 32;
+  index = slice_index words 1 / 2 ^ 32;
+  params = given;
+}
 
 abbrev pub action_of_words : List ℕ → Option StoredAction
-action_of_words words = if is_action words then option_map (action_with words) (params_of_words (slice_range words 2 7)) else None
+action_of_words words = if is_action words
+    then option_map (action_with words) (params_of_words (slice_range words 2 7)) else None

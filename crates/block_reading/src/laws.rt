@@ -12,16 +12,23 @@ ghost use Rattle.block_codec.specs.Tables.{IsTableBlock};
 ghost use Rattle.block_codec.specs.Actions.{IsActionBlock};
 ghost use Rattle.block_reading.specs.Read.{link_in, filter_in, mask_of_words, table_in, action_of_words};
 
-/// Forty words of 64 bits read as the filter, the mask or the table whose words they are, and as none where they are those of none.
+/// Forty words of 64 bits read as the filter, the mask or the table whose words they are, and as none where
+/// they are those of none.
 pub fn blocks_read_as_one()
-    ensures filter { (words : List ℕ) → length words ≡ 40 → IsTheOnly (IsFilterBlock words) (option_map (λ (it : StoredFilter). (it, link_in words)) (filter_in words)) }
+    ensures filter { (words : List ℕ) → length words ≡ 40
+        → IsTheOnly (IsFilterBlock words)
+        (option_map (λ (it : StoredFilter). (it, link_in words)) (filter_in words)) }
     ensures mask { (words : List ℕ) → length words ≡ 40 → ((place : ℕ) → get_or words place 0 < 2 ^ 64)
-        → IsTheOnly (IsMaskBlock words) (option_map (λ (it : StoredMask). (it, link_in words)) (mask_of_words words)) }
-    ensures table { (words : List ℕ) → length words ≡ 40 → IsTheOnly (IsTableBlock words) (option_map (λ (it : StoredTable). (it, link_in words)) (table_in words)) }
+        → IsTheOnly (IsMaskBlock words)
+        (option_map (λ (it : StoredMask). (it, link_in words)) (mask_of_words words)) }
+    ensures table { (words : List ℕ) → length words ≡ 40
+        → IsTheOnly (IsTableBlock words)
+        (option_map (λ (it : StoredTable). (it, link_in words)) (table_in words)) }
 {}
 
 /// And so they read as an action.
 pub fn actions_read_as_one()
     ensures { (words : List ℕ) → length words ≡ 40 → ((place : ℕ) → get_or words place 0 < 2 ^ 64)
-        → IsTheOnly (IsActionBlock words) (option_map (λ (it : StoredAction). (it, link_in words)) (action_of_words words)) }
+        → IsTheOnly (IsActionBlock words)
+        (option_map (λ (it : StoredAction). (it, link_in words)) (action_of_words words)) }
 {}

@@ -1,6 +1,7 @@
 -- What the walks of a capture leave: each packet by the plain walk of one state (this project's own).
 use Rattle.walk_rules.specs.declared.limits.TheConstants.{VISITS_MAX}
-use Rattle.std.specs.Prelude.{ℕ, zero, suc, ◌+◌, ◌-◌, ◌*◌, ◌≤◌, ◌==◌, min, List, [], ◌∷◌, length, map, sum_by, count_by, if◌then◌else◌}
+use Rattle.std.specs.Prelude.{ℕ, zero, suc, ◌+◌, ◌-◌, ◌*◌, ◌≤◌, ◌==◌, min, List, [], ◌∷◌, length, map, sum_by}
+use Rattle.std.specs.Prelude.{count_by, if◌then◌else◌}
 use Rattle.std.specs.List.{flat_map}
 use Rattle.tc_base.specs.declared.hook.Hook.{Hook}
 use Rattle.pcap_io.specs.declared.capture.Packet.{Packet}
@@ -19,7 +20,11 @@ abbrev pub outcomes_of : State → Hook → List Packet → List Outcome
 outcomes_of s hook packets = map (λ (p : Packet). plain_walk s hook p.bytes) packets
 
 abbrev pub end_of : Outcome → PacketEnd
-end_of outcome = record { verdict = outcome.verdict; length = length outcome.frame.bytes; meta = outcome.frame.meta }
+end_of outcome = record {
+  verdict = outcome.verdict;
+  length = length outcome.frame.bytes;
+  meta = outcome.frame.meta;
+}
 
 -- ---- the packets that pass
 -- an original length, and a frame's growth, held between 0 and 2^32 - 1
@@ -76,8 +81,10 @@ together a b = record { packets = a.packets + b.packets; bytes = a.bytes + b.byt
 -- counts by serial from one on, with further executions
 abbrev pub each_added : ℕ → List Count → List Execution → List Count
 each_added serial [] executed = []
-each_added serial (count ∷ counts) executed = together count (count_at executed serial) ∷ each_added (serial + 1) counts executed
+each_added serial (count ∷ counts) executed = together count (count_at executed serial)
+    ∷ each_added (serial + 1) counts executed
 
 -- what so many walks can count
 abbrev pub AreFew : ℕ → List Count → Type 0
-AreFew walks counts = Each (λ (count : Count). (count.packets ≤ walks * VISITS_MAX) × (count.bytes ≤ walks * 17179869184)) counts
+AreFew walks counts = Each (λ (count : Count). (count.packets ≤ walks * VISITS_MAX)
+    × (count.bytes ≤ walks * 17179869184)) counts

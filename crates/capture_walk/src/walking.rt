@@ -7,7 +7,8 @@ ghost use Rattle.filter_state.specs.States.{State};
 ghost use Rattle.filter_lists.specs.Spells.{Spells};
 ghost use Rattle.walk_rules.specs.Walks.{outcome_of};
 ghost use Rattle.capture_walk.specs.declared.limits.TheConstants.{PACKETS_MAX};
-ghost use Rattle.capture_walk.specs.Captures.{outcomes_of, end_of, passed, counts_of, executed_in, passed_one, regrown};
+ghost use Rattle.capture_walk.specs.Captures.{outcomes_of, end_of, passed, counts_of, executed_in};
+ghost use Rattle.capture_walk.specs.Captures.{passed_one, regrown};
 
 use crate::counts::{Count, add_executed, no_counts};
 use crate::ends::PacketEnd;
@@ -58,9 +59,11 @@ impl WalkedCapture {
     fn add(&mut self, walk: &Walk, packet: PacketView<'_>) -> Result<(), NoMemory>
         requires room { Each HasRoomForRun self.old.counts.items }
         requires short { length packet.bytes.now ≤ FRAME_MAX }
-        ensures added { OnOk result (IfSome (outcome_of walk.now.standing) (IsAdded (packet_of packet.entry) self.old self.new)) }
+        ensures added { OnOk result
+            (IfSome (outcome_of walk.now.standing) (IsAdded (packet_of packet.entry) self.old self.new)) }
         ensures short { OnOk result (AreShort self.old.passed → AreShort self.new.passed) }
-        ensures few { OnOk result ((walks : ℕ) → AreFew walks self.old.counts.items → AreFew (walks + 1) self.new.counts.items) }
+        ensures few { OnOk result ((walks : ℕ) → AreFew walks self.old.counts.items
+            → AreFew (walks + 1) self.new.counts.items) }
     {
         self.ends.push(PacketEnd::of_walk(walk))?;
         add_executed(&mut self.counts, walk.executed());
@@ -79,10 +82,13 @@ pub fn walk_capture(
 ) -> Result<WalkedCapture, NoMemory>
     requires few { length packets.now ≤ PACKETS_MAX }
     requires short { AreShort packets.now }
-    ensures ends { IfOk result (λ w. (s : State) → Spells lists.now s → w.ends.items ≡ map end_of (outcomes_of s hook packets.now)) }
-    ensures passed { IfOk result (λ w. (s : State) → Spells lists.now s → w.passed ≡ passed s hook packets.now) }
+    ensures ends { IfOk result (λ w. (s : State) → Spells lists.now s
+        → w.ends.items ≡ map end_of (outcomes_of s hook packets.now)) }
+    ensures passed { IfOk result (λ w. (s : State) → Spells lists.now s
+        → w.passed ≡ passed s hook packets.now) }
     ensures short { IfOk result (λ w. AreShort w.passed) }
-    ensures counts { IfOk result (λ w. (s : State) → Spells lists.now s → w.counts.items ≡ counts_of s.actions_made (executed_in (outcomes_of s hook packets.now))) }
+    ensures counts { IfOk result (λ w. (s : State) → Spells lists.now s
+        → w.counts.items ≡ counts_of s.actions_made (executed_in (outcomes_of s hook packets.now))) }
 {
     let mut walk = Walk::with_room(alloc)?;
     let mut walked = WalkedCapture::with_room(alloc, packets, lists.actions().made())?;

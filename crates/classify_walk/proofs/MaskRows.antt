@@ -1,4 +1,5 @@
--- The rows of a mask are those of its own filters: no other table, and no other mask of its table, has rows of its serial.
+-- The rows of a mask are those of its own filters: no other table, and no other mask of its table, has rows
+-- of its serial.
 use Rattle.std.proofs.Common.{◌≡◌, ◌∙◌, inl, inr, ℕ, ◌==◌, ◌&&◌, ◌<◌, Bool, true, false, cond, List, [], ◌∷◌, Some, refl, sym, ap, subst, arith, eqb-true, eq-eqb}
 use Rattle.std.specs.Prelude.{filter}
 use Rattle.std.specs.List.{flat_map}

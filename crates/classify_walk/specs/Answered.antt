@@ -11,7 +11,8 @@ use Rattle.walk_rules.specs.Questions.{Question, Answer}
 use Rattle.walk_rules.specs.Answers.{answer_of}
 
 -- the lists are whole and sound, and the answer is that of each state that they spell, at their point
-pub record StillTold (lists : Kept) (at : ℕ) (question : Question) (answer : Answer) (point : ℕ) : Type 0 where
+pub record StillTold (lists : Kept) (at : ℕ) (question : Question) (answer : Answer)
+    (point : ℕ) : Type 0 where
   pub kept : AreKept lists
   pub answers : (s : State) → Spells lists s → answer_of s question ≡ Some answer
   pub here : point ≡ at

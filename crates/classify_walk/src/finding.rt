@@ -1,5 +1,6 @@
 //! A mask by its name, and its filter for a frame.
-ghost use Rattle.std.specs.Prelude.{◌≡◌, ◌≤◌, ℕ, [], false, length, map, find, is_some, Some, None, IsSomeAnd, IfSome, IfNone};
+ghost use Rattle.std.specs.Prelude.{◌≡◌, ◌≤◌, ℕ, [], false, length, map, find, is_some, Some, None};
+ghost use Rattle.std.specs.Prelude.{IsSomeAnd, IfSome, IfNone};
 ghost use Rattle.std.specs.List.{list_any};
 ghost use Rattle.flow_fields.specs.Values.{values_of};
 ghost use Rattle.filter_state.specs.States.{State};
@@ -13,7 +14,8 @@ ghost use Rattle.walk_rules.specs.Answers.{answer_of};
 ghost use Rattle.visit_room.specs.declared.names.ActionName.{ActionName as ActionValue};
 ghost use Rattle.walk_steps.specs.Told.{filter_told, action_serials};
 ghost use Rattle.classify_walk.specs.Answered.{StandsMask, StandsAction};
-ghost use Rattle.classify_walk.specs.Found.{is_mask, has_mask, IsOneOf, IsIn, IsMaskOf, is_met, actions_in, FewActions, AreTidy};
+ghost use Rattle.classify_walk.specs.Found.{is_mask, has_mask, IsOneOf, IsIn, IsMaskOf, is_met, actions_in};
+ghost use Rattle.classify_walk.specs.Found.{FewActions, AreTidy};
 
 use filter_lists::{FilterTable, Lists, MaskList};
 use flow_fields::Key;
@@ -25,7 +27,9 @@ use visit_room::{ActionName, Hit, MaskName};
 pub(crate) fn look_up(lists: &Lists, mask: MaskName, key: &Key<14>, into: &mut Hit) -> bool
     requires empty { into.old ≡ [] }
     requires known { StandsMask lists.now mask.serial }
-    ensures told { (table : ℕ) (s : State) → Spells lists.now s → answer_of s (filter_of table mask.serial (values_of key.now.words)) ≡ Some (filter_told result into.new) }
+    ensures told { (table : ℕ) (s : State) → Spells lists.now s
+        → answer_of s (filter_of table mask.serial (values_of key.now.words))
+        ≡ Some (filter_told result into.new) }
     ensures actions { Each (λ (action : ActionValue). StandsAction lists.now action.serial) into.new }
     ensures kept { AreKept lists.now }
 {
@@ -93,13 +97,17 @@ fn mask_in(masks: &[MaskList], serial: u32) -> Option<&MaskList>
     None
 }
 
-// Whether the mask has a filter that a frame of that key meets, found by the key's words under the mask; its actions are told.
+// Whether the mask has a filter that a frame of that key meets, found by the key's words under the mask; its
+// actions are told.
 fn find_actions(list: &MaskList, key: &Key<14>, into: &mut Hit) -> bool
     requires empty { into.old ≡ [] }
     requires few { FewActions (plain_mask list.now) }
     requires tidy { AreTidy (plain_mask list.now) }
-    ensures found { result ≡ is_some (find (is_met (values_of key.now.words) (plain_mask list.now)) list.now.filters.filters) }
-    ensures actions { action_serials into.new ≡ actions_in (find (is_met (values_of key.now.words) (plain_mask list.now)) list.now.filters.filters) }
+    ensures found { result
+        ≡ is_some (find (is_met (values_of key.now.words) (plain_mask list.now)) list.now.filters.filters) }
+    ensures actions { action_serials into.new
+        ≡ actions_in
+        (find (is_met (values_of key.now.words) (plain_mask list.now)) list.now.filters.filters) }
 {
     let _words = words_of(key);
     match list.filters.with_key(&masked(key, &list.mask)) {

@@ -28,8 +28,8 @@ fn slot_of(hook: Hook, table: usize, mask: usize) -> u32
 
 /// Tells the tables of a hook, in place of those that were told.
 ///
-/// Walks over lists that stay as they are get the same tables each time. So those of the last walk are looked at first: that costs half
-/// as much as telling them anew.
+/// Walks over lists that stay as they are get the same tables each time. So those of the last walk are looked
+/// at first: that costs half as much as telling them anew.
 pub(crate) fn tell_heads(lists: &Lists, hook: Hook, into: &mut HeadRoom)
     ensures told { heads_told into.new.tables ≡ map head_of (tables_on hook (both_of lists.now)) }
     ensures kept { AreKept lists.now }
@@ -99,7 +99,8 @@ fn tell_masks(masks: &[MaskList], hook: Hook, table: usize, into: &mut HeadRoom)
     requires table { table < TABLES_MAX }
     requires few { length masks.now ≤ 16 }
     requires bare { last_masks into.old.tables ≡ Some [] }
-    ensures { heads_told into.new.tables ≡ with_masks_behind (serials_of (map plain_mask masks.now)) (heads_told into.old.tables) }
+    ensures { heads_told into.new.tables
+        ≡ with_masks_behind (serials_of (map plain_mask masks.now)) (heads_told into.old.tables) }
 {
     for (place, mask) in masks.iter().enumerate() {
         into.push_mask(MaskName {

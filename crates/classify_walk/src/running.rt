@@ -13,11 +13,12 @@ use filter_lists::Lists;
 use tc_base::{Hook, Point};
 use walk_steps::{Walk, run};
 
-/// Takes a frame of at most 262,144 bytes through a hook of lists that stay as they are: the plain walk over the state that they
-/// spell. Every visit has that point.
+/// Takes a frame of at most 262,144 bytes through a hook of lists that stay as they are: the plain walk over
+/// the state that they spell. Every visit has that point.
 pub fn walk_still(walk: &mut Walk, lists: &Lists, point: Point, hook: Hook, bytes: &[u8])
     requires { length bytes.now ≤ FRAME_MAX }
-    ensures plain { (s : State) → Spells lists.now s → outcome_of walk.new.standing ≡ Some (plain_walk s hook bytes.now) }
+    ensures plain { (s : State) → Spells lists.now s
+        → outcome_of walk.new.standing ≡ Some (plain_walk s hook bytes.now) }
     ensures points { Each (λ visited. visited ≡ point) walk.new.points }
     ensures few { length walk.new.points ≤ VISITS_MAX }
 {

@@ -20,7 +20,8 @@ impl Visits for Still<'_> {
     ghost use Rattle.std.specs.Prelude.{◌≡◌};
     ghost use Rattle.classify_walk.specs.Answered.{StillTold, StandsMask, StandsAction};
 
-    ghost told = { λ old question answer point new. StillTold old.lists.now old.point question answer point × (new ≡ old) };
+    ghost told = { λ old question answer point new. StillTold old.lists.now old.point question answer point
+        × (new ≡ old) };
 
     ghost knows_mask = { λ v table mask. StandsMask v.lists.now mask.serial };
 

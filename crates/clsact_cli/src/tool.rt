@@ -1,6 +1,7 @@
 //! The top call.
 ghost use Rattle.tool_words.specs.Command.{texts};
-ghost use Rattle.tool_run.specs.Promises.{UsageExactlyForNoCommand, DoneOnlyIfDelivered, HasCause, DueUnlessFailed, DoneIfReady, NothingIfAtFault, CameInOrder};
+ghost use Rattle.tool_run.specs.Promises.{UsageExactlyForNoCommand, DoneOnlyIfDelivered, HasCause};
+ghost use Rattle.tool_run.specs.Promises.{DueUnlessFailed, DoneIfReady, NothingIfAtFault, CameInOrder};
 
 use std::alloc::Global;
 use std::sync::Wait;

@@ -1,4 +1,5 @@
--- What an accepted edit tells: none of its refusals applied, and the state and the answer are those behind them.
+-- What an accepted edit tells: none of its refusals applied, and the state and the answer are those behind
+-- them.
 use Rattle.std.proofs.Common.{◌≡◌, ℕ, List, Option, Some, None, Result, Ok, refl, ap}
 use Rattle.filter_state.specs.declared.refusal.Done.{Done}
 use Rattle.filter_state.specs.declared.refusal.Done.TheVariants as dones

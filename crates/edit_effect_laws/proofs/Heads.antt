@@ -1,4 +1,5 @@
--- The tables of a hook stay where a row comes or goes of a mask that keeps another, and where rows get other actions.
+-- The tables of a hook stay where a row comes or goes of a mask that keeps another, and where rows get other
+-- actions.
 use Rattle.std.proofs.Common.{◌≡◌, ℕ, Bool, true, false, not, cond, List, [], ◌∷◌, ◌++◌, map, refl, sym, ◌∙◌, ap, eqb-true}
 use Rattle.std.specs.Prelude.{filter}
 use Rattle.std.specs.List.{list_any}

@@ -1,4 +1,5 @@
--- The actions of a list are made or bound, and those of a list that is gone are unbound: none gets other parameters.
+-- The actions of a list are made or bound, and those of a list that is gone are unbound: none gets other
+-- parameters.
 use Rattle.std.proofs.Common.{◌≡◌, inl, inr, ℕ, ◌+◌, ◌≤◌, Bool, true, false, cond, if◌then◌else◌, List, [], ◌∷◌, map, Option, Some, None, Ok, refl, ◌∙◌, subst, arith}
 use Rattle.act_kinds.specs.declared.params.Kind.{Kind}
 use Rattle.act_kinds.specs.declared.params.Params.{Params}

@@ -1,4 +1,5 @@
--- The tables of sorted rows: what counts of a row, and that it doesn't matter where among the rows it was accepted, or how often.
+-- The tables of sorted rows: what counts of a row, and that it doesn't matter where among the rows it was
+-- accepted, or how often.
 use Rattle.std.proofs.Common.{◌≡◌, ℕ, ◌==◌, Bool, true, false, cond, ◌||◌, List, [], ◌∷◌, ◌++◌, map, refl, sym, ◌∙◌, ap, subst, eqb-true, eq-eqb}
 use Rattle.std.specs.List.{list_any}
 use Rattle.std.proofs.lemmas.Bool.{false≢true, eqb-false}

@@ -39,9 +39,11 @@ pub record ChangesHook (hook : Hook) (IsConcerned : ℕ → Type 0) (s t : State
   pub others : (mask : ℕ) → (IsConcerned mask → ⊥) → KeepsMask mask s t
 
 -- ---- actions
--- what is live afterwards was live before with these parameters, or has a serial that was given to none before
+-- what is live afterwards was live before with these parameters, or has a serial that was given to none
+-- before
 pub record KeepsActions (s t : State) : Type 0 where
-  pub stays : (serial : ℕ) (params : Params) → params_at s serial ≡ Some params → (params_at t serial ≡ Some params) ⊎ (params_at t serial ≡ None)
+  pub stays : (serial : ℕ) (params : Params) → params_at s serial ≡ Some params
+      → (params_at t serial ≡ Some params) ⊎ (params_at t serial ≡ None)
   pub comes : (serial : ℕ) → params_at s serial ≡ None → (params_at t serial ≢ None) → s.actions_made < serial
 
 -- none goes
@@ -60,4 +62,5 @@ pub record ChangesAction (serial : ℕ) (params : Params) (s t : State) : Type 0
 -- ---- lists of filters
 -- the filter of a handle with other actions, in its place
 abbrev pub with_actions : ℕ → List ℕ → List Filter → List Filter
-with_actions handle serials filters = map (λ (f : Filter). if is_handle handle f then record f { actions = serials } else f) filters
+with_actions handle serials filters =
+    map (λ (f : Filter). if is_handle handle f then record f { actions = serials } else f) filters

@@ -1,4 +1,5 @@
--- A small state, worked out by hand: two filters of mask 1 with a filter of mask 2 between them, and action 3.
+-- A small state, worked out by hand: two filters of mask 1 with a filter of mask 2 between them, and action
+-- 3.
 use Rattle.std.specs.Prelude.{ℕ, true, List, [], ◌∷◌}
 use Rattle.tc_base.specs.declared.hook.Hook.TheVariants as hooks
 use Rattle.tc_base.specs.declared.hook.Proto.TheVariants as protocols

@@ -35,7 +35,8 @@ words_of s mask = words_in (first_where (of_mask mask) s.rows)
 
 -- the parameters of a live action
 abbrev pub params_at : State → ℕ → Option Params
-params_at s serial = option_map (λ (action : Action). action.params) (first_where (has_serial serial) s.actions)
+params_at s serial =
+    option_map (λ (action : Action). action.params) (first_where (has_serial serial) s.actions)
 
 -- ---- lists of filters
 abbrev pub is_handle : ℕ → Filter → Bool

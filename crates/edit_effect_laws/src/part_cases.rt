@@ -3,7 +3,8 @@ ghost use Rattle.std.specs.Prelude.{◌≡◌, [], ◌∷◌, Some, None};
 ghost use Rattle.edit_effect_laws.specs.Parts.{filters_of, words_of, params_at, without};
 ghost use Rattle.edit_effect_laws.specs.PartCases.{small_state, dropping, filter_with};
 
-/// The filters of a mask are its own, in the order in which they were accepted; what isn't there has none, no words and no parameters.
+/// The filters of a mask are its own, in the order in which they were accepted; what isn't there has none, no
+/// words and no parameters.
 pub fn worked_parts()
     ensures own { filters_of small_state 1 ≡ filter_with 7 1 ∷ filter_with 9 2 ∷ [] }
     ensures other { filters_of small_state 2 ≡ filter_with 8 1 ∷ [] }

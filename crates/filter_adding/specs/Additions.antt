@@ -16,7 +16,8 @@ use Rattle.filter_adding.specs.Arrivals.{row_of_arrival, IsSeat}
 
 -- the state that an addition leads to, and its answer
 abbrev pub state_after : State → Addition → State
-state_after s addition = with_actions (with_row s (row_of_arrival addition.arrival)) (carried (made_of s) addition.actions)
+state_after s addition =
+    with_actions (with_row s (row_of_arrival addition.arrival)) (carried (made_of s) addition.actions)
 
 abbrev pub answer_of : Addition → Done
 answer_of addition = dones.Filter addition.arrival.pref addition.arrival.filter.handle addition.serials
@@ -29,10 +30,11 @@ pub record IsReady (kept : Kept) (addition : Addition) : Type 0 where
   pub masks : kept.masks_made + 1 < 4294967296
   pub filters : kept.filters < FILTERS_MAX
 
--- An addition is planned where the step accepts the edit, and leads where the step does; it is refused for the step's reason, or,
--- where the step accepts the edit, for want of memory.
+-- An addition is planned where the step accepts the edit, and leads where the step does; it is refused for
+-- the step's reason, or, where the step accepts the edit, for want of memory.
 abbrev pub IsPlanned : Kept → Result Addition Refusal → Stepped → Type 0
-IsPlanned kept (Ok addition) (Ok (next, said)) = IsReady kept addition × (state_after (state_of kept) addition ≡ next) × (answer_of addition ≡ said)
+IsPlanned kept (Ok addition) (Ok (next, said)) = IsReady kept addition
+    × (state_after (state_of kept) addition ≡ next) × (answer_of addition ≡ said)
 IsPlanned kept (Err refusal) (Err said) = refusal ≡ said
 IsPlanned kept (Err refusal) (Ok next) = refusal ≡ refusals.NoMemory
 IsPlanned kept planned stepped = ⊥

@@ -28,7 +28,8 @@ row_of_arrival a = record {
   actions = a.filter.actions;
 }
 
--- the table stands at the place, and is the one that the filter is to stand in; no filter of it has the handle
+-- the table stands at the place, and is the one that the filter is to stand in; no filter of it has the
+-- handle
 pub record IsTable (kept : Kept) (a : Arrival) (place : ℕ) (table : PlainTable) : Type 0 where
   pub stands : item_at (tables_on a.hook (both_of kept)) place ≡ Some table
   pub chain : table.chain ≡ a.chain
@@ -52,9 +53,12 @@ pub record IsEmptyRoom (room : FilterRoom) : Type 0 where
 -- the seat is there, there is room, and a new serial is the next
 abbrev pub IsSeat : Kept → Arrival → Seat → Type 0
 IsSeat kept a (seats.InMask place at) =
-    (table : PlainTable) × (mask : PlainMask) × IsTable kept a place table × IsMask a at table mask × (0 < filters_spare (room_on a.hook kept).spares place at)
+    (table : PlainTable) × (mask : PlainMask) × IsTable kept a place table × IsMask a at table mask
+    × (0 < filters_spare (room_on a.hook kept).spares place at)
 IsSeat kept a (seats.NewMask place filters) =
-    (table : PlainTable) × IsTable kept a place table × (a.mask_serial ≡ kept.masks_made + 1) × IsEmptyRoom filters × (0 < masks_spare (room_on a.hook kept).spares place)
+    (table : PlainTable) × IsTable kept a place table × (a.mask_serial ≡ kept.masks_made + 1)
+    × IsEmptyRoom filters × (0 < masks_spare (room_on a.hook kept).spares place)
 IsSeat kept a (seats.NewTable masks filters) =
-    (list_any (is_table a.chain a.pref) (tables_on a.hook (both_of kept)) ≡ false) × (a.table_serial ≡ kept.tables_made + 1) × (a.mask_serial ≡ kept.masks_made + 1)
+    (list_any (is_table a.chain a.pref) (tables_on a.hook (both_of kept)) ≡ false)
+    × (a.table_serial ≡ kept.tables_made + 1) × (a.mask_serial ≡ kept.masks_made + 1)
     × IsEmptyRoom filters × (masks.masks ≡ []) × (0 < masks.spare) × (0 < (room_on a.hook kept).spare)

@@ -4,7 +4,8 @@ use Rattle.filter_state.specs.declared.edit.FilterLine.{FilterLine}
 use Rattle.filter_state.specs.declared.refusal.Refusal.{Refusal}
 use Rattle.filter_state.specs.States.{State}
 use Rattle.filter_state.specs.Actions.{Made, Resolved}
-use Rattle.filter_state.specs.Refusals.{or_else, protocol_clash, handle_taken, exists_but, tables_full, masks_full, filters_full, actions_full, counters_full}
+use Rattle.filter_state.specs.Refusals.{or_else, protocol_clash, handle_taken, exists_but, tables_full}
+use Rattle.filter_state.specs.Refusals.{masks_full, filters_full, actions_full, counters_full}
 use Rattle.filter_state.specs.Steps.{filter_add, filter_added}
 use Rattle.filter_tables.specs.Places.{place_where}
 use Rattle.filter_tables.specs.Changes.{is_table}
@@ -19,13 +20,15 @@ use Rattle.filter_adding.specs.declared.looking.Found.{Found}
 abbrev pub place_refusal : State → FilterLine → ℕ → Option Refusal
 place_refusal s line pref =
     or_else (protocol_clash s line.hook line.chain pref line.protocol)
-    (or_else (handle_taken s line.hook line.chain pref line.handle) (exists_but s line.hook line.chain pref None line.mask.words line.key.words))
+    (or_else (handle_taken s line.hook line.chain pref line.handle)
+    (exists_but s line.hook line.chain pref None line.mask.words line.key.words))
 
 -- what the limits refuse, where the actions come to those
 abbrev pub limit_refusal : State → FilterLine → ℕ → Made → Option Refusal
 limit_refusal s line pref next =
     or_else (tables_full s line.hook line.chain pref)
-    (or_else (masks_full s line.hook line.chain pref line.mask.words) (or_else (filters_full s) (or_else (actions_full next) (counters_full next))))
+    (or_else (masks_full s line.hook line.chain pref line.mask.words)
+    (or_else (filters_full s) (or_else (actions_full next) (counters_full next))))
 
 -- the actions of a plan, as the state resolves them
 abbrev pub resolved_by_plan : Made → List PlannedAction → Resolved
@@ -36,8 +39,10 @@ pub record IsFound (kept : Kept) (line : FilterLine) (found : Found) : Type 0 wh
   pub place : found.place ≡ place_where (is_table line.chain found.pref) (tables_on line.hook (both_of kept))
   pub placed : place_refusal (state_of kept) line found.pref ≡ None
   pub fit : AreFit (made_of kept.actions) found.actions
-  pub limits : limit_refusal (state_of kept) line found.pref (carried (made_of kept.actions) found.actions) ≡ None
-  pub accepted : filter_add (state_of kept) line ≡ filter_added (state_of kept) line found.pref (resolved_by_plan (made_of kept.actions) found.actions)
+  pub limits : limit_refusal (state_of kept) line found.pref (carried (made_of kept.actions) found.actions)
+      ≡ None
+  pub accepted : filter_add (state_of kept) line
+      ≡ filter_added (state_of kept) line found.pref (resolved_by_plan (made_of kept.actions) found.actions)
 
 -- what was found, or the refusal
 abbrev pub found_or : Found → Result (Unit {0}) Refusal → Result Found Refusal

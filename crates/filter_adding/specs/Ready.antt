@@ -13,7 +13,8 @@ use Rattle.filter_adding.specs.Seats.{IsTableSerial, IsMaskSerial, IsFreeHandle}
 use Rattle.filter_adding.specs.Additions.{IsReady, state_after, answer_of}
 
 -- the filter of a line, with the numbers of its seat
-pub record IsArrival (kept : Kept) (line : FilterLine) (pref : ℕ) (serials : List ℕ) (seat : Seat) (a : Arrival) : Type 0 where
+pub record IsArrival (kept : Kept) (line : FilterLine) (pref : ℕ) (serials : List ℕ) (seat : Seat)
+    (a : Arrival) : Type 0 where
   pub free : ℕ
   pub on : a.hook ≡ line.hook
   pub chain : a.chain ≡ line.chain
@@ -30,4 +31,5 @@ pub record IsArrival (kept : Kept) (line : FilterLine) (pref : ℕ) (serials : L
 -- the addition can be done, and leads where the step does
 pub record IsAdded (kept : Kept) (line : FilterLine) (addition : Addition) : Type 0 where
   pub ready : IsReady kept addition
-  pub accepted : filter_add (state_of kept) line ≡ Ok (state_after (state_of kept) addition, answer_of addition)
+  pub accepted : filter_add (state_of kept) line
+      ≡ Ok (state_after (state_of kept) addition, answer_of addition)

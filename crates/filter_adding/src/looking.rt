@@ -118,7 +118,8 @@ fn check_handle(
 ) -> Result<(), Refusal>
     requires kept { AreKept kept.now }
     requires place { place ≡ place_on line.now.hook line.now.chain pref kept.now }
-    ensures { refusal_of result ≡ handle_taken (state_of kept.now) line.now.hook line.now.chain pref line.now.handle }
+    ensures { refusal_of result
+        ≡ handle_taken (state_of kept.now) line.now.hook line.now.chain pref line.now.handle }
 {
     let Some(handle) = line.handle else {
         return Ok(());
@@ -149,7 +150,8 @@ fn check_limits(
 ) -> Result<(), Refusal>
     requires kept { AreKept kept.now }
     requires place { place ≡ place_on line.now.hook line.now.chain pref kept.now }
-    ensures { refusal_of result ≡ limit_refusal (state_of kept.now) line.now pref (carried (made_of kept.now.actions) actions.now) }
+    ensures { refusal_of result
+        ≡ limit_refusal (state_of kept.now) line.now pref (carried (made_of kept.now.actions) actions.now) }
 {
     check_tables(kept, line, pref, place)?;
     check_masks(kept, line.hook, line.chain, pref, place, &line.mask)?;
@@ -176,7 +178,8 @@ fn check_tables(
 
 // Whether a table that isn't there would be one too many.
 fn has_no_room(kept: &Kept, hook: Hook, place: Option<usize>) -> bool
-    ensures { result ≡ (not (is_some place) && nat_le TABLES_MAX (length (tables_on hook (both_of kept.now)))) }
+    ensures { result
+        ≡ (not (is_some place) && nat_le TABLES_MAX (length (tables_on hook (both_of kept.now)))) }
 {
     place.is_none() && table_count(kept, hook) >= TABLES_MAX
 }

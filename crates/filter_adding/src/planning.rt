@@ -22,8 +22,9 @@ use tc_base::{NoMemory, Numbers};
 
 /// Makes the line's filter ready to be added, or answers why it is refused.
 ///
-/// `NoHook`, `NoPref`, `ProtocolClash`, `HandleTaken`, `Exists`, `NoSuchAction`, `TablesFull`, `MasksFull`, `FiltersFull`,
-/// `ActionsFull`, `CountersFull`: the first that applies. `NoMemory`: none of these, and memory was refused.
+/// `NoHook`, `NoPref`, `ProtocolClash`, `HandleTaken`, `Exists`, `NoSuchAction`, `TablesFull`, `MasksFull`,
+/// `FiltersFull`, `ActionsFull`, `CountersFull`: the first that applies. `NoMemory`: none of these, and
+/// memory was refused.
 pub fn prepare_addition(kept: &mut Kept, line: &FilterLine) -> Result<Addition, Refusal>
     requires kept { AreKept kept.old }
     requires line { IsFilter line.now }

@@ -80,7 +80,8 @@ fn seat_in_table(
 // The place of the mask in the table.
 fn find_mask(tables: &FilterTables, table: usize, mask: &Key<14>) -> Option<usize>
     requires { table < length tables.now.tables }
-    ensures { (t : PlainTable) → item_at tables.now.tables table ≡ Some t → result ≡ place_where (has_words mask.now.words) t.masks }
+    ensures { (t : PlainTable) → item_at tables.now.tables table ≡ Some t
+        → result ≡ place_where (has_words mask.now.words) t.masks }
 {
     tables.as_slice()[table].masks.find_mask(mask)
 }

@@ -1,4 +1,5 @@
--- Where a test finds its value among slots of which some are empty, and how a new, a changed or an emptied slot moves that.
+-- Where a test finds its value among slots of which some are empty, and how a new, a changed or an emptied
+-- slot moves that.
 use Rattle.std.proofs.Common.{◌≡◌, ℕ, suc, Bool, true, false, cond, ◌||◌, List, [], ◌∷◌, ◌++◌, length, Option, Some, None, refl, sym, ap, ◌∙◌}
 use Rattle.std.specs.Prelude.{is_some, option_map}
 use Rattle.std.specs.List.{list_any}

@@ -1,5 +1,6 @@
 -- The filters of one mask as a list, and what the calls make of it (this project's own).
-use Rattle.std.specs.Prelude.{◌≡◌, ℕ, ◌==◌, Bool, false, not, List, [], ◌∷◌, Option, Some, None, filter, map, if◌then◌else◌}
+use Rattle.std.specs.Prelude.{◌≡◌, ℕ, ◌==◌, Bool, false, not, List, [], ◌∷◌, Option, Some, None, filter, map}
+use Rattle.std.specs.Prelude.{if◌then◌else◌}
 use Rattle.std.specs.Str.{bytes_eq}
 use Rattle.std.specs.List.{AllPairs}
 use Rattle.filter_index.specs.declared.filter.Filter.{Filter}
@@ -32,7 +33,8 @@ without handle filters = filter (λ f. not (has_handle handle f)) filters
 
 -- the filters, where the one of that handle has other actions
 abbrev pub with_actions : ℕ → List ℕ → List Filter → List Filter
-with_actions handle actions filters = map (λ f. if has_handle handle f then record f { actions = actions } else f) filters
+with_actions handle actions filters =
+    map (λ f. if has_handle handle f then record f { actions = actions } else f) filters
 
 -- the values that are there, in order
 abbrev pub those_there : {X : Type 0} → List (Option X) → List X

@@ -1,5 +1,6 @@
 //! The filters of one mask, and two indexes beside them.
-ghost use Rattle.std.specs.Prelude.{◌≡◌, ◌<◌, ◌≤◌, ◌++◌, ◌∷◌, [], length, find, option_map, Some, IsSome, IsOk, IfOk, IfSome, OnOk, OnErr, ◌+◌, true, false, ◌==◌};
+ghost use Rattle.std.specs.Prelude.{◌≡◌, ◌<◌, ◌≤◌, ◌++◌, ◌∷◌, [], length, find, option_map, Some, IsSome};
+ghost use Rattle.std.specs.Prelude.{IsOk, IfOk, IfSome, OnOk, OnErr, ◌+◌, true, false, ◌==◌};
 ghost use Rattle.std.specs.Option.{option_copied};
 ghost use Rattle.std.specs.List.{list_any};
 ghost use Rattle.filter_index.specs.declared.filter.Filter.{Filter};
@@ -36,14 +37,16 @@ impl Model for Filters {
 
     ghost view = { λ l. record {
       filters = those_there l.slots.items;
-      spare = min (vec_capacity l.slots - length l.slots.items) (min (hash_maps.spare l.handles) (hash_maps.spare l.keys));
+      spare = min (vec_capacity l.slots - length l.slots.items)
+          (min (hash_maps.spare l.handles) (hash_maps.spare l.keys));
     } };
 
     ghost invariant = { λ l. AreIndexed l.handles l.keys l.slots.items };
 }
 
 impl Filters {
-    ghost use Rattle.filter_index.specs.Listed.{has_handle, has_key, without, with_actions, those_there, AreApart};
+    ghost use Rattle.filter_index.specs.Listed.{has_handle, has_key, without, with_actions, those_there};
+    ghost use Rattle.filter_index.specs.Listed.{AreApart};
 
     /// No filters. It takes no memory yet.
     pub fn new(alloc: Global) -> Filters
@@ -56,8 +59,8 @@ impl Filters {
         }
     }
 
-    /// Makes room for one filter more, and changes nothing else. Empty slots are given up on the way, once they are half of
-    /// the slots or more and no slot is left.
+    /// Makes room for one filter more, and changes nothing else. Empty slots are given up on the way, once
+    /// they are half of the slots or more and no slot is left.
     ///
     /// `NoMemory`: there was no room, and memory was refused.
     pub fn reserve(&mut self) -> Result<(), NoMemory>

@@ -1,26 +1,29 @@
 //! The filters of one mask, found by key and by handle at once.
 //!
-//! A packet is looked up in each mask by its key, and an edit names a filter by its handle or by its key. So the filters
-//! stand in slots, in the order in which they were accepted, and beside them two indexes say in which slot the filter of a
-//! key, and of a handle, stands. A filter that is taken out leaves its slot empty. So no other filter moves, no place in an
-//! index changes, and looking up, putting, taking out and changing a filter cost the same at 4,096 filters as at 16.
+//! A packet is looked up in each mask by its key, and an edit names a filter by its handle or by its key. So
+//! the filters stand in slots, in the order in which they were accepted, and beside them two indexes say in
+//! which slot the filter of a key, and of a handle, stands. A filter that is taken out leaves its slot empty.
+//! So no other filter moves, no place in an index changes, and looking up, putting, taking out and changing a
+//! filter cost the same at 4,096 filters as at 16.
 //!
-//! A `Filters` is the list of its filters, and contracts see no more than that list and for how many more room is reserved.
-//! No two of the filters have the same handle, or the same key. Whoever puts a filter has looked up both before, and an
-//! answer of `with_key` or `with_handle` is that of a search through the whole list.
+//! A `Filters` is the list of its filters, and contracts see no more than that list and for how many more
+//! room is reserved. No two of the filters have the same handle, or the same key. Whoever puts a filter has
+//! looked up both before, and an answer of `with_key` or `with_handle` is that of a search through the whole
+//! list.
 //!
-//! Room is reserved apart from use, so that an edit can be refused for want of memory before it has changed anything. Empty
-//! slots are given up by `reserve` alone: once no slot is left and half of the slots or more are empty, the filters move
-//! together, into room for twice as many. That room is taken before the first filter moves, so a refusal loses nothing. A
-//! move goes through all slots, and at least half as many filters were taken out since the move before.
+//! Room is reserved apart from use, so that an edit can be refused for want of memory before it has changed
+//! anything. Empty slots are given up by `reserve` alone: once no slot is left and half of the slots or more
+//! are empty, the filters move together, into room for twice as many. That room is taken before the first
+//! filter moves, so a refusal loses nothing. A move goes through all slots, and at least half as many filters
+//! were taken out since the move before.
 //!
-//! Whoever goes over all filters takes `slots` and passes over the empty ones. There may be as many slots as room was
-//! reserved for, however few filters are left.
+//! Whoever goes over all filters takes `slots` and passes over the empty ones. There may be as many slots as
+//! room was reserved for, however few filters are left.
 //!
 //! One thread changes a `Filters` at a time, by `&mut`; any may read it by `&`.
 //!
-//! Not promised: that memory suffices, how many slots are empty, in which slot a filter stands, and that keys spread evenly
-//! over the index, whose hash is the same in each run.
+//! Not promised: that memory suffices, how many slots are empty, in which slot a filter stands, and that keys
+//! spread evenly over the index, whose hash is the same in each run.
 #![tactic(auto)]
 
 mod filter;

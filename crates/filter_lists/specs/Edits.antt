@@ -12,16 +12,17 @@ use Rattle.filter_lists.specs.Spells.{Spells}
 abbrev pub Stays : Kept → Kept → Type 0
 Stays old new = state_of new ≡ state_of old
 
--- The lists before and after an edit, and what it was answered, against the step of the state. Both accept it, with one answer,
--- and the new lists spell the new state; or both refuse it for one reason, and the state stays. Want of memory may be answered
--- where the step accepts the edit, and then the state stays too.
+-- The lists before and after an edit, and what it was answered, against the step of the state. Both accept
+-- it, with one answer, and the new lists spell the new state; or both refuse it for one reason, and the state
+-- stays. Want of memory may be answered where the step accepts the edit, and then the state stays too.
 abbrev pub IsStepped : Kept → Kept → Result Done Refusal → Stepped → Type 0
 IsStepped old new (Ok done) (Ok (next, said)) = (done ≡ said) × Spells new next
 IsStepped old new (Err refusal) (Err said) = (refusal ≡ said) × Stays old new
 IsStepped old new (Err refusal) (Ok next) = (refusal ≡ refusals.NoMemory) × Stays old new
 IsStepped old new (Ok done) (Err said) = ⊥
 
--- An edit is prepared where the step accepts it, and refused for the step's reason, or for want of memory where the step accepts it.
+-- An edit is prepared where the step accepts it, and refused for the step's reason, or for want of memory
+-- where the step accepts it.
 abbrev pub IsPrepared : {P : Type 0} → Result P Refusal → Stepped → Type 0
 IsPrepared (Ok prepared) (Ok next) = Unit {0}
 IsPrepared (Err refusal) (Err said) = refusal ≡ said

@@ -30,14 +30,27 @@ Leads kept (plans.Add addition) stepped = additions.IsPlanned kept (Ok addition)
 Leads kept (plans.Replace replacement) stepped = replacements.IsPlanned kept (Ok replacement) stepped
 Leads kept (plans.Remove removal) stepped = removals.IsPlanned kept (Ok removal) stepped
 Leads kept (plans.MakeAction index params) stepped =
-    MayMake kept params index × (stepped ≡ unless None (action_made (state_of kept) params (index_or_free index (kind_of params) (state_of kept).actions)))
+    MayMake kept params index
+    × (stepped
+    ≡ unless None
+    (action_made (state_of kept) params (index_or_free index (kind_of params) (state_of kept).actions)))
 Leads kept (plans.ChangeAction index params) stepped =
-    (is_live (kind_of params) index (state_of kept).actions ≡ true) × (stepped ≡ Ok (with_params (state_of kept) (kind_of params) index params, dones.ActionChanged))
+    (is_live (kind_of params) index (state_of kept).actions ≡ true)
+    × (stepped ≡ Ok (with_params (state_of kept) (kind_of params) index params, dones.ActionChanged))
 Leads kept (plans.DelAction kind index) stepped =
-    (registries.delete_refusal (find (entries.is_named kind_number (number_of_kind kind) index) kept.actions.entries) ≡ None)
-    × (stepped ≡ Ok (record (state_of kept) { actions = filter (λ action. not (is_named kind index action)) (state_of kept).actions }, dones.ActionGone))
+    (registries.delete_refusal
+    (find (entries.is_named kind_number (number_of_kind kind) index) kept.actions.entries) ≡ None)
+    × (stepped
+    ≡ Ok (
+      record (state_of kept) {
+        actions = filter (λ action. not (is_named kind index action))
+            (state_of kept).actions;
+      },
+      dones.ActionGone,
+    ))
 
--- an edit is planned where the step accepts it; it is refused for the step's reason, or, where the step accepts it, for want of memory
+-- an edit is planned where the step accepts it; it is refused for the step's reason, or, where the step
+-- accepts it, for want of memory
 abbrev pub IsPlanned : Kept → Result Plan Refusal → Stepped → Type 0
 IsPlanned kept (Ok plan) stepped = Leads kept plan stepped
 IsPlanned kept (Err refusal) (Err said) = refusal ≡ said

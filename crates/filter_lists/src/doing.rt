@@ -18,7 +18,8 @@ use hook_lists::Kept;
 pub(crate) fn carry(kept: &mut Kept, plan: Plan) -> Done
     requires kept { AreKept kept.old }
     requires leads { (next : State) × (said : Done) × Leads kept.old plan (Ok (next, said)) }
-    ensures { (next : State) (said : Done) → Leads kept.old plan (Ok (next, said)) → IsDone kept.new result next said }
+    ensures { (next : State) (said : Done) → Leads kept.old plan (Ok (next, said))
+        → IsDone kept.new result next said }
 {
     match plan {
         Plan::HookAdd => {

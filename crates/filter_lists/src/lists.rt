@@ -66,8 +66,8 @@ impl Lists {
         self.kept.hooked
     }
 
-    /// The tables of a hook, by rising chain, then rising pref, with their masks in the order in which they were made. No table and
-    /// no mask is empty.
+    /// The tables of a hook, by rising chain, then rising pref, with their masks in the order in which they
+    /// were made. No table and no mask is empty.
     pub fn tables(&self, hook: Hook) -> &[FilterTable]
         ensures tables { map plain_table result.now ≡ tables_on hook (both_of self.now) }
         ensures kept { AreKept self.now }
@@ -83,15 +83,16 @@ impl Lists {
         &self.kept.actions
     }
 
-    /// Whether `step` and `prepare` may be called: fewer than 4,294,967,295 tables were made so far, and as few masks.
+    /// Whether `step` and `prepare` may be called: fewer than 4,294,967,295 tables were made so far, and as
+    /// few masks.
     pub fn may_step(&self) -> bool
         ensures { IsTrue result → MayStep self.now }
     {
         self.kept.tables_made < u32::MAX && self.kept.masks_made < u32::MAX
     }
 
-    /// Looks at an edit, and makes it ready: `finish` can't refuse it then. The state stays as it was, whatever is answered, and at
-    /// most room is reserved.
+    /// Looks at an edit, and makes it ready: `finish` can't refuse it then. The state stays as it was,
+    /// whatever is answered, and at most room is reserved.
     ///
     /// The refusals are those of `step`.
     pub fn prepare(&mut self, edit: &Edit) -> Result<Prepared, Refusal>
@@ -119,11 +120,12 @@ impl Lists {
         carry(&mut self.kept, prepared.plan)
     }
 
-    /// Applies an edit: the first refusal that applies in the order of the state's step, or the next state with what was done.
+    /// Applies an edit: the first refusal that applies in the order of the state's step, or the next state
+    /// with what was done.
     ///
-    /// Each refusal comes exactly where its condition holds and none before it in the edit's order applies, and changes nothing
-    /// (`specs/Refusals.antt` of filter_state has the conditions, `specs/Steps.antt` their order). `NoMemory`: none applies, and
-    /// memory was refused.
+    /// Each refusal comes exactly where its condition holds and none before it in the edit's order applies,
+    /// and changes nothing (`specs/Refusals.antt` of filter_state has the conditions, `specs/Steps.antt`
+    /// their order). `NoMemory`: none applies, and memory was refused.
     pub fn step(&mut self, edit: &Edit) -> Result<Done, Refusal>
         requires line { IsLine edit.now }
         requires may { MayStep self.old }

@@ -6,8 +6,8 @@ use filter_state::Edit;
 use std::marker::Model;
 use std::snapshot::Snapshot;
 
-/// What is to be done for an edit that wasn't refused, with all the memory that it wants. It may be dropped, and then nothing has
-/// changed.
+/// What is to be done for an edit that wasn't refused, with all the memory that it wants. It may be dropped,
+/// and then nothing has changed.
 #[derive(Drop)]
 pub struct Prepared {
     pub(crate) plan: Plan,
@@ -27,5 +27,6 @@ impl Model for Prepared {
 
     ghost view = { λ p. record { lists = p.lists.value; edit = p.edit.value } };
 
-    ghost invariant = { λ p. IsLine p.edit.value × Leads p.lists.value p.plan (step (state_of p.lists.value) p.edit.value) };
+    ghost invariant = { λ p. IsLine p.edit.value
+        × Leads p.lists.value p.plan (step (state_of p.lists.value) p.edit.value) };
 }

@@ -102,7 +102,8 @@ fn plan_replacement(kept: &mut Kept, line: &FilterLine, old: Old) -> Result<Plan
     requires room { MayStep kept.old }
     requires found { IsFound kept.old line.now (Some old) }
     ensures roomier { IsRoomier kept.old kept.new }
-    ensures planned { (row : Row) → old_row (state_of kept.old) line.now ≡ Some row → IsPlanned kept.new result (replace_at (state_of kept.old) line.now row) }
+    ensures planned { (row : Row) → old_row (state_of kept.old) line.now ≡ Some row
+        → IsPlanned kept.new result (replace_at (state_of kept.old) line.now row) }
 {
     match prepare_replacement(kept, line, old) {
         Ok(replacement) => Ok(Plan::Replace(replacement)),

@@ -23,8 +23,8 @@ use hook_lists::Kept;
 
 /// A new action, with the given index, or the lowest from 1 that its kind doesn't use.
 ///
-/// `ActionExists`: an action of its kind has the given index. `ActionsFull`: 1,024 actions are live. `CountersFull`: 16,384 were
-/// made in this run. `NoMemory`: none of these, and memory was refused.
+/// `ActionExists`: an action of its kind has the given index. `ActionsFull`: 1,024 actions are live.
+/// `CountersFull`: 16,384 were made in this run. `NoMemory`: none of these, and memory was refused.
 pub(crate) fn plan_action_add(kept: &mut Kept, action: &ActionLine) -> Result<Plan, Refusal>
     requires { IsLine (edits.ActionAdd action.now) }
     ensures roomier { IsRoomier kept.old kept.new }
@@ -73,8 +73,10 @@ pub(crate) fn plan_action_del(kept: &Kept, kind: Kind, index: u32) -> Result<Pla
 /// Makes the action that was planned.
 pub(crate) fn make_action(kept: &mut Kept, params: Params, index: Option<u32>) -> Done
     requires kept { AreKept kept.old }
-    requires leads { (next : State) × (said : Done) × Leads kept.old (plans.MakeAction index params) (Ok (next, said)) }
-    ensures { (next : State) (said : Done) → Leads kept.old (plans.MakeAction index params) (Ok (next, said)) → IsDone kept.new result next said }
+    requires leads { (next : State) × (said : Done)
+        × Leads kept.old (plans.MakeAction index params) (Ok (next, said)) }
+    ensures { (next : State) (said : Done) → Leads kept.old (plans.MakeAction index params) (Ok (next, said))
+        → IsDone kept.new result next said }
 {
     match kept.actions.make(params, index, false) {
         Ok((serial, index)) => Done::ActionMade { index, serial },
@@ -85,8 +87,11 @@ pub(crate) fn make_action(kept: &mut Kept, params: Params, index: Option<u32>) -
 /// Gives the action that is there its new parameters.
 pub(crate) fn change_action(kept: &mut Kept, params: Params, index: u32) -> Done
     requires kept { AreKept kept.old }
-    requires leads { (next : State) × (said : Done) × Leads kept.old (plans.ChangeAction index params) (Ok (next, said)) }
-    ensures { (next : State) (said : Done) → Leads kept.old (plans.ChangeAction index params) (Ok (next, said)) → IsDone kept.new result next said }
+    requires leads { (next : State) × (said : Done)
+        × Leads kept.old (plans.ChangeAction index params) (Ok (next, said)) }
+    ensures { (next : State) (said : Done)
+        → Leads kept.old (plans.ChangeAction index params) (Ok (next, said))
+        → IsDone kept.new result next said }
 {
     match kept.actions.change(index, params) {
         Ok(()) => Done::ActionChanged,
@@ -97,8 +102,10 @@ pub(crate) fn change_action(kept: &mut Kept, params: Params, index: u32) -> Done
 /// Deletes the action that no filter names.
 pub(crate) fn del_action(kept: &mut Kept, kind: Kind, index: u32) -> Done
     requires kept { AreKept kept.old }
-    requires leads { (next : State) × (said : Done) × Leads kept.old (plans.DelAction kind index) (Ok (next, said)) }
-    ensures { (next : State) (said : Done) → Leads kept.old (plans.DelAction kind index) (Ok (next, said)) → IsDone kept.new result next said }
+    requires leads { (next : State) × (said : Done)
+        × Leads kept.old (plans.DelAction kind index) (Ok (next, said)) }
+    ensures { (next : State) (said : Done) → Leads kept.old (plans.DelAction kind index) (Ok (next, said))
+        → IsDone kept.new result next said }
 {
     match kept.actions.delete(kind.number(), index) {
         Ok(()) => Done::ActionGone,
@@ -115,8 +122,10 @@ fn is_there(kept: &Kept, kind: Kind, index: u32) -> bool
 // No refusal of a new action names an index.
 fn plan_make(kept: &mut Kept, params: Params, index: Option<u32>) -> Result<Plan, Refusal>
     ensures roomier { IsRoomier kept.old kept.new }
-    ensures planned { IsPlanned kept.new result (unless (action_exists (state_of kept.old) (kind_of params) index)
-        (action_made (state_of kept.old) params (index_or_free index (kind_of params) (state_of kept.old).actions))) }
+    ensures planned { IsPlanned kept.new result
+        (unless (action_exists (state_of kept.old) (kind_of params) index)
+        (action_made (state_of kept.old) params
+        (index_or_free index (kind_of params) (state_of kept.old).actions))) }
 {
     match kept.actions.check_make(params.kind().number(), index) {
         Ok(()) => {}

@@ -1,4 +1,5 @@
--- Rows that leave, in any of the two ways: their places can be let go, and the state is then the one without them.
+-- Rows that leave, in any of the two ways: their places can be let go, and the state is then the one without
+-- them.
 use Rattle.std.proofs.Common.{◌≡◌, ℕ, ◌+◌, ◌≤◌, Bool, not, List, length, filter, refl, sym, ◌∙◌, ap, subst, arith}
 use Rattle.filter_state.specs.declared.refusal.Done.{Done}
 use Rattle.filter_state.specs.States.{Row}

@@ -9,5 +9,6 @@ use Rattle.filter_state.specs.Steps.{Stepped, unless, taken_out}
 
 abbrev pub step_found : State → Hook → ℕ → ℕ → Option ℕ → Stepped
 step_found s hook chain pref (Some handle) =
-    unless (no_such_filter s hook chain pref handle) (Ok (taken_out s (λ row. in_table hook chain pref row && has_handle handle row), dones.FilterGone))
+    unless (no_such_filter s hook chain pref handle)
+    (Ok (taken_out s (λ row. in_table hook chain pref row && has_handle handle row), dones.FilterGone))
 step_found s hook chain pref None = Ok (taken_out s (in_table hook chain pref), dones.TableGone)

@@ -49,9 +49,12 @@ pub fn remove(kept: &mut Kept, removal: Removal) -> Done
 // Takes the filter of that handle out, with its mask and its table if nothing is left in them.
 fn take_filter(kept: &mut Kept, hook: Hook, table: usize, mask: usize, handle: u32) -> Filter
     requires table { table < length (tables_on hook (both_of kept.old)) }
-    requires handle { (t : PlainTable) → item_at (tables_on hook (both_of kept.old)) table ≡ Some t → place_where (has_handle_in handle) t.masks ≡ Some mask }
-    ensures taken { (t : PlainTable) → item_at (tables_on hook (both_of kept.old)) table ≡ Some t → (m : PlainMask) → item_at t.masks mask ≡ Some m → find (has_handle handle) m.filters ≡ Some result }
-    ensures tables { HasTables (on_hook hook (removed table mask handle) (both_of kept.old)) kept.old kept.new }
+    requires handle { (t : PlainTable) → item_at (tables_on hook (both_of kept.old)) table ≡ Some t
+        → place_where (has_handle_in handle) t.masks ≡ Some mask }
+    ensures taken { (t : PlainTable) → item_at (tables_on hook (both_of kept.old)) table ≡ Some t
+        → (m : PlainMask) → item_at t.masks mask ≡ Some m → find (has_handle handle) m.filters ≡ Some result }
+    ensures tables { HasTables (on_hook hook (removed table mask handle) (both_of kept.old)) kept.old
+        kept.new }
 {
     match hook {
         Hook::Ingress => kept.ingress.take(table, mask, handle),
@@ -85,7 +88,8 @@ fn let_go(kept: &mut Kept, filter: &Filter)
 fn let_mask_go(kept: &mut Kept, slots: &[Option<Filter>])
     requires some { length (those_there slots.now) ≤ kept.old.filters }
     requires bound { AreBound (serials_in (those_there slots.now)) kept.old.actions.entries }
-    ensures { HaveLeft (serials_in (those_there slots.now)) (length (those_there slots.now)) kept.old kept.new }
+    ensures { HaveLeft (serials_in (those_there slots.now))
+        (length (those_there slots.now)) kept.old kept.new }
 {
     for slot in slots {
         if let Some(filter) = slot {
@@ -98,7 +102,8 @@ fn let_mask_go(kept: &mut Kept, slots: &[Option<Filter>])
 fn let_all_go(kept: &mut Kept, masks: &[MaskList])
     requires some { length (filters_in (map plain_mask masks.now)) ≤ kept.old.filters }
     requires bound { AreBound (serials_in (filters_in (map plain_mask masks.now))) kept.old.actions.entries }
-    ensures { HaveLeft (serials_in (filters_in (map plain_mask masks.now))) (length (filters_in (map plain_mask masks.now))) kept.old kept.new }
+    ensures { HaveLeft (serials_in (filters_in (map plain_mask masks.now)))
+        (length (filters_in (map plain_mask masks.now))) kept.old kept.new }
 {
     for mask in masks {
         let_mask_go(kept, mask.filters.slots());

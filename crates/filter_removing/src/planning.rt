@@ -15,8 +15,8 @@ use tc_base::{Hook, Proto};
 
 /// What the edit takes out: the filter of the handle, or without one the whole table of that chain and pref.
 ///
-/// `NoHook`: the qdisc isn't there. `ProtocolClash`: a protocol is given, and the table has another. `NoSuchTable`: no table has that
-/// chain and pref. `NoSuchFilter`: the table has no filter of that handle.
+/// `NoHook`: the qdisc isn't there. `ProtocolClash`: a protocol is given, and the table has another.
+/// `NoSuchTable`: no table has that chain and pref. `NoSuchFilter`: the table has no filter of that handle.
 pub fn plan_removal(
     kept: &Kept,
     hook: Hook,

@@ -1,4 +1,5 @@
--- What `replace` owes once the filter was changed: its old actions can be let go, and the state is then the step's.
+-- What `replace` owes once the filter was changed: its old actions can be let go, and the state is then the
+-- step's.
 use Rattle.std.proofs.Common.{◌≡◌, ℕ, ◌&&◌, Bool, List, option_map, refl, sym, ◌∙◌, ap, subst}
 use Rattle.std.proofs.lemmas.List.{append-nil}
 use Rattle.std.proofs.lemmas.Option.{same_Some}

@@ -13,18 +13,22 @@ use Rattle.filter_replacing.specs.declared.replacement.Change.{Change}
 use Rattle.filter_replacing.specs.declared.replacement.Change.TheVariants as changes
 use Rattle.filter_replacing.specs.declared.replacement.Old.{Old}
 
--- the filter that comes has the handle of the old one, its mask has no other filter of its key, and there is room
+-- the filter that comes has the handle of the old one, its mask has no other filter of its key, and there is
+-- room
 abbrev pub FitsIn : List Spare → Old → PlainTable → Change → Type 0
 FitsIn spares old t (changes.Stays actions) = Unit {0}
 FitsIn spares old t (changes.Moves to a) =
     (a.filter.handle ≡ old.handle) × (to < length t.masks) × (0 < filters_spare spares old.table to)
-    × ((m : PlainMask) → item_at t.masks to ≡ Some m → list_any (listed.has_key a.filter.key.words) (listed.without a.filter.handle m.filters) ≡ false)
-FitsIn spares old t (changes.MovesOut filters a) = (a.filter.handle ≡ old.handle) × (0 < masks_spare spares old.table) × (filters.filters ≡ []) × (0 < filters.spare)
+    × ((m : PlainMask) → item_at t.masks to ≡ Some m
+    → list_any (listed.has_key a.filter.key.words) (listed.without a.filter.handle m.filters) ≡ false)
+FitsIn spares old t (changes.MovesOut filters a) = (a.filter.handle ≡ old.handle)
+    × (0 < masks_spare spares old.table) × (filters.filters ≡ []) × (0 < filters.spare)
 
 -- the old filter stands where it is said to, and the change can be made
 pub record CanChange (room : TableRoom) (old : Old) (change : Change) : Type 0 where
   pub within : old.table < length room.tables
-  pub stands : (t : PlainTable) → item_at room.tables old.table ≡ Some t → place_where (has_handle_in old.handle) t.masks ≡ Some old.mask
+  pub stands : (t : PlainTable) → item_at room.tables old.table ≡ Some t
+      → place_where (has_handle_in old.handle) t.masks ≡ Some old.mask
   pub fits : (t : PlainTable) → item_at room.tables old.table ≡ Some t → FitsIn room.spares old t change
 
 -- the actions are those of the old filter
@@ -35,9 +39,11 @@ WereThere tables old gone =
 
 -- the tables after a change, and how many masks were made then
 abbrev pub tables_changed : Old → Change → List PlainTable → List PlainTable
-tables_changed old (changes.Stays actions) = change_at old.table (in_masks (change_at old.mask (other_actions old.handle actions)))
+tables_changed old (changes.Stays actions) =
+    change_at old.table (in_masks (change_at old.mask (other_actions old.handle actions)))
 tables_changed old (changes.Moves to a) = change_at old.table (in_masks (moved old.mask to a.filter))
-tables_changed old (changes.MovesOut filters a) = change_at old.table (in_masks (moved_out old.mask a.mask_serial a.mask.words a.filter))
+tables_changed old (changes.MovesOut filters a) =
+    change_at old.table (in_masks (moved_out old.mask a.mask_serial a.mask.words a.filter))
 
 abbrev pub masks_after : Change → ℕ → ℕ
 masks_after (changes.Stays actions) made = made

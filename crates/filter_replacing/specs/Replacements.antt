@@ -1,5 +1,6 @@
 -- What a replacement comes to, and when it can be done.
-use Rattle.std.specs.Prelude.{◌≡◌, ℕ, ◌<◌, ◌+◌, false, List, find, Option, Some, None, unwrap_or, Result, Ok, Err}
+use Rattle.std.specs.Prelude.{◌≡◌, ℕ, ◌<◌, ◌+◌, false, List, find, Option, Some, None, unwrap_or, Result, Ok}
+use Rattle.std.specs.Prelude.{Err}
 use Rattle.std.specs.List.{list_any}
 use Rattle.filter_state.specs.declared.edit.FilterLine.{FilterLine}
 use Rattle.filter_state.specs.declared.refusal.Done.{Done}
@@ -31,8 +32,10 @@ use Rattle.filter_replacing.specs.declared.replacement.Replacement.{Replacement}
 -- the rows after a change of the old one
 abbrev pub changed : State → Row → Change → State
 changed s old (changes.Stays actions) = record s { rows = with_new_actions old actions s.rows }
-changed s old (changes.Moves to arrival) = with_row (record s { rows = without_row old s.rows }) (row_of_arrival arrival)
-changed s old (changes.MovesOut filters arrival) = with_row (record s { rows = without_row old s.rows }) (row_of_arrival arrival)
+changed s old (changes.Moves to arrival) =
+    with_row (record s { rows = without_row old s.rows }) (row_of_arrival arrival)
+changed s old (changes.MovesOut filters arrival) =
+    with_row (record s { rows = without_row old s.rows }) (row_of_arrival arrival)
 
 -- the new actions are bound or made, and then the old ones are let go
 abbrev pub exchanged : Made → List ℕ → Made
@@ -40,13 +43,15 @@ exchanged next gone = record next { actions = all_unbound gone next.actions }
 
 -- the state that a replacement of that row leads to, and its answer
 abbrev pub state_after : State → Row → Replacement → State
-state_after s old r = with_actions (changed s old r.change) (exchanged (carried (made_of s) r.actions) old.actions)
+state_after s old r =
+    with_actions (changed s old r.change) (exchanged (carried (made_of s) r.actions) old.actions)
 
 abbrev pub answer_of : Replacement → Done
 answer_of r = dones.Filter r.old.pref r.old.handle r.serials
 
 -- the filter stands where it is said to
-pub record IsOld (kept : Kept) (old : Old) (table : PlainTable) (mask : PlainMask) (filter : Filter) : Type 0 where
+pub record IsOld (kept : Kept) (old : Old) (table : PlainTable) (mask : PlainMask)
+    (filter : Filter) : Type 0 where
   pub table_stands : item_at (tables_on old.hook (both_of kept)) old.table ≡ Some table
   pub chain : table.chain ≡ old.chain
   pub pref : table.pref ≡ old.pref
@@ -67,12 +72,16 @@ pub record IsArrival (old : Old) (table : PlainTable) (a : Arrival) : Type 0 whe
 abbrev pub IsPlace : Kept → Old → PlainTable → Change → Type 0
 IsPlace kept old table (changes.Stays actions) = Unit {0}
 IsPlace kept old table (changes.Moves to a) =
-    (other : PlainMask) × IsArrival old table a × (item_at table.masks to ≡ Some other) × (other.serial ≡ a.mask_serial) × (other.mask ≡ a.mask.words)
-    × (list_any (listed.has_key a.filter.key.words) (listed.without old.handle other.filters) ≡ false) × (0 < filters_spare (room_on old.hook kept).spares old.table to)
+    (other : PlainMask) × IsArrival old table a × (item_at table.masks to ≡ Some other)
+    × (other.serial ≡ a.mask_serial) × (other.mask ≡ a.mask.words)
+    × (list_any (listed.has_key a.filter.key.words) (listed.without old.handle other.filters) ≡ false)
+    × (0 < filters_spare (room_on old.hook kept).spares old.table to)
 IsPlace kept old table (changes.MovesOut filters a) =
-    IsArrival old table a × (a.mask_serial ≡ kept.masks_made + 1) × IsEmptyRoom filters × (0 < masks_spare (room_on old.hook kept).spares old.table)
+    IsArrival old table a × (a.mask_serial ≡ kept.masks_made + 1) × IsEmptyRoom filters
+    × (0 < masks_spare (room_on old.hook kept).spares old.table)
 
-pub record IsReady (kept : Kept) (r : Replacement) (table : PlainTable) (mask : PlainMask) (filter : Filter) : Type 0 where
+pub record IsReady (kept : Kept) (r : Replacement) (table : PlainTable) (mask : PlainMask)
+    (filter : Filter) : Type 0 where
   pub old : IsOld kept r.old table mask filter
   pub place : IsPlace kept r.old table r.change
   pub actions : PlanFits kept r.actions
@@ -86,11 +95,12 @@ old_row s line = filter_row line.hook line.chain (unwrap_or line.pref 0) (unwrap
 abbrev pub IsFound : Kept → FilterLine → Option Old → Type 0
 IsFound kept line None = old_row (state_of kept) line ≡ None
 IsFound kept line (Some old) =
-    (table : PlainTable) × (mask : PlainMask) × (filter : Filter) × IsOld kept old table mask filter × (old.hook ≡ line.hook)
+    (table : PlainTable) × (mask : PlainMask) × (filter : Filter) × IsOld kept old table mask filter
+    × (old.hook ≡ line.hook)
     × (old_row (state_of kept) line ≡ Some (row_of old.hook table mask filter))
 
--- A replacement is planned where the filter is there and the step accepts the edit, and leads where the step does; it is refused
--- for the step's reason, or, where the step accepts the edit, for want of memory.
+-- A replacement is planned where the filter is there and the step accepts the edit, and leads where the step
+-- does; it is refused for the step's reason, or, where the step accepts the edit, for want of memory.
 abbrev pub IsPlanned : Kept → Result Replacement Refusal → Stepped → Type 0
 IsPlanned kept (Ok r) (Ok (next, said)) =
     (table : PlainTable) × (mask : PlainMask) × (filter : Filter) × IsReady kept r table mask filter

@@ -6,7 +6,8 @@ ghost use Rattle.filter_index.specs.declared.filter.Filter.{Filter};
 ghost use Rattle.filter_tables.specs.Plain.{PlainMask, PlainTable};
 ghost use Rattle.filter_tables.specs.Rows.{row_of, tables_on, on_hook};
 ghost use Rattle.filter_replacing.specs.Replacements.{state_after, answer_of, IsReady};
-ghost use Rattle.filter_replacing.specs.Changing.{CanChange, WereThere, tables_changed, masks_after, HasChanged};
+ghost use Rattle.filter_replacing.specs.Changing.{CanChange, WereThere, tables_changed, masks_after};
+ghost use Rattle.filter_replacing.specs.Changing.{HasChanged};
 
 use crate::replacement::{Change, Old, Replacement};
 use filter_state::Done;
@@ -14,11 +15,17 @@ use filter_tables::FilterTables;
 use hook_lists::{Kept, carry_out, unbind};
 use tc_base::{Hook, Numbers};
 
-/// Binds and makes the new actions, changes or moves the filter, and lets its old actions go. It takes no memory.
+/// Binds and makes the new actions, changes or moves the filter, and lets its old actions go. It takes no
+/// memory.
 pub fn replace(kept: &mut Kept, replacement: Replacement) -> Done
     requires kept { AreKept kept.old }
-    requires ready { (table : PlainTable) × (mask : PlainMask) × (filter : Filter) × IsReady kept.old replacement table mask filter }
-    ensures { (table : PlainTable) (mask : PlainMask) (filter : Filter) → IsReady kept.old replacement table mask filter → IsDone kept.new result (state_after (state_of kept.old) (row_of replacement.old.hook table mask filter) replacement) (answer_of replacement) }
+    requires ready { (table : PlainTable) × (mask : PlainMask) × (filter : Filter)
+        × IsReady kept.old replacement table mask filter }
+    ensures { (table : PlainTable) (mask : PlainMask) (filter : Filter)
+        → IsReady kept.old replacement table mask filter
+        → IsDone kept.new result
+        (state_after (state_of kept.old) (row_of replacement.old.hook table mask filter) replacement)
+        (answer_of replacement) }
 {
     let Replacement {
         old,
@@ -40,7 +47,8 @@ pub fn replace(kept: &mut Kept, replacement: Replacement) -> Done
 fn change_filter(kept: &mut Kept, old: &Old, change: Change) -> Numbers
     requires { CanChange (room_on old.now.hook kept.old) old.now change }
     ensures gone { WereThere (tables_on old.now.hook (both_of kept.old)) old.now result }
-    ensures tables { HasChanged (on_hook old.now.hook (tables_changed old.now change) (both_of kept.old)) (masks_after change kept.old.masks_made) kept.old kept.new }
+    ensures tables { HasChanged (on_hook old.now.hook (tables_changed old.now change) (both_of kept.old))
+        (masks_after change kept.old.masks_made) kept.old kept.new }
 {
     kept.masks_made = made_with(&change, kept.masks_made);
     match old.hook {

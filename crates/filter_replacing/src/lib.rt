@@ -1,10 +1,12 @@
 //! Edits that replace a filter that is there.
 //!
-//! `find_old` tells whether the filter of the line is there: where it isn't, a replace is an add (filter_adding). Where it is,
-//! `prepare_replacement` looks for every refusal in the order of the flat state's step, takes all the memory that the change will
-//! want, and leaves the state as it was. `replace` does the change on lists that are still as they were, and takes no memory: it
-//! binds and makes the new actions, changes or moves the filter, and then lets the old actions go. A filter with the same mask and
-//! key stays in its place; another leaves it for the end of its new mask, and its old mask goes if nothing is left in it.
+//! `find_old` tells whether the filter of the line is there: where it isn't, a replace is an add
+//! (filter_adding). Where it is, `prepare_replacement` looks for every refusal in the order of the flat
+//! state's step, takes all the memory that the change will want, and leaves the state as it was. `replace`
+//! does the change on lists that are still as they were, and takes no memory: it binds and makes the new
+//! actions, changes or moves the filter, and then lets the old actions go. A filter with the same mask and
+//! key stays in its place; another leaves it for the end of its new mask, and its old mask goes if nothing is
+//! left in it.
 //!
 //! One thread changes the lists at a time, by `&mut`.
 #![tactic(auto)]

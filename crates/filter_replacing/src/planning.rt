@@ -12,7 +12,9 @@ ghost use Rattle.filter_tables.specs.Rows.{tables_on};
 ghost use Rattle.filter_tables.specs.SeenMask.{plain_mask};
 ghost use Rattle.hook_lists.specs.States.{both_of, room_on, state_of, AreKept};
 ghost use Rattle.hook_lists.specs.Steps.{refusal_of, IsRoomier, PlanFits};
-ghost use Rattle.filter_replacing.specs.Planning.{refused_before, refused_after, resolved_to, is_same, arrival_of, IsAllowed, IsWithin, IsLooked, Leaves, HasChange};
+ghost use Rattle.filter_replacing.specs.Planning.{refused_before, refused_after, resolved_to, is_same};
+ghost use Rattle.filter_replacing.specs.Planning.{arrival_of, IsAllowed, IsWithin, IsLooked, Leaves};
+ghost use Rattle.filter_replacing.specs.Planning.{HasChange};
 ghost use Rattle.filter_replacing.specs.Replacements.{old_row, IsFound, IsOld, IsPlanned};
 
 use crate::replacement::{Change, Old, Replacement};
@@ -29,8 +31,8 @@ use tc_base::{Hook, NoMemory, Numbers};
 
 /// Makes the replacement of that filter by the line's ready, or answers why it is refused.
 ///
-/// `NoHook`, `ProtocolClash`, `Exists`, `NoSuchAction`, `MasksFull`, `ActionsFull`, `CountersFull`: the first that applies.
-/// `NoMemory`: none of these, and memory was refused.
+/// `NoHook`, `ProtocolClash`, `Exists`, `NoSuchAction`, `MasksFull`, `ActionsFull`, `CountersFull`: the first
+/// that applies. `NoMemory`: none of these, and memory was refused.
 pub fn prepare_replacement(
     kept: &mut Kept,
     line: &FilterLine,
@@ -41,7 +43,8 @@ pub fn prepare_replacement(
     requires found { IsFound kept.old line.now (Some old) }
     requires masks { kept.old.masks_made + 1 < 4294967296 }
     ensures roomier { IsRoomier kept.old kept.new }
-    ensures planned { (row : Row) → old_row (state_of kept.old) line.now ≡ Some row → IsPlanned kept.new result (replace_at (state_of kept.old) line.now row) }
+    ensures planned { (row : Row) → old_row (state_of kept.old) line.now ≡ Some row
+        → IsPlanned kept.new result (replace_at (state_of kept.old) line.now row) }
 {
     let mut plan = ActionPlan::new();
     look(kept, line, &old, &mut plan)?;
@@ -66,7 +69,8 @@ fn look(kept: &Kept, line: &FilterLine, old: &Old, plan: &mut ActionPlan) -> Res
 fn check_before(kept: &Kept, line: &FilterLine, old: &Old) -> Result<(), Refusal>
     requires kept { AreKept kept.now }
     requires found { IsFound kept.now line.now (Some old.now) }
-    ensures { refusal_of result ≡ refused_before (state_of kept.now) line.now old.now.hook old.now.chain old.now.pref old.now.handle }
+    ensures { refusal_of result
+        ≡ refused_before (state_of kept.now) line.now old.now.hook old.now.chain old.now.pref old.now.handle }
 {
     let place = Some(old.table);
     check_hook(kept)?;
@@ -92,7 +96,9 @@ fn check_after(
 ) -> Result<(), Refusal>
     requires kept { AreKept kept.now }
     requires found { IsFound kept.now line.now (Some old.now) }
-    ensures { refusal_of result ≡ refused_after (state_of kept.now) line.now old.now.hook old.now.chain old.now.pref (resolved_to kept.now actions.now) }
+    ensures { refusal_of result
+        ≡ refused_after (state_of kept.now) line.now old.now.hook old.now.chain old.now.pref
+        (resolved_to kept.now actions.now) }
 {
     let place = Some(old.table);
     check_masks(kept, old.hook, old.chain, old.pref, place, &line.mask)?;
@@ -107,13 +113,16 @@ fn make_ready(
     plan: &ActionPlan,
 ) -> Result<Replacement, NoMemory>
     requires kept { AreKept kept.old }
-    requires allowed { (table : PlainTable) × (mask : PlainMask) × (filter : Filter) × IsAllowed kept.old line.now old table mask filter }
+    requires allowed { (table : PlainTable) × (mask : PlainMask) × (filter : Filter)
+        × IsAllowed kept.old line.now old table mask filter }
     requires within { IsWithin kept.old plan.now }
     requires masks { kept.old.masks_made + 1 < 4294967296 }
     ensures roomier { IsRoomier kept.old kept.new }
-    ensures old { IfOk result (λ r. (r.old ≡ old) × (r.actions ≡ plan.now) × (r.serials ≡ serials_of plan.now)) }
+    ensures old { IfOk result (λ r. (r.old ≡ old) × (r.actions ≡ plan.now)
+        × (r.serials ≡ serials_of plan.now)) }
     ensures fits { OnOk result (PlanFits kept.new plan.now) }
-    ensures change { IfOk result (λ r. HasChange kept.old kept.new line.now old (serials_of plan.now) r.change) }
+    ensures change { IfOk result
+        (λ r. HasChange kept.old kept.new line.now old (serials_of plan.now) r.change) }
 {
     reserve_actions(kept, plan)?;
     let for_filter = plan.serials(kept.alloc)?;
@@ -136,7 +145,8 @@ fn change_for(
     actions: Numbers,
 ) -> Result<Change, NoMemory>
     requires kept { AreKept kept.old }
-    requires allowed { (table : PlainTable) × (mask : PlainMask) × (filter : Filter) × IsAllowed kept.old line.now old.now table mask filter }
+    requires allowed { (table : PlainTable) × (mask : PlainMask) × (filter : Filter)
+        × IsAllowed kept.old line.now old.now table mask filter }
     requires masks { kept.old.masks_made + 1 < 4294967296 }
     ensures roomier { IsRoomier kept.old kept.new }
     ensures actions { kept.new.actions ≡ kept.old.actions }
@@ -156,8 +166,10 @@ fn change_for(
 
 // Whether the filter has the line's mask and key.
 fn stays(kept: &Kept, line: &FilterLine, old: &Old) -> bool
-    requires { (table : PlainTable) × (mask : PlainMask) × (filter : Filter) × IsOld kept.now old.now table mask filter }
-    ensures { (table : PlainTable) (mask : PlainMask) (filter : Filter) → IsOld kept.now old.now table mask filter → result ≡ is_same line.now mask filter }
+    requires { (table : PlainTable) × (mask : PlainMask) × (filter : Filter)
+        × IsOld kept.now old.now table mask filter }
+    ensures { (table : PlainTable) (mask : PlainMask) (filter : Filter)
+        → IsOld kept.now old.now table mask filter → result ≡ is_same line.now mask filter }
 {
     let own = mask_at(&table_at(kept, old.hook, old.table).masks, old.mask);
     match own.filters.with_handle(old.handle) {
@@ -218,7 +230,8 @@ fn move_out(
 
 fn reserve_filter(kept: &mut Kept, old: &Old, mask: usize) -> Result<(), NoMemory>
     requires table { old.now.table < length (tables_on old.now.hook (both_of kept.old)) }
-    requires mask { (t : PlainTable) → item_at (tables_on old.now.hook (both_of kept.old)) old.now.table ≡ Some t → mask < length t.masks }
+    requires mask { (t : PlainTable) → item_at (tables_on old.now.hook (both_of kept.old)) old.now.table
+        ≡ Some t → mask < length t.masks }
     ensures roomier { IsRoomier kept.old kept.new }
     ensures actions { kept.new.actions ≡ kept.old.actions }
     ensures room { OnOk result (0 < filters_spare (room_on old.now.hook kept.new).spares old.now.table mask) }
@@ -250,7 +263,8 @@ fn arrival_for(
     actions: Numbers,
 ) -> Arrival
     requires { old.now.table < length (tables_on old.now.hook (both_of kept.now)) }
-    ensures { (t : PlainTable) → item_at (tables_on old.now.hook (both_of kept.now)) old.now.table ≡ Some t → result ≡ arrival_of line.now old.now t mask_serial actions }
+    ensures { (t : PlainTable) → item_at (tables_on old.now.hook (both_of kept.now)) old.now.table ≡ Some t
+        → result ≡ arrival_of line.now old.now t mask_serial actions }
 {
     let table = table_at(kept, old.hook, old.table);
     Arrival {

@@ -1,5 +1,7 @@
--- Shared actions: found by kind and index, made, bound and unbound (the kernel's tcf_idr_create and its kin, net/sched/act_api.c).
-use Rattle.std.specs.Prelude.{ℕ, suc, zero, ◌+◌, ◌-◌, ◌==◌, ◌&&◌, Bool, true, false, not, List, [], ◌∷◌, ◌++◌, length, map, filter, fold, Option, Some, None, if◌then◌else◌, Result, Ok, Err}
+-- Shared actions: found by kind and index, made, bound and unbound (the kernel's tcf_idr_create and its kin,
+-- net/sched/act_api.c).
+use Rattle.std.specs.Prelude.{ℕ, suc, zero, ◌+◌, ◌-◌, ◌==◌, ◌&&◌, Bool, true, false, not, List, [], ◌∷◌, ◌++◌}
+use Rattle.std.specs.Prelude.{length, map, filter, fold, Option, Some, None, if◌then◌else◌, Result, Ok, Err}
 use Rattle.std.specs.List.{list_any}
 use Rattle.act_kinds.specs.declared.params.Kind.{Kind}
 use Rattle.act_kinds.specs.declared.params.Kind.TheVariants as kinds
@@ -28,7 +30,8 @@ abbrev pub first_free : (ℕ → Bool) → ℕ → ℕ → ℕ
 first_free used zero least = least
 first_free used (suc more) least = if used least then first_free used more (least + 1) else least
 
--- the lowest index from 1 that the kind doesn't use: so many actions leave one of the first so many and one free
+-- the lowest index from 1 that the kind doesn't use: so many actions leave one of the first so many and one
+-- free
 abbrev pub free_index : Kind → List Action → ℕ
 free_index kind actions = first_free (λ index. is_live kind index actions) (length actions) 1
 
@@ -64,7 +67,9 @@ pub record Made : Type 0 where
 -- an action more, with the next serial: one of a filter is bound, one apart from filters is not
 abbrev pub made_more : Made → Params → ℕ → ℕ → Made
 made_more so_far params index binds = record {
-  actions = so_far.actions ++ (record { serial = so_far.made + 1; index = index; params = params; references = 1; binds = binds } ∷ []);
+  actions = so_far.actions
+      ++ (record { serial = so_far.made + 1; index = index; params = params; references = 1; binds = binds }
+      ∷ []);
   made = so_far.made + 1;
 }
 
@@ -76,7 +81,8 @@ index_or_free None kind actions = free_index kind actions
 -- the serial of the action of that kind and index
 abbrev pub serial_of : Kind → ℕ → List Action → Option ℕ
 serial_of kind index [] = None
-serial_of kind index (action ∷ actions) = if is_named kind index action then Some action.serial else serial_of kind index actions
+serial_of kind index (action ∷ actions) = if is_named kind index action then Some action.serial
+    else serial_of kind index actions
 
 -- actions with a list of serials that name some of them
 pub record Resolved : Type 0 where
@@ -85,20 +91,26 @@ pub record Resolved : Type 0 where
 
 abbrev pub bound_more : Resolved → Kind → ℕ → ℕ → Resolved
 bound_more r kind index serial = record {
-  so_far = record { actions = change_where (is_named kind index) more_bound r.so_far.actions; made = r.so_far.made };
+  so_far = record {
+    actions = change_where (is_named kind index) more_bound r.so_far.actions;
+    made = r.so_far.made;
+  };
   serials = r.serials ++ (serial ∷ []);
 }
 
 abbrev pub made_bound : Resolved → Params → ℕ → Resolved
-made_bound r params index = record { so_far = made_more r.so_far params index 1; serials = r.serials ++ ((r.so_far.made + 1) ∷ []) }
+made_bound r params index = record {
+  so_far = made_more r.so_far params index 1;
+  serials = r.serials ++ ((r.so_far.made + 1) ∷ []);
+}
 
 -- what follows an answer that is no refusal
 abbrev pub and_then : {A B : Type 0} → (A → Result B Refusal) → Result A Refusal → Result B Refusal
 and_then more (Ok it) = more it
 and_then more (Err refusal) = Err refusal
 
--- an action of a filter that is there is bound, and what else the line says of it is ignored; else it is made, where the line
--- writes it in full
+-- an action of a filter that is there is bound, and what else the line says of it is ignored; else it is
+-- made, where the line writes it in full
 abbrev pub bound_or_made : Resolved → ActionLine → ℕ → Option ℕ → Option Params → Result Resolved Refusal
 bound_or_made r line index (Some serial) given = Ok (bound_more r line.kind index serial)
 bound_or_made r line index None (Some params) = Ok (made_bound r params index)

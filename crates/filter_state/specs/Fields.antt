@@ -1,5 +1,5 @@
--- Which values and masks the fields of a filter can have, by what tc-flower(8) lets a line say. A field that a line doesn't name
--- has the mask 0.
+-- Which values and masks the fields of a filter can have, by what tc-flower(8) lets a line say. A field that
+-- a line doesn't name has the mask 0.
 use Rattle.std.specs.Prelude.{◌≡◌, ℕ, ◌+◌, ◌-◌, ◌*◌, ◌^◌, ◌<◌, ◌≤◌, ◌⊎◌, List, length, slice_index, bit_and}
 use Rattle.flow_fields.specs.Values.{values_of, IsTidy}
 
@@ -19,10 +19,11 @@ joined high low = high * 2 ^ 64 + low
 abbrev pub HasPorts : ℕ → Type 0
 HasPorts protocol = (protocol ≡ 6) ⊎ (protocol ≡ 17)
 
--- The values of the fields under their masks, and the masks, both in the order of the table of fields. Addresses of cards, TCP
--- flags, the type of service and the time to live take any mask.
+-- The values of the fields under their masks, and the masks, both in the order of the table of fields.
+-- Addresses of cards, TCP flags, the type of service and the time to live take any mask.
 pub record AreFields (values masks : List ℕ) : Type 0 where
-  pub under : (field : ℕ) → field < 20 → bit_and (slice_index values field) (slice_index masks field) ≡ slice_index values field
+  pub under : (field : ℕ) → field < 20 → bit_and (slice_index values field) (slice_index masks field)
+      ≡ slice_index values field
   pub vlan_id : IsAllOrNone 12 (slice_index masks 2)
   pub vlan_prio : IsAllOrNone 3 (slice_index masks 3)
   pub vlan_ethtype : IsAllOrNone 16 (slice_index masks 4)

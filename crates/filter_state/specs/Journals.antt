@@ -26,7 +26,8 @@ Accepts s edit (Err refusal) = ⊥
 
 abbrev pub IsLawfulFrom : State → List Edit → Type 0
 IsLawfulFrom s [] = Unit {0}
-IsLawfulFrom s (edit ∷ edits) = IsLine edit × Accepts s edit (step s edit) × IsLawfulFrom (state_after s (step s edit)) edits
+IsLawfulFrom s (edit ∷ edits) = IsLine edit × Accepts s edit (step s edit)
+    × IsLawfulFrom (state_after s (step s edit)) edits
 
 abbrev pub IsLawful : List Edit → Type 0
 IsLawful journal = IsLawfulFrom no_state journal

@@ -1,6 +1,7 @@
 -- Which edits a batch line can say. The ranges are this project's own where no source is given.
 use Rattle.filter_state.specs.declared.limits.TheConstants.{LINE_ACTIONS_MAX}
-use Rattle.std.specs.Prelude.{◌≡◌, ℕ, ◌<◌, ◌≤◌, List, [], ◌∷◌, length, Option, Some, None, IfSome, IsSomeAnd, IsSome}
+use Rattle.std.specs.Prelude.{◌≡◌, ℕ, ◌<◌, ◌≤◌, List, [], ◌∷◌, length, Option, Some, None, IfSome, IsSomeAnd}
+use Rattle.std.specs.Prelude.{IsSome}
 use Rattle.act_kinds.specs.declared.params.Control.{Control}
 use Rattle.act_kinds.specs.declared.params.Control.TheVariants as controls
 use Rattle.act_kinds.specs.declared.params.Params.{Params}
@@ -50,7 +51,8 @@ IsFilterAction action = IsOfFilter action.params action
 
 -- an action apart from filters is in full, and goes to no chain
 abbrev pub IsSharedAction : ActionLine → Type 0
-IsSharedAction action = IsSomeAnd action.params (λ given. IsInFull action given × GoesToNoChain (control_of given))
+IsSharedAction action =
+    IsSomeAnd action.params (λ given. IsInFull action given × GoesToNoChain (control_of given))
 
 abbrev pub AreFilterActions : List ActionLine → Type 0
 AreFilterActions [] = Unit {0}
@@ -71,7 +73,8 @@ IsLine edits.HookAdd = Unit {0}
 IsLine edits.HookDel = Unit {0}
 IsLine (edits.FilterAdd line) = IsFilter line
 IsLine (edits.FilterReplace line) = IsFilter line × IsSome line.pref × IsSome line.handle
-IsLine (edits.FilterDel hook protocol chain pref handle) = IfSome protocol IsProtocol × IsChain chain × IsPref pref × IfSome handle IsIndex
+IsLine (edits.FilterDel hook protocol chain pref handle) = IfSome protocol IsProtocol × IsChain chain
+    × IsPref pref × IfSome handle IsIndex
 IsLine (edits.ActionAdd action) = IsSharedAction action
 IsLine (edits.ActionChange action) = IsSharedAction action × IsSome action.index
 IsLine (edits.ActionDel kind index) = IsIndex index

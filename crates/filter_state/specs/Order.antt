@@ -7,7 +7,8 @@ use Rattle.filter_state.specs.Steps.{Stepped}
 pub data SameRows : List Row → List Row → Type 0 where
   none : SameRows [] []
   keep : {x : Row} {xs ys : List Row} → SameRows xs ys → SameRows (x ∷ xs) (x ∷ ys)
-  exchange : {x y : Row} {xs : List Row} → (x.mask_serial ≡ y.mask_serial → ⊥) → SameRows (x ∷ y ∷ xs) (y ∷ x ∷ xs)
+  exchange : {x y : Row} {xs : List Row} → (x.mask_serial ≡ y.mask_serial → ⊥)
+      → SameRows (x ∷ y ∷ xs) (y ∷ x ∷ xs)
   joined : {xs ys zs : List Row} → SameRows xs ys → SameRows ys zs → SameRows xs zs
 
 -- the row is of the mask with that serial

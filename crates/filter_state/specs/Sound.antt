@@ -1,6 +1,7 @@
 -- What holds of every state that edits lead to.
 use Rattle.act_registry.specs.declared.limits.TheConstants.{ACTIONS_MAX, MADE_MAX}
-use Rattle.filter_state.specs.declared.limits.TheConstants.{TABLES_MAX, MASKS_MAX, FILTERS_MAX, LINE_ACTIONS_MAX}
+use Rattle.filter_state.specs.declared.limits.TheConstants.{TABLES_MAX, MASKS_MAX, FILTERS_MAX}
+use Rattle.filter_state.specs.declared.limits.TheConstants.{LINE_ACTIONS_MAX}
 use Rattle.std.specs.Prelude.{◌≡◌, ℕ, ◌+◌, ◌<◌, ◌≤◌, ◌==◌, ◌⊎◌, true, List, [], ◌∷◌, length, IsTrue}
 use Rattle.std.specs.List.{list_any, flat_map, count_by}
 use Rattle.tc_base.specs.declared.hook.Hook.{Hook}
@@ -21,17 +22,19 @@ abbrev pub EachPair : {X : Type 0} → (X → X → Type 0) → List X → Type 
 EachPair R [] = Unit {0}
 EachPair R (x ∷ xs) = Each (R x) xs × EachPair R xs
 
--- two filters: those of one table agree in all that a table has, and those of one mask in its words; and no two filters of a table
--- have the same handle, or the same mask and key
+-- two filters: those of one table agree in all that a table has, and those of one mask in its words; and no
+-- two filters of a table have the same handle, or the same mask and key
 pub record GoTogether (x y : Row) : Type 0 where
-  pub same_table : x.table ≡ y.table → (x.hook ≡ y.hook) × (x.chain ≡ y.chain) × (x.pref ≡ y.pref) × (x.protocol ≡ y.protocol)
+  pub same_table : x.table ≡ y.table → (x.hook ≡ y.hook) × (x.chain ≡ y.chain) × (x.pref ≡ y.pref)
+      × (x.protocol ≡ y.protocol)
   pub one_table : x.hook ≡ y.hook → x.chain ≡ y.chain → x.pref ≡ y.pref → x.table ≡ y.table
   pub same_mask : x.mask_serial ≡ y.mask_serial → (x.table ≡ y.table) × (x.mask ≡ y.mask)
   pub one_mask : x.table ≡ y.table → x.mask ≡ y.mask → x.mask_serial ≡ y.mask_serial
   pub handles : x.table ≡ y.table → x.handle ≡ y.handle → ⊥
   pub matches : x.table ≡ y.table → x.mask ≡ y.mask → x.key ≡ y.key → ⊥
 
--- one filter of a state: its numbers are in their ranges, its serials were given, and each action that it names is live
+-- one filter of a state: its numbers are in their ranges, its serials were given, and each action that it
+-- names is live
 pub record IsRow (s : State) (row : Row) : Type 0 where
   pub chain : IsChain row.chain
   pub pref : IsPref row.pref

@@ -4,8 +4,8 @@ use Rattle.tc_base.specs.declared.hook.Hook.{Hook}
 use Rattle.tc_base.specs.declared.hook.Proto.{Proto}
 use Rattle.act_kinds.specs.declared.params.Params.{Params}
 
--- One filter, with all that it stands under. A table is the rows with its serial, and so is a mask: neither is kept apart, so that
--- a table without filters can't be.
+-- One filter, with all that it stands under. A table is the rows with its serial, and so is a mask: neither
+-- is kept apart, so that a table without filters can't be.
 pub record Row : Type 0 where
   pub hook : Hook
   pub chain : ℕ
@@ -26,7 +26,8 @@ pub record Action : Type 0 where
   pub references : ℕ
   pub binds : ℕ
 
--- rows in the order in which they were accepted, actions by rising serial, and how many tables, masks and actions were made so far
+-- rows in the order in which they were accepted, actions by rising serial, and how many tables, masks and
+-- actions were made so far
 pub record State : Type 0 where
   pub hooked : Bool
   pub rows : List Row
@@ -37,4 +38,11 @@ pub record State : Type 0 where
 
 -- no qdisc, and nothing made
 abbrev pub no_state : State
-no_state = record { hooked = false; rows = []; actions = []; tables_made = 0; masks_made = 0; actions_made = 0 }
+no_state = record {
+  hooked = false;
+  rows = [];
+  actions = [];
+  tables_made = 0;
+  masks_made = 0;
+  actions_made = 0;
+}

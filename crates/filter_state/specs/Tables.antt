@@ -1,5 +1,6 @@
 -- Tables, masks and filters among the rows.
-use Rattle.std.specs.Prelude.{ℕ, ◌+◌, ◌==◌, ◌&&◌, nat_lt, Bool, true, false, List, [], ◌∷◌, length, filter, Option, Some, None, if◌then◌else◌}
+use Rattle.std.specs.Prelude.{ℕ, ◌+◌, ◌==◌, ◌&&◌, nat_lt, Bool, true, false, List, [], ◌∷◌, length, filter}
+use Rattle.std.specs.Prelude.{Option, Some, None, if◌then◌else◌}
 use Rattle.std.specs.List.{list_any}
 use Rattle.std.specs.Str.{bytes_eq}
 use Rattle.tc_base.specs.declared.hook.Hook.{Hook}
@@ -76,7 +77,8 @@ mask_count hook chain pref rows = length (distinct (masks_of (filter (in_table h
 
 -- the lowest handle from 1 that a table doesn't use
 abbrev pub free_handle : Hook → ℕ → ℕ → List Row → ℕ
-free_handle hook chain pref rows = first_free (λ handle. list_any (has_handle handle) (filter (in_table hook chain pref) rows)) (length rows) 1
+free_handle hook chain pref rows = first_free
+    (λ handle. list_any (has_handle handle) (filter (in_table hook chain pref) rows)) (length rows) 1
 
 -- the serial of the table of a row, or the next one
 abbrev pub table_or_next : Option Row → ℕ → ℕ
@@ -94,8 +96,10 @@ table_row hook chain pref rows = first_where (in_table hook chain pref) rows
 
 -- a row of the table with that mask, where it is there
 abbrev pub mask_row : Hook → ℕ → ℕ → List ℕ → List Row → Option Row
-mask_row hook chain pref mask rows = first_where (λ row. in_table hook chain pref row && has_mask mask row) rows
+mask_row hook chain pref mask rows =
+    first_where (λ row. in_table hook chain pref row && has_mask mask row) rows
 
 -- the row with that handle in the table, where it is there
 abbrev pub filter_row : Hook → ℕ → ℕ → ℕ → List Row → Option Row
-filter_row hook chain pref handle rows = first_where (λ row. in_table hook chain pref row && has_handle handle row) rows
+filter_row hook chain pref handle rows =
+    first_where (λ row. in_table hook chain pref row && has_handle handle row) rows

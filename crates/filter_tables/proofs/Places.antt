@@ -1,4 +1,5 @@
--- An element of a list at its place: found, read and changed, where contracts see another list than the code holds.
+-- An element of a list at its place: found, read and changed, where contracts see another list than the code
+-- holds.
 use Rattle.std.proofs.Common.{◌≡◌, ℕ, ◌+◌, zero, suc, ◌<◌, Bool, true, false, cond, ltb, List, [], ◌∷◌, length, get_or, set, Option, Some, None, refl, sym, ap, ◌∙◌, subst, arith}
 use Rattle.std.specs.Prelude.{map, option_map}
 use Rattle.std.specs.List.{position, position_or_len, remove}

@@ -1,5 +1,6 @@
 -- What is asked of tables and masks, and what the calls make of them (this project's own).
-use Rattle.std.specs.Prelude.{◌≡◌, ℕ, zero, suc, ◌+◌, length, ◌==◌, ◌&&◌, ◌||◌, nat_lt, Bool, true, false, List, [], ◌∷◌, ◌++◌, if◌then◌else◌, ◌<◌, ◌≤◌}
+use Rattle.std.specs.Prelude.{◌≡◌, ℕ, zero, suc, ◌+◌, length, ◌==◌, ◌&&◌, ◌||◌, nat_lt, Bool, true, false}
+use Rattle.std.specs.Prelude.{List, [], ◌∷◌, ◌++◌, if◌then◌else◌, ◌<◌, ◌≤◌}
 use Rattle.std.specs.List.{list_any}
 use Rattle.std.specs.Str.{bytes_eq}
 use Rattle.filter_index.specs.declared.filter.Filter.{Filter}
@@ -53,14 +54,16 @@ swept (suc place) (m ∷ masks) = m ∷ swept place masks
 abbrev pub taken : ℕ → ℕ → List PlainMask → List PlainMask
 taken place handle masks = swept place (change_at place (less_filter handle) masks)
 
--- The filter of a handle leaves the mask at one place, and another of the same handle goes behind those of the mask at a place,
--- which may be the same; the mask that it left goes if no filter is left in it.
+-- The filter of a handle leaves the mask at one place, and another of the same handle goes behind those of
+-- the mask at a place, which may be the same; the mask that it left goes if no filter is left in it.
 abbrev pub moved : ℕ → ℕ → Filter → List PlainMask → List PlainMask
-moved from to filter masks = swept from (change_at to (more_filter filter) (change_at from (less_filter filter.handle) masks))
+moved from to filter masks =
+    swept from (change_at to (more_filter filter) (change_at from (less_filter filter.handle) masks))
 
 -- The filter of a handle leaves the mask at a place for a new mask behind the others.
 abbrev pub moved_out : ℕ → ℕ → List ℕ → Filter → List PlainMask → List PlainMask
-moved_out from serial words filter masks = swept from (change_at from (less_filter filter.handle) masks ++ (new_mask serial words filter ∷ []))
+moved_out from serial words filter masks =
+    swept from (change_at from (less_filter filter.handle) masks ++ (new_mask serial words filter ∷ []))
 
 -- how many filters the masks have
 abbrev pub count_of : List PlainMask → ℕ
@@ -92,11 +95,13 @@ cleared place [] = []
 cleared zero (t ∷ tables) = if is_none_left t.masks then tables else t ∷ tables
 cleared (suc place) (t ∷ tables) = t ∷ cleared place tables
 
--- the filter of that handle is taken out of a mask of a table, with the mask and the table if nothing is left in them
+-- the filter of that handle is taken out of a mask of a table, with the mask and the table if nothing is left
+-- in them
 abbrev pub removed : ℕ → ℕ → ℕ → List PlainTable → List PlainTable
 removed table mask handle tables = cleared table (change_at table (in_masks (taken mask handle)) tables)
 
 -- a table more, before those that come behind it
 abbrev pub with_table : PlainTable → List PlainTable → List PlainTable
 with_table table [] = table ∷ []
-with_table table (t ∷ tables) = if comes_before t table then t ∷ with_table table tables else table ∷ (t ∷ tables)
+with_table table (t ∷ tables) = if comes_before t table then t ∷ with_table table tables
+    else table ∷ (t ∷ tables)

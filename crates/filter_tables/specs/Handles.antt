@@ -1,4 +1,5 @@
--- The handles that a table keeps sorted beside its masks (this project's own). No contract that callers see speaks of them.
+-- The handles that a table keeps sorted beside its masks (this project's own). No contract that callers see
+-- speaks of them.
 use Rattle.std.specs.Prelude.{◌≡◌, ℕ, ◌+◌, ◌<◌, ◌≤◌, ◌==◌, Bool, true, false, nat_lt, List, [], ◌∷◌, length}
 use Rattle.std.specs.List.{AllPairs, count_by}
 use Rattle.std.specs.List.Sorted.{IsPartitionPoint}
@@ -15,7 +16,8 @@ times number numbers = count_by (λ n. n == number) numbers
 -- all numbers before that place, and none from it on, are below the number
 abbrev pub IsPlaceFor : ℕ → List ℕ → ℕ → Type 0
 IsPlaceFor number numbers at =
-    (at ≤ length numbers) × IsPartitionPoint (λ n. nat_lt n number ≡ true) (λ n. nat_lt n number ≡ false) numbers at
+    (at ≤ length numbers)
+    × IsPartitionPoint (λ n. nat_lt n number ≡ true) (λ n. nat_lt n number ≡ false) numbers at
 
 -- how many filters of the masks have a handle that passes the test
 abbrev pub count_in : (ℕ → Bool) → List PlainMask → ℕ

@@ -1,5 +1,6 @@
 -- Places in a list, counted from 0 (this project's own).
-use Rattle.std.specs.Prelude.{ℕ, zero, suc, Bool, List, [], ◌∷◌, Option, Some, None, option_map, if◌then◌else◌}
+use Rattle.std.specs.Prelude.{ℕ, zero, suc, Bool, List, [], ◌∷◌, Option, Some, None, option_map}
+use Rattle.std.specs.Prelude.{if◌then◌else◌}
 
 -- the element at a place
 abbrev pub item_at : {X : Type 0} → List X → ℕ → Option X

@@ -1,4 +1,5 @@
--- What contracts see of tables: each a list of masks, and each of these a list of filters. How much room there is stands apart.
+-- What contracts see of tables: each a list of masks, and each of these a list of filters. How much room
+-- there is stands apart.
 use Rattle.std.specs.Prelude.{ℕ, List}
 use Rattle.tc_base.specs.declared.hook.Proto.{Proto}
 use Rattle.filter_index.specs.declared.filter.Filter.{Filter}

@@ -1,10 +1,12 @@
--- Tables and masks, and for how much more there is room: what a call that may take no memory asks for (this project's own).
+-- Tables and masks, and for how much more there is room: what a call that may take no memory asks for (this
+-- project's own).
 use Rattle.std.specs.Prelude.{◌≡◌, ℕ, zero, suc, List, [], ◌∷◌, true}
 use Rattle.filter_state.specs.Sound.{EachPair}
 use Rattle.filter_tables.specs.Plain.{PlainMask, PlainTable}
 use Rattle.filter_tables.specs.Changes.{comes_before}
 
--- the masks of a table, for how many masks more there is room, and for how many filters more in each of the masks
+-- the masks of a table, for how many masks more there is room, and for how many filters more in each of the
+-- masks
 pub record MaskRoom : Type 0 where
   pub masks : List PlainMask
   pub spare : ℕ
@@ -27,7 +29,8 @@ spare_at [] place = 0
 spare_at (n ∷ ns) zero = n
 spare_at (n ∷ ns) (suc place) = spare_at ns place
 
--- for how many masks more there is room in the table at a place, and for how many filters more in its mask at a place
+-- for how many masks more there is room in the table at a place, and for how many filters more in its mask at
+-- a place
 abbrev pub masks_spare : List Spare → ℕ → ℕ
 masks_spare [] table = 0
 masks_spare (s ∷ ss) zero = s.masks

@@ -13,4 +13,5 @@ is_ahead chain pref t = nat_lt t.chain chain || (t.chain == chain && nat_lt t.pr
 abbrev pub IsTablePlace : ℕ → ℕ → List FilterTable → ℕ → Type 0
 IsTablePlace chain pref ts at =
     (at ≤ length ts)
-    × IsPartitionPoint (λ t. is_ahead chain pref (plain_table t) ≡ true) (λ t. is_ahead chain pref (plain_table t) ≡ false) ts at
+    × IsPartitionPoint (λ t. is_ahead chain pref (plain_table t) ≡ true)
+    (λ t. is_ahead chain pref (plain_table t) ≡ false) ts at

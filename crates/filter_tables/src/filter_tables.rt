@@ -1,12 +1,15 @@
 //! The tables of one hook.
-ghost use Rattle.std.specs.Prelude.{◌≡◌, ◌==◌, ◌<◌, ◌≤◌, [], length, map, find, option_map, Some, OnOk, true, false};
+ghost use Rattle.std.specs.Prelude.{◌≡◌, ◌==◌, ◌<◌, ◌≤◌, [], length, map, find, option_map, Some, OnOk, true};
+ghost use Rattle.std.specs.Prelude.{false};
 ghost use Rattle.std.specs.List.{list_any};
 ghost use Rattle.filter_index.specs.Listed.{has_handle, has_key, without};
 ghost use Rattle.filter_tables.specs.Plain.{PlainMask, PlainTable};
 ghost use Rattle.filter_tables.specs.Places.{change_at, item_at, place_where, without_at};
 ghost use Rattle.filter_tables.specs.Room.{AreRising, masks_spare, filters_spare};
 ghost use Rattle.filter_tables.specs.Seen.{plain_table};
-ghost use Rattle.filter_tables.specs.Changes.{has_handle_in, has_key_in, any_handle, more_filter, new_mask, other_actions, taken, moved, moved_out, is_table, in_masks, removed, cleared, with_table};
+ghost use Rattle.filter_tables.specs.Changes.{has_handle_in, has_key_in, any_handle, more_filter, new_mask};
+ghost use Rattle.filter_tables.specs.Changes.{other_actions, taken, moved, moved_out, is_table, in_masks};
+ghost use Rattle.filter_tables.specs.Changes.{removed, cleared, with_table};
 
 use crate::filter_table::FilterTable;
 use crate::room::insert_within;
@@ -133,9 +136,12 @@ impl FilterTables {
         requires room { 0 < filters_spare self.old.spares table mask }
         requires within { (t : PlainTable) → item_at self.old.tables table ≡ Some t → mask < length t.masks }
         requires from_one { 1 ≤ filter.handle }
-        requires handle { (t : PlainTable) → item_at self.old.tables table ≡ Some t → any_handle filter.handle t.masks ≡ false }
-        requires key { (t : PlainTable) → item_at self.old.tables table ≡ Some t → (m : PlainMask) → item_at t.masks mask ≡ Some m → has_key_in filter.key.words m ≡ false }
-        ensures { self.new.tables ≡ change_at table (in_masks (change_at mask (more_filter filter))) self.old.tables }
+        requires handle { (t : PlainTable) → item_at self.old.tables table ≡ Some t
+            → any_handle filter.handle t.masks ≡ false }
+        requires key { (t : PlainTable) → item_at self.old.tables table ≡ Some t → (m : PlainMask)
+            → item_at t.masks mask ≡ Some m → has_key_in filter.key.words m ≡ false }
+        ensures { self.new.tables
+            ≡ change_at table (in_masks (change_at mask (more_filter filter))) self.old.tables }
     {
         self.items[table].masks.put(mask, filter);
     }
@@ -154,20 +160,25 @@ impl FilterTables {
         requires empty { filters.filters ≡ [] }
         requires place { 0 < filters.spare }
         requires from_one { 1 ≤ filter.handle }
-        requires handle { (t : PlainTable) → item_at self.old.tables table ≡ Some t → any_handle filter.handle t.masks ≡ false }
-        ensures { self.new.tables ≡ change_at table (in_masks (λ masks. masks ++ (new_mask serial mask.words filter ∷ []))) self.old.tables }
+        requires handle { (t : PlainTable) → item_at self.old.tables table ≡ Some t
+            → any_handle filter.handle t.masks ≡ false }
+        ensures { self.new.tables
+            ≡ change_at table (in_masks (λ masks. masks ++ (new_mask serial mask.words filter ∷ [])))
+            self.old.tables }
     {
         self.items[table]
             .masks
             .put_mask(serial, mask, filters, filter);
     }
 
-    /// Takes the filter with that handle out of a mask of the table at that place, with the mask and the table if nothing is
-    /// left in them. It takes no memory.
+    /// Takes the filter with that handle out of a mask of the table at that place, with the mask and the
+    /// table if nothing is left in them. It takes no memory.
     pub fn take(&mut self, table: usize, mask: usize, handle: u32) -> Filter
         requires table { table < length self.old.tables }
-        requires handle { (t : PlainTable) → item_at self.old.tables table ≡ Some t → place_where (has_handle_in handle) t.masks ≡ Some mask }
-        ensures taken { (t : PlainTable) → item_at self.old.tables table ≡ Some t → (m : PlainMask) → item_at t.masks mask ≡ Some m → find (has_handle handle) m.filters ≡ Some result }
+        requires handle { (t : PlainTable) → item_at self.old.tables table ≡ Some t
+            → place_where (has_handle_in handle) t.masks ≡ Some mask }
+        ensures taken { (t : PlainTable) → item_at self.old.tables table ≡ Some t → (m : PlainMask)
+            → item_at t.masks mask ≡ Some m → find (has_handle handle) m.filters ≡ Some result }
         ensures tables { self.new.tables ≡ removed table mask handle self.old.tables }
     {
         let filter = self.take_from(table, mask, handle);
@@ -184,9 +195,13 @@ impl FilterTables {
         actions: Numbers,
     ) -> Numbers
         requires table { table < length self.old.tables }
-        requires handle { (t : PlainTable) → item_at self.old.tables table ≡ Some t → place_where (has_handle_in handle) t.masks ≡ Some mask }
-        ensures old { (t : PlainTable) → item_at self.old.tables table ≡ Some t → (m : PlainMask) → item_at t.masks mask ≡ Some m → option_map (λ f. f.actions) (find (has_handle handle) m.filters) ≡ Some result }
-        ensures tables { self.new.tables ≡ change_at table (in_masks (change_at mask (other_actions handle actions))) self.old.tables }
+        requires handle { (t : PlainTable) → item_at self.old.tables table ≡ Some t
+            → place_where (has_handle_in handle) t.masks ≡ Some mask }
+        ensures old { (t : PlainTable) → item_at self.old.tables table ≡ Some t → (m : PlainMask)
+            → item_at t.masks mask ≡ Some m → option_map (λ f. f.actions) (find (has_handle handle) m.filters)
+            ≡ Some result }
+        ensures tables { self.new.tables
+            ≡ change_at table (in_masks (change_at mask (other_actions handle actions))) self.old.tables }
     {
         self.items[table].masks.set_actions(mask, handle, actions)
     }
@@ -194,11 +209,16 @@ impl FilterTables {
     /// Moves a filter of the table at that place, as `MaskLists::move_within`.
     pub fn move_within(&mut self, table: usize, from: usize, to: usize, filter: Filter) -> Numbers
         requires table { table < length self.old.tables }
-        requires from { (t : PlainTable) → item_at self.old.tables table ≡ Some t → place_where (has_handle_in filter.handle) t.masks ≡ Some from }
+        requires from { (t : PlainTable) → item_at self.old.tables table ≡ Some t
+            → place_where (has_handle_in filter.handle) t.masks ≡ Some from }
         requires within { (t : PlainTable) → item_at self.old.tables table ≡ Some t → to < length t.masks }
         requires room { 0 < filters_spare self.old.spares table to }
-        requires key { (t : PlainTable) → item_at self.old.tables table ≡ Some t → (m : PlainMask) → item_at t.masks to ≡ Some m → list_any (has_key filter.key.words) (without filter.handle m.filters) ≡ false }
-        ensures old { (t : PlainTable) → item_at self.old.tables table ≡ Some t → (m : PlainMask) → item_at t.masks from ≡ Some m → option_map (λ f. f.actions) (find (has_handle filter.handle) m.filters) ≡ Some result }
+        requires key { (t : PlainTable) → item_at self.old.tables table ≡ Some t → (m : PlainMask)
+            → item_at t.masks to ≡ Some m
+            → list_any (has_key filter.key.words) (without filter.handle m.filters) ≡ false }
+        ensures old { (t : PlainTable) → item_at self.old.tables table ≡ Some t → (m : PlainMask)
+            → item_at t.masks from ≡ Some m
+            → option_map (λ f. f.actions) (find (has_handle filter.handle) m.filters) ≡ Some result }
         ensures tables { self.new.tables ≡ change_at table (in_masks (moved from to filter)) self.old.tables }
     {
         self.items[table].masks.move_within(from, to, filter)
@@ -215,23 +235,30 @@ impl FilterTables {
         filter: Filter,
     ) -> Numbers
         requires table { table < length self.old.tables }
-        requires from { (t : PlainTable) → item_at self.old.tables table ≡ Some t → place_where (has_handle_in filter.handle) t.masks ≡ Some from }
+        requires from { (t : PlainTable) → item_at self.old.tables table ≡ Some t
+            → place_where (has_handle_in filter.handle) t.masks ≡ Some from }
         requires room { 0 < masks_spare self.old.spares table }
         requires empty { filters.filters ≡ [] }
         requires place { 0 < filters.spare }
-        ensures old { (t : PlainTable) → item_at self.old.tables table ≡ Some t → (m : PlainMask) → item_at t.masks from ≡ Some m → option_map (λ f. f.actions) (find (has_handle filter.handle) m.filters) ≡ Some result }
-        ensures tables { self.new.tables ≡ change_at table (in_masks (moved_out from serial mask.words filter)) self.old.tables }
+        ensures old { (t : PlainTable) → item_at self.old.tables table ≡ Some t → (m : PlainMask)
+            → item_at t.masks from ≡ Some m
+            → option_map (λ f. f.actions) (find (has_handle filter.handle) m.filters) ≡ Some result }
+        ensures tables { self.new.tables
+            ≡ change_at table (in_masks (moved_out from serial mask.words filter)) self.old.tables }
     {
         self.items[table]
             .masks
             .move_out(from, serial, mask, filters, filter)
     }
 
-    // Takes the filter with that handle out of a mask of the table at that place, which stays even if it is left empty.
+    // Takes the filter with that handle out of a mask of the table at that place, which stays even if it is
+    // left empty.
     fn take_from(&mut self, table: usize, mask: usize, handle: u32) -> Filter
         requires table { table < length self.old.tables }
-        requires handle { (t : PlainTable) → item_at self.old.tables table ≡ Some t → place_where (has_handle_in handle) t.masks ≡ Some mask }
-        ensures taken { (t : PlainTable) → item_at self.old.tables table ≡ Some t → (m : PlainMask) → item_at t.masks mask ≡ Some m → find (has_handle handle) m.filters ≡ Some result }
+        requires handle { (t : PlainTable) → item_at self.old.tables table ≡ Some t
+            → place_where (has_handle_in handle) t.masks ≡ Some mask }
+        ensures taken { (t : PlainTable) → item_at self.old.tables table ≡ Some t → (m : PlainMask)
+            → item_at t.masks mask ≡ Some m → find (has_handle handle) m.filters ≡ Some result }
         ensures tables { self.new.tables ≡ change_at table (in_masks (taken mask handle)) self.old.tables }
         ensures len { length self.new.tables ≡ length self.old.tables }
     {

@@ -20,7 +20,8 @@ pub(crate) fn put_handle(handles: &mut Vec<u32>, handle: u32)
     requires rising { IsRising handles.old.items }
     requires new { times handle handles.old.items ≡ 0 }
     ensures rising { IsRising handles.new.items }
-    ensures counts { (test : ℕ → Bool) → count_by test handles.new.items ≡ count_by test handles.old.items + (if test handle then 1 else 0) }
+    ensures counts { (test : ℕ → Bool) → count_by test handles.new.items
+        ≡ count_by test handles.old.items + (if test handle then 1 else 0) }
 {
     let place = place_for(handles, handle);
     insert_within(handles, place, handle);
@@ -31,14 +32,15 @@ pub(crate) fn drop_handle(handles: &mut Vec<u32>, handle: u32)
     requires rising { IsRising handles.old.items }
     requires there { 0 < times handle handles.old.items }
     ensures rising { IsRising handles.new.items }
-    ensures counts { (test : ℕ → Bool) → count_by test handles.new.items + (if test handle then 1 else 0) ≡ count_by test handles.old.items }
+    ensures counts { (test : ℕ → Bool) → count_by test handles.new.items + (if test handle then 1 else 0)
+        ≡ count_by test handles.old.items }
 {
     let place = place_for(handles, handle);
     handles.remove(place);
 }
 
-/// The lowest number from 1 that is no handle. The handles rise from 1, so one that is higher than its place is behind all
-/// that are not, and the first such is found by halving.
+/// The lowest number from 1 that is no handle. The handles rise from 1, so one that is higher than its place
+/// is behind all that are not, and the first such is found by halving.
 pub(crate) fn lowest_free(handles: &[u32]) -> u32
     requires rising { IsRising handles.now }
     requires from_one { times 0 handles.now ≡ 0 }

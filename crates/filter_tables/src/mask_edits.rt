@@ -1,12 +1,14 @@
 //! The changes of one mask among the masks of a table.
-ghost use Rattle.std.specs.Prelude.{◌≡◌, ◌<◌, ◌≤◌, ◌++◌, ◌+◌, ◌∷◌, [], ℕ, length, map, find, option_map, Some, OnOk, vec_capacity, true, false};
+ghost use Rattle.std.specs.Prelude.{◌≡◌, ◌<◌, ◌≤◌, ◌++◌, ◌+◌, ◌∷◌, [], ℕ, length, map, find, option_map};
+ghost use Rattle.std.specs.Prelude.{Some, OnOk, vec_capacity, true, false};
 ghost use Rattle.filter_index.specs.Listed.{has_handle, has_key};
 ghost use Rattle.filter_tables.specs.Plain.{PlainMask};
 ghost use Rattle.filter_tables.specs.Places.{change_at, item_at, place_where};
 ghost use Rattle.filter_tables.specs.Room.{spare_at};
 ghost use Rattle.filter_tables.specs.SeenMask.{plain_mask};
 ghost use Rattle.filter_tables.specs.SeenRoom.{filter_room};
-ghost use Rattle.filter_tables.specs.Changes.{has_words, has_handle_in, has_key_in, more_filter, less_filter, other_actions, new_mask, swept};
+ghost use Rattle.filter_tables.specs.Changes.{has_words, has_handle_in, has_key_in, more_filter, less_filter};
+ghost use Rattle.filter_tables.specs.Changes.{other_actions, new_mask, swept};
 
 use crate::mask_list::MaskList;
 use filter_index::{Filter, Filters};
@@ -61,9 +63,12 @@ fn reserve_one(list: &mut MaskList) -> Result<(), NoMemory>
 pub(crate) fn put_at(lists: &mut Vec<MaskList>, at: usize, filter: Filter)
     requires within { at < length lists.old.items }
     requires room { 0 < spare_at (map filter_room lists.old.items) at }
-    requires handle { (m : PlainMask) → item_at (map plain_mask lists.old.items) at ≡ Some m → has_handle_in filter.handle m ≡ false }
-    requires key { (m : PlainMask) → item_at (map plain_mask lists.old.items) at ≡ Some m → has_key_in filter.key.words m ≡ false }
-    ensures masks { map plain_mask lists.new.items ≡ change_at at (more_filter filter) (map plain_mask lists.old.items) }
+    requires handle { (m : PlainMask) → item_at (map plain_mask lists.old.items) at ≡ Some m
+        → has_handle_in filter.handle m ≡ false }
+    requires key { (m : PlainMask) → item_at (map plain_mask lists.old.items) at ≡ Some m
+        → has_key_in filter.key.words m ≡ false }
+    ensures masks { map plain_mask lists.new.items
+        ≡ change_at at (more_filter filter) (map plain_mask lists.old.items) }
     ensures len { length lists.new.items ≡ length lists.old.items }
 {
     put_one(&mut lists[at], filter);
@@ -89,7 +94,8 @@ pub(crate) fn push_mask(
     requires room { length lists.old.items < vec_capacity lists.old }
     requires empty { filters.filters ≡ [] }
     requires place { 0 < filters.spare }
-    ensures masks { map plain_mask lists.new.items ≡ map plain_mask lists.old.items ++ (new_mask serial mask.words filter ∷ []) }
+    ensures masks { map plain_mask lists.new.items ≡ map plain_mask lists.old.items
+        ++ (new_mask serial mask.words filter ∷ []) }
     ensures len { length lists.new.items ≡ length lists.old.items + 1 }
 {
     filters.push(filter);
@@ -103,9 +109,13 @@ pub(crate) fn push_mask(
 /// Takes the filter with that handle out of the mask at that place, which stays even if it is left empty.
 pub(crate) fn take_at(lists: &mut Vec<MaskList>, at: usize, handle: u32) -> Filter
     requires { place_where (has_handle_in handle) (map plain_mask lists.old.items) ≡ Some at }
-    ensures taken { (m : PlainMask) → item_at (map plain_mask lists.old.items) at ≡ Some m → find (has_handle handle) m.filters ≡ Some result }
-    ensures masks { map plain_mask lists.new.items ≡ change_at at (less_filter handle) (map plain_mask lists.old.items) }
-    ensures spares { (place : ℕ) → spare_at (map filter_room lists.old.items) place ≤ spare_at (map filter_room lists.new.items) place }
+    ensures taken { (m : PlainMask) → item_at (map plain_mask lists.old.items) at ≡ Some m
+        → find (has_handle handle) m.filters ≡ Some result }
+    ensures masks { map plain_mask lists.new.items
+        ≡ change_at at (less_filter handle) (map plain_mask lists.old.items) }
+    ensures spares { (place : ℕ)
+        → spare_at (map filter_room lists.old.items) place ≤ spare_at
+        (map filter_room lists.new.items) place }
     ensures len { length lists.new.items ≡ length lists.old.items }
     ensures capacity { vec_capacity lists.new ≡ vec_capacity lists.old }
 {
@@ -124,15 +134,18 @@ fn take_one(list: &mut MaskList, handle: u32) -> Filter
 /// Gives the filter with that handle, in the mask at that place, other actions.
 pub(crate) fn act_at(lists: &mut Vec<MaskList>, at: usize, handle: u32, actions: Numbers) -> Numbers
     requires { place_where (has_handle_in handle) (map plain_mask lists.old.items) ≡ Some at }
-    ensures old { (m : PlainMask) → item_at (map plain_mask lists.old.items) at ≡ Some m → option_map (λ f. f.actions) (find (has_handle handle) m.filters) ≡ Some result }
-    ensures masks { map plain_mask lists.new.items ≡ change_at at (other_actions handle actions) (map plain_mask lists.old.items) }
+    ensures old { (m : PlainMask) → item_at (map plain_mask lists.old.items) at ≡ Some m
+        → option_map (λ f. f.actions) (find (has_handle handle) m.filters) ≡ Some result }
+    ensures masks { map plain_mask lists.new.items
+        ≡ change_at at (other_actions handle actions) (map plain_mask lists.old.items) }
 {
     act_one(&mut lists[at], handle, actions)
 }
 
 fn act_one(list: &mut MaskList, handle: u32, actions: Numbers) -> Numbers
     requires { has_handle_in handle (plain_mask list.old) ≡ true }
-    ensures old { option_map (λ f. f.actions) (find (has_handle handle) (plain_mask list.old).filters) ≡ Some result }
+    ensures old { option_map (λ f. f.actions) (find (has_handle handle) (plain_mask list.old).filters)
+        ≡ Some result }
     ensures mask { plain_mask list.new ≡ other_actions handle actions (plain_mask list.old) }
 {
     list.filters.set_actions(handle, actions)

@@ -1,13 +1,16 @@
 //! The masks of one table, and the handles of its filters beside them.
 ghost use Rattle.filter_state.specs.declared.limits.TheConstants.{FILTERS_MAX};
-ghost use Rattle.std.specs.Prelude.{◌≡◌, ◌<◌, ◌≤◌, ◌++◌, ◌∷◌, [], length, map, find, option_map, Some, OnOk, false};
+ghost use Rattle.std.specs.Prelude.{◌≡◌, ◌<◌, ◌≤◌, ◌++◌, ◌∷◌, [], length, map, find, option_map, Some, OnOk};
+ghost use Rattle.std.specs.Prelude.{false};
 ghost use Rattle.std.specs.List.{list_any};
 ghost use Rattle.filter_index.specs.Listed.{has_handle, has_key, without};
 ghost use Rattle.filter_tables.specs.Plain.{PlainMask};
 ghost use Rattle.filter_tables.specs.Places.{change_at, item_at, place_where};
 ghost use Rattle.filter_tables.specs.Room.{spare_at};
 ghost use Rattle.filter_tables.specs.SeenMask.{plain_mask};
-ghost use Rattle.filter_tables.specs.Changes.{has_words, has_handle_in, has_key_in, any_handle, more_filter, new_mask, other_actions, taken, moved, moved_out, count_of, IsLowestFree};
+ghost use Rattle.filter_tables.specs.Changes.{has_words, has_handle_in, has_key_in, any_handle, more_filter};
+ghost use Rattle.filter_tables.specs.Changes.{new_mask, other_actions, taken, moved, moved_out, count_of};
+ghost use Rattle.filter_tables.specs.Changes.{IsLowestFree};
 
 use crate::handles::{drop_handle, lowest_free, put_handle};
 use crate::mask_edits::{
@@ -39,7 +42,8 @@ impl Model for MaskLists {
 
     ghost view = { λ l. record {
       masks = map plain_mask l.items.items;
-      spare = min (vec_capacity l.items - length l.items.items) (vec_capacity l.handles - length l.handles.items);
+      spare = min (vec_capacity l.items - length l.items.items)
+          (vec_capacity l.handles - length l.handles.items);
       spares = map (λ m. min (filter_room m) (vec_capacity l.handles - length l.handles.items)) l.items.items;
     } };
 
@@ -64,8 +68,8 @@ impl MaskLists {
         &self.items
     }
 
-    /// Makes room for one mask more with its first filter, and changes nothing else. The room in the new mask is reserved in
-    /// the `Filters` that `put_mask` and `move_out` are given.
+    /// Makes room for one mask more with its first filter, and changes nothing else. The room in the new mask
+    /// is reserved in the `Filters` that `put_mask` and `move_out` are given.
     ///
     /// `NoMemory`: there was no room, and memory was refused.
     pub fn reserve(&mut self) -> Result<(), NoMemory>
@@ -118,14 +122,16 @@ impl MaskLists {
         requires within { mask < length self.old.masks }
         requires from_one { 1 ≤ filter.handle }
         requires handle { any_handle filter.handle self.old.masks ≡ false }
-        requires key { (m : PlainMask) → item_at self.old.masks mask ≡ Some m → has_key_in filter.key.words m ≡ false }
+        requires key { (m : PlainMask) → item_at self.old.masks mask ≡ Some m
+            → has_key_in filter.key.words m ≡ false }
         ensures { self.new.masks ≡ change_at mask (more_filter filter) self.old.masks }
     {
         put_handle(&mut self.handles, filter.handle);
         put_at(&mut self.items, mask, filter);
     }
 
-    /// Puts a mask with its first filter behind the others. `filters` is empty and has room. It takes no memory.
+    /// Puts a mask with its first filter behind the others. `filters` is empty and has room. It takes no
+    /// memory.
     pub fn put_mask(&mut self, serial: u32, mask: Key<14>, filters: Filters, filter: Filter)
         requires room { 0 < self.old.spare }
         requires empty { filters.filters ≡ [] }
@@ -138,11 +144,12 @@ impl MaskLists {
         push_mask(&mut self.items, serial, mask, filters, filter);
     }
 
-    /// Takes the filter with that handle out of the mask at that place, and the mask too if no filter is left in it. It takes
-    /// no memory.
+    /// Takes the filter with that handle out of the mask at that place, and the mask too if no filter is left
+    /// in it. It takes no memory.
     pub fn take(&mut self, mask: usize, handle: u32) -> Filter
         requires { place_where (has_handle_in handle) self.old.masks ≡ Some mask }
-        ensures taken { (m : PlainMask) → item_at self.old.masks mask ≡ Some m → find (has_handle handle) m.filters ≡ Some result }
+        ensures taken { (m : PlainMask) → item_at self.old.masks mask ≡ Some m
+            → find (has_handle handle) m.filters ≡ Some result }
         ensures masks { self.new.masks ≡ taken mask handle self.old.masks }
     {
         let filter = take_at(&mut self.items, mask, handle);
@@ -151,24 +158,28 @@ impl MaskLists {
         filter
     }
 
-    /// Gives the filter with that handle, in the mask at that place, other actions, and answers those that it had. It takes
-    /// no memory.
+    /// Gives the filter with that handle, in the mask at that place, other actions, and answers those that it
+    /// had. It takes no memory.
     pub fn set_actions(&mut self, mask: usize, handle: u32, actions: Numbers) -> Numbers
         requires { place_where (has_handle_in handle) self.old.masks ≡ Some mask }
-        ensures old { (m : PlainMask) → item_at self.old.masks mask ≡ Some m → option_map (λ f. f.actions) (find (has_handle handle) m.filters) ≡ Some result }
+        ensures old { (m : PlainMask) → item_at self.old.masks mask ≡ Some m
+            → option_map (λ f. f.actions) (find (has_handle handle) m.filters) ≡ Some result }
         ensures masks { self.new.masks ≡ change_at mask (other_actions handle actions) self.old.masks }
     {
         act_at(&mut self.items, mask, handle, actions)
     }
 
-    /// Moves a filter: the one of its handle leaves the mask `from`, which goes if no filter is left in it, and `filter` goes
-    /// behind those of the mask `to`, which may be the same. Answers the actions of the one that left. It takes no memory.
+    /// Moves a filter: the one of its handle leaves the mask `from`, which goes if no filter is left in it,
+    /// and `filter` goes behind those of the mask `to`, which may be the same. Answers the actions of the one
+    /// that left. It takes no memory.
     pub fn move_within(&mut self, from: usize, to: usize, filter: Filter) -> Numbers
         requires from { place_where (has_handle_in filter.handle) self.old.masks ≡ Some from }
         requires within { to < length self.old.masks }
         requires room { 0 < spare_at self.old.spares to }
-        requires key { (m : PlainMask) → item_at self.old.masks to ≡ Some m → list_any (has_key filter.key.words) (without filter.handle m.filters) ≡ false }
-        ensures old { (m : PlainMask) → item_at self.old.masks from ≡ Some m → option_map (λ f. f.actions) (find (has_handle filter.handle) m.filters) ≡ Some result }
+        requires key { (m : PlainMask) → item_at self.old.masks to ≡ Some m
+            → list_any (has_key filter.key.words) (without filter.handle m.filters) ≡ false }
+        ensures old { (m : PlainMask) → item_at self.old.masks from ≡ Some m
+            → option_map (λ f. f.actions) (find (has_handle filter.handle) m.filters) ≡ Some result }
         ensures masks { self.new.masks ≡ moved from to filter self.old.masks }
     {
         let old = take_at(&mut self.items, from, filter.handle);
@@ -177,7 +188,8 @@ impl MaskLists {
         old.actions
     }
 
-    /// Moves a filter into a new mask behind the others. `filters` is empty and has room. All else is as in `move_within`.
+    /// Moves a filter into a new mask behind the others. `filters` is empty and has room. All else is as in
+    /// `move_within`.
     pub fn move_out(
         &mut self,
         from: usize,
@@ -190,7 +202,8 @@ impl MaskLists {
         requires room { 0 < self.old.spare }
         requires empty { filters.filters ≡ [] }
         requires place { 0 < filters.spare }
-        ensures old { (m : PlainMask) → item_at self.old.masks from ≡ Some m → option_map (λ f. f.actions) (find (has_handle filter.handle) m.filters) ≡ Some result }
+        ensures old { (m : PlainMask) → item_at self.old.masks from ≡ Some m
+            → option_map (λ f. f.actions) (find (has_handle filter.handle) m.filters) ≡ Some result }
         ensures masks { self.new.masks ≡ moved_out from serial mask.words filter self.old.masks }
     {
         let old = take_at(&mut self.items, from, filter.handle);

@@ -8,7 +8,8 @@ ghost use Rattle.filter_tables.specs.TablePlaces.{IsTablePlace};
 
 use crate::filter_table::FilterTable;
 
-/// How many tables stand before that chain and pref: the place of the table that has them, or the place where it is to stand.
+/// How many tables stand before that chain and pref: the place of the table that has them, or the place where
+/// it is to stand.
 pub(crate) fn place_for(tables: &[FilterTable], chain: u32, pref: u32) -> usize
     requires { AreRising (map plain_table tables.now) }
     ensures { IsTablePlace chain pref tables.now result }

@@ -1,8 +1,10 @@
--- What each header puts into a list of values. Only the contracts of private functions speak of these words: `key_of` promises the list of
--- `Fields` and nothing of these.
-use Rattle.std.specs.Prelude.{ℕ, ◌+◌, ◌*◌, ◌/◌, ◌%◌, ◌==◌, nat_le, if◌then◌else◌, List, slice_index, slice_set}
+-- What each header puts into a list of values. Only the contracts of private functions speak of these words:
+-- `key_of` promises the list of `Fields` and nothing of these.
+use Rattle.std.specs.Prelude.{ℕ, ◌+◌, ◌*◌, ◌/◌, ◌%◌, ◌==◌, nat_le, if◌then◌else◌, List, slice_index}
+use Rattle.std.specs.Prelude.{slice_set}
 use Rattle.frame_edit.specs.Tags.{two_at}
-use Rattle.flow_dissect.specs.Headers.{four_at, six_at, eight_at, has_ipv4, has_ipv6, network_at, header_words, is_fragment_at, has_ports_at, has_flags_at}
+use Rattle.flow_dissect.specs.Headers.{four_at, six_at, eight_at, has_ipv4, has_ipv6, network_at}
+use Rattle.flow_dissect.specs.Headers.{header_words, is_fragment_at, has_ports_at, has_flags_at}
 
 -- the two addresses
 abbrev pub with_addresses : List ℕ → List ℕ → List ℕ
@@ -11,7 +13,8 @@ with_addresses bytes values = slice_set (slice_set values 0 (six_at bytes 0)) 1 
 -- a tag's number, priority and EtherType behind it, from that field on
 abbrev pub with_tag : ℕ → ℕ → ℕ → List ℕ → List ℕ
 with_tag field control inner values =
-    slice_set (slice_set (slice_set values field (control % 4096)) (field + 1) (control / 8192)) (field + 2) inner
+    slice_set (slice_set (slice_set values field (control % 4096)) (field + 1) (control / 8192))
+    (field + 2) inner
 
 abbrev pub with_first_tag : List ℕ → List ℕ → List ℕ
 with_first_tag bytes values = with_tag 2 (two_at bytes 14) (two_at bytes 16) values
@@ -61,7 +64,8 @@ with_ports bytes at values = slice_set (slice_set values 8 (two_at bytes at)) 9 
 abbrev pub with_transport : List ℕ → ℕ → ℕ → List ℕ → List ℕ
 with_transport bytes protocol at values =
     if has_ports_at bytes protocol at then
-    (if has_flags_at bytes protocol at then slice_set (with_ports bytes at values) 10 (two_at bytes (at + 12) % 4096)
+    (if has_flags_at bytes protocol at
+    then slice_set (with_ports bytes at values) 10 (two_at bytes (at + 12) % 4096)
     else with_ports bytes at values)
     else values
 
@@ -69,11 +73,13 @@ with_transport bytes protocol at values =
 abbrev pub with_ipv4_packet : List ℕ → ℕ → List ℕ → List ℕ
 with_ipv4_packet bytes at values =
     if is_fragment_at bytes at then with_ipv4 bytes at values
-    else with_transport bytes (slice_index bytes (at + 9)) (at + 4 * header_words bytes at) (with_ipv4 bytes at values)
+    else with_transport bytes (slice_index bytes (at + 9)) (at + 4 * header_words bytes at)
+    (with_ipv4 bytes at values)
 
 -- an IPv6 header and what it carries
 abbrev pub with_ipv6_packet : List ℕ → ℕ → List ℕ → List ℕ
-with_ipv6_packet bytes at values = with_transport bytes (slice_index bytes (at + 6)) (at + 40) (with_ipv6 bytes at values)
+with_ipv6_packet bytes at values =
+    with_transport bytes (slice_index bytes (at + 6)) (at + 40) (with_ipv6 bytes at values)
 
 -- the IP packet of a frame
 abbrev pub with_packet : List ℕ → List ℕ → List ℕ

@@ -1,19 +1,21 @@
 //! The header fields of an Ethernet frame.
 //!
-//! A frame comes from outside and may end anywhere, so a field of a header that is not there, or that is cut off, is 0. Of
-//! IPv4 the 20 bytes before the options must be there, of a transport header the 4 bytes of the ports, and 14 for the flags.
+//! A frame comes from outside and may end anywhere, so a field of a header that is not there, or that is cut
+//! off, is 0. Of IPv4 the 20 bytes before the options must be there, of a transport header the 4 bytes of the
+//! ports, and 14 for the flags.
 //!
-//! The headers are read once each, from left to right, one file a layer: `link` has the two addresses with the EtherType
-//! behind them and up to two VLAN tags, `network` has IPv4 and IPv6, and `transport` has TCP and UDP. Each puts its fields
-//! into a key that starts empty, and reading ends at the first layer that is not there.
+//! The headers are read once each, from left to right, one file a layer: `link` has the two addresses with
+//! the EtherType behind them and up to two VLAN tags, `network` has IPv4 and IPv6, and `transport` has TCP
+//! and UDP. Each puts its fields into a key that starts empty, and reading ends at the first layer that is
+//! not there.
 //!
-//! `specs/Fields.antt` says what the fields of a frame are, each by its own condition on the whole frame and its own place.
-//! The code asks less than these conditions, since a header that is not there has none behind it; `key_of` is proved to
-//! give those very values.
+//! `specs/Fields.antt` says what the fields of a frame are, each by its own condition on the whole frame and
+//! its own place. The code asks less than these conditions, since a header that is not there has none behind
+//! it; `key_of` is proved to give those very values.
 //!
-//! The functions take no memory, keep nothing, and answer on every input, so any thread may call them. Checksums, lengths
-//! and the version told inside of a header are not looked at, extension headers of IPv6 are not walked, and a fragment of
-//! an IPv4 packet has no ports.
+//! The functions take no memory, keep nothing, and answer on every input, so any thread may call them.
+//! Checksums, lengths and the version told inside of a header are not looked at, extension headers of IPv6
+//! are not walked, and a fragment of an IPv4 packet has no ports.
 #![tactic(auto)]
 
 ghost use Rattle.std.specs.Prelude.{◌≡◌};

@@ -1,8 +1,10 @@
 //! The headers of IPv4 and IPv6.
 ghost use Rattle.std.specs.Prelude.{◌≡◌, ◌+◌, ◌≤◌, length, IsTrue};
 ghost use Rattle.flow_fields.specs.Values.{values_of, IsTidy};
-ghost use Rattle.flow_dissect.specs.Headers.{is_ipv4_at, is_fragment_at, has_ipv4, has_ipv6, network_at, network_type};
-ghost use Rattle.flow_dissect.specs.Steps.{with_ipv4, with_ipv4_packet, with_ipv6, with_ipv6_addresses, with_ipv6_packet, with_packet};
+ghost use Rattle.flow_dissect.specs.Headers.{is_ipv4_at, is_fragment_at, has_ipv4, has_ipv6, network_at};
+ghost use Rattle.flow_dissect.specs.Headers.{network_type};
+ghost use Rattle.flow_dissect.specs.Steps.{with_ipv4, with_ipv4_packet, with_ipv6, with_ipv6_addresses};
+ghost use Rattle.flow_dissect.specs.Steps.{with_ipv6_packet, with_packet};
 
 use crate::link::NetworkPlace;
 use crate::numbers::{u16_at, u32_at, u64_at};

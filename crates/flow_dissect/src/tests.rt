@@ -21,7 +21,8 @@ const UDP6: &[u8] = b"\x00\x00\x00\x08\x11\x40\x20\x01\x0d\xb8\0\0\0\0\0\0\0\0\0
 // What fills a header up to 60 bytes behind the 46 of a packet, and then the ports.
 const BEHIND: &[u8] = b"\0\0\0\0\0\0\0\0\0\0\0\0\0\0\x13\x88\x00\x35";
 
-// Protocol, source, destination, and in one word time to live and type of service; the IPv6 source and destination in halves.
+// Protocol, source, destination, and in one word time to live and type of service; the IPv6 source and
+// destination in halves.
 const IPV4: [u64; 4] = [17, 0x0a0000fe, 0x0a000001, 0x4000];
 
 const IPV6: [u64; 4] = [0x2001_0db8_0000_0000, 0xfe, 0x2001_0db8_0000_0000, 1];
@@ -39,7 +40,8 @@ fn joined(rt: &HostRuntime, parts: [&[u8]; 4]) -> Result<Vec<u8>, AllocError> {
     Ok(bytes)
 }
 
-// The EtherTypes and tags, two parts of a packet; then the words of the two tags, of IP, of the ports and of IPv6.
+// The EtherTypes and tags, two parts of a packet; then the words of the two tags, of IP, of the ports and of
+// IPv6.
 #[test]
 fn fields_of_frames(rt: HostRuntime) -> Result<(), AllocError> {
     let frames: [(&[u8], &[u8], &[u8], [u64; 2], [u64; 4], u64, [u64; 4]); 16] = [
@@ -167,8 +169,8 @@ fn fields_of_frames(rt: HostRuntime) -> Result<(), AllocError> {
     Ok(())
 }
 
-// Fields come with the last byte of their header: 14 bytes for the addresses, 34 for IPv4, 38 for the ports, 48 for the
-// flags.
+// Fields come with the last byte of their header: 14 bytes for the addresses, 34 for IPv4, 38 for the ports,
+// 48 for the flags.
 #[test]
 fn cut_frames(rt: HostRuntime) -> Result<(), AllocError> {
     let bytes = joined(&rt, [ADDRESSES, b"\x08\x00", TCP, b""])?;

@@ -23,13 +23,14 @@ fn put_ports(key: &mut Key<14>, bytes: &[u8], start: usize)
     set(key, field::DST_PORT, u16_at(bytes, start + 2) as u64);
 }
 
-/// Puts the fields of a transport header of that protocol that starts there, as far as the frame has them. The headers before
-/// it end at byte 82 at the latest: 22 bytes of Ethernet with two tags, and 60 of IPv4.
+/// Puts the fields of a transport header of that protocol that starts there, as far as the frame has them.
+/// The headers before it end at byte 82 at the latest: 22 bytes of Ethernet with two tags, and 60 of IPv4.
 #[inline]
 #[tactic(auto, unfolding(flow_fields::specs::Table::fields))]
 pub(crate) fn put_transport(key: &mut Key<14>, bytes: &[u8], protocol: u8, start: usize)
     requires near { start ≤ 82 }
-    ensures values { values_of key.new.words ≡ with_transport bytes.now protocol start (values_of key.old.words) }
+    ensures values { values_of key.new.words
+        ≡ with_transport bytes.now protocol start (values_of key.old.words) }
     ensures tidy { IsTidy key.old.words → IsTidy key.new.words }
 {
     if protocol != TCP && protocol != UDP || bytes.len() < start + 4 {

@@ -1,11 +1,13 @@
 -- The fields of a key, and where they stand in it.
-use Rattle.std.specs.Prelude.{ℕ, Bool, ◌+◌, ◌<◌, ◌≤◌, ◌==◌, ◌&&◌, nat_le, nat_lt, List, [], ◌∷◌, Option, position, slice_index_or, codes}
+use Rattle.std.specs.Prelude.{ℕ, Bool, ◌+◌, ◌<◌, ◌≤◌, ◌==◌, ◌&&◌, nat_le, nat_lt, List, [], ◌∷◌, Option}
+use Rattle.std.specs.Prelude.{position, slice_index_or, codes}
 use Rattle.std.specs.Str.{bytes_eq}
 use Rattle.flow_fields.specs.declared.table.FieldRow.{FieldRow}
 use Rattle.flow_fields.specs.declared.table.Form.{Form}
 use Rattle.flow_fields.specs.declared.table.Form.TheVariants as forms
 
--- a field: its name, the bits of a key that it has (the width lowest of a word, after a shift to the right), and how its value is written
+-- a field: its name, the bits of a key that it has (the width lowest of a word, after a shift to the right),
+-- and how its value is written
 pub record Field : Type 0 where
   pub name : List ℕ
   pub word : ℕ
@@ -15,12 +17,19 @@ pub record Field : Type 0 where
 
 -- the field that a row of the program's table describes
 abbrev pub field_of_row : FieldRow → Field
-field_of_row row = record { name = row.name.now; word = row.word; shift = row.shift; width = row.width; form = row.form }
+field_of_row row = record {
+  name = row.name.now;
+  word = row.word;
+  shift = row.shift;
+  width = row.width;
+  form = row.form;
+}
 
--- The fields, in the order of their numbers. The words and shifts are this project's own; the names are those of flower keys in
--- tc-flower(8), or made alike, and the widths are those of the header fields: IEEE 802.3 clause 3.2 (addresses), IEEE 802.1Q clause 9
--- (tags), RFC 791 section 3.1 (IPv4), RFC 8200 section 3 (IPv6, whose addresses are two fields each), RFC 768 and RFC 9293 section 3.1
--- (ports, and the twelve low bits of the word that has the flags).
+-- The fields, in the order of their numbers. The words and shifts are this project's own; the names are those
+-- of flower keys in tc-flower(8), or made alike, and the widths are those of the header fields: IEEE 802.3
+-- clause 3.2 (addresses), IEEE 802.1Q clause 9 (tags), RFC 791 section 3.1 (IPv4), RFC 8200 section 3 (IPv6,
+-- whose addresses are two fields each), RFC 768 and RFC 9293 section 3.1 (ports, and the twelve low bits of
+-- the word that has the flags).
 unfoldable pub fields : List Field
 fields =
     record { name = codes "dst_mac"; word = 0; shift = 0; width = 48; form = forms.Mac }
@@ -68,4 +77,5 @@ pub record IsPlaced (field : Field) : Type 0 where
 
 -- a field has that bit of that word
 abbrev pub has_bit : ℕ → ℕ → Field → Bool
-has_bit word bit field = field.word == word && (nat_le field.shift bit && nat_lt bit (field.shift + field.width))
+has_bit word bit field = field.word == word
+    && (nat_le field.shift bit && nat_lt bit (field.shift + field.width))

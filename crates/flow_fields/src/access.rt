@@ -1,7 +1,8 @@
 //! Reads and writes the fields of a key.
 ghost use Rattle.std.specs.Prelude.{◌≡◌, ◌+◌, ◌^◌, ◌<◌, ◌≤◌, slice_index, slice_set};
 ghost use Rattle.flow_fields.specs.Table.{field_at};
-ghost use Rattle.flow_fields.specs.Values.{value_in, values_of, bits_of, with_bits, with_value, IsTidy, SameStrays};
+ghost use Rattle.flow_fields.specs.Values.{value_in, values_of, bits_of, with_bits, with_value, IsTidy};
+ghost use Rattle.flow_fields.specs.Values.{SameStrays};
 
 use crate::key::Key;
 use crate::table::row;

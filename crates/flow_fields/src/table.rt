@@ -21,7 +21,8 @@ pub enum Form {
     Flags,
 }
 
-/// One field: its name, the `width` bits from bit `shift` on of a key's word `word`, and how its value is written.
+/// One field: its name, the `width` bits from bit `shift` on of a key's word `word`, and how its value is
+/// written.
 #[derive(Clone, Copy, Debug)]
 pub struct FieldRow {
     pub name: &'static [u8],

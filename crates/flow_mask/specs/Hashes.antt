@@ -1,4 +1,5 @@
--- The hash of a key's words, this project's own: a multiplication and a shift for each word, on numbers below 2 ^ 64.
+-- The hash of a key's words, this project's own: a multiplication and a shift for each word, on numbers below
+-- 2 ^ 64.
 use Rattle.std.specs.Prelude.{ℕ, ◌*◌, ◌/◌, ◌%◌, ◌^◌, List, bit_xor}
 use Rattle.std.specs.List.{fold}
 

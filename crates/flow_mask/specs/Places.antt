@@ -16,5 +16,6 @@ abbrev pub HasPlaces : List ℕ → ℕ → List ℕ → ℕ → Type 0
 HasPlaces mask n places count = record {
   counted : count ≡ used_before mask n;
   below : (j : ℕ) → j < count → get_or places j 0 < n;
-  listed : (k : ℕ) → k < n → (get_or mask k 0 ≡ 0 → ⊥) → (used_before mask k < count) × (get_or places (used_before mask k) 0 ≡ k);
+  listed : (k : ℕ) → k < n → (get_or mask k 0 ≡ 0 → ⊥) → (used_before mask k < count)
+      × (get_or places (used_before mask k) 0 ≡ k);
 }

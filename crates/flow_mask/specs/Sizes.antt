@@ -12,7 +12,8 @@ is_size number = list_any (λ size. size == number) sizes
 -- the first of some sizes of which the filters fill three quarters at most, and 1,024 where none is enough
 abbrev pub first_with_room : ℕ → List ℕ → ℕ
 first_with_room filters [] = 1024
-first_with_room filters (size ∷ more) = if nat_le (4 * filters) (3 * size) then size else first_with_room filters more
+first_with_room filters (size ∷ more) = if nat_le (4 * filters) (3 * size) then size
+    else first_with_room filters more
 
 abbrev pub size_of : ℕ → ℕ
 size_of filters = first_with_room filters sizes

@@ -23,7 +23,8 @@ impl Model for MaskedKey {
 
     ghost view = { λ m. record { mask = m.mask.words; key = m.key.words } };
 
-    ghost invariant = { λ m. (each_and m.key.words m.mask.words ≡ m.key.words) × (m.count ≤ 14) × HasPlaces m.mask.words 14 m.places m.count };
+    ghost invariant = { λ m. (each_and m.key.words m.mask.words ≡ m.key.words) × (m.count ≤ 14)
+        × HasPlaces m.mask.words 14 m.places m.count };
 }
 
 impl MaskedKey {
@@ -31,7 +32,8 @@ impl MaskedKey {
     pub fn new(key: &Key<14>, mask: &Key<14>) -> MaskedKey
         ensures mask { result.mask ≡ mask.now.words }
         ensures key { result.key ≡ each_and key.now.words mask.now.words }
-        ensures fields { values_of result.key ≡ each_and (values_of key.now.words) (values_of mask.now.words) }
+        ensures fields { values_of result.key
+            ≡ each_and (values_of key.now.words) (values_of mask.now.words) }
         ensures tidy { IsTidy mask.now.words → IsTidy result.key }
     {
         let mut places = [0; 14];
@@ -44,13 +46,14 @@ impl MaskedKey {
         }
     }
 
-    /// Whether the words of a packet's key, under the mask, are those of this key, as `matches` says it. Only the words at
-    /// which the mask isn't 0 are read.
+    /// Whether the words of a packet's key, under the mask, are those of this key, as `matches` says it. Only
+    /// the words at which the mask isn't 0 are read.
     #[inline]
     pub fn matches(&self, frame_key: &Key<14>) -> bool
         ensures words { IsTrue result ↔ (each_and frame_key.now.words self.now.mask ≡ self.now.key) }
         ensures fields { IsTidy self.now.mask → IsTidy self.now.key →
-            (IsTrue result ↔ (each_and (values_of frame_key.now.words) (values_of self.now.mask) ≡ values_of self.now.key)) }
+            (IsTrue result
+            ↔ (each_and (values_of frame_key.now.words) (values_of self.now.mask) ≡ values_of self.now.key)) }
     {
         match_at(
             &self.places,

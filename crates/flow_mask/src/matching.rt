@@ -29,14 +29,15 @@ fn mask_slice(words: &mut [u64], mask: &[u64])
     }
 }
 
-/// Whether the words of a packet's key, under the mask, are those of a filter's key. So are then the values of all fields;
-/// and where mask and key have no stray bit, the other way round too.
+/// Whether the words of a packet's key, under the mask, are those of a filter's key. So are then the values
+/// of all fields; and where mask and key have no stray bit, the other way round too.
 #[inline]
 pub fn matches<const N: usize>(frame_key: &Key<N>, mask: &Key<N>, key: &Key<N>) -> bool
     ensures words { IsTrue result ↔ (each_and frame_key.now.words mask.now.words ≡ key.now.words) }
     ensures test { result ≡ is_match frame_key.now.words mask.now.words key.now.words }
     ensures fields { IsTidy mask.now.words → IsTidy key.now.words →
-        (IsTrue result ↔ (each_and (values_of frame_key.now.words) (values_of mask.now.words) ≡ values_of key.now.words)) }
+        (IsTrue result
+        ↔ (each_and (values_of frame_key.now.words) (values_of mask.now.words) ≡ values_of key.now.words)) }
 {
     slices_match(&frame_key.words, &mask.words, &key.words)
 }
@@ -61,6 +62,7 @@ fn slices_match(frame: &[u64], mask: &[u64], key: &[u64]) -> bool
 ///
 /// The function does nothing: its contract is the law.
 pub fn words_are_fields()
-    ensures { (frame mask key : List ℕ) → length frame ≡ length key → length mask ≡ length key → IsTidy mask → IsTidy key →
+    ensures { (frame mask key : List ℕ) → length frame ≡ length key → length mask ≡ length key → IsTidy mask
+        → IsTidy key →
         (each_and frame mask ≡ key) ↔ (each_and (values_of frame) (values_of mask) ≡ values_of key) }
 {}

@@ -6,8 +6,8 @@ const LEAST: u32 = 16;
 
 const GREATEST: u32 = 1024;
 
-/// The number of buckets for some filters: the least power of two from 16 to 1,024 of which they fill three quarters at
-/// most, and 1,024 where none is enough.
+/// The number of buckets for some filters: the least power of two from 16 to 1,024 of which they fill three
+/// quarters at most, and 1,024 where none is enough.
 pub fn size_for(filters: u32) -> u32
     ensures size { result ≡ size_of filters }
     ensures power { IsTrue (is_size result) }

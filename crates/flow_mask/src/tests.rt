@@ -1,8 +1,8 @@
 use crate::{hash, size_for};
 use flow_fields::Key;
 
-// The hashes were computed by hand in Python's numbers, which have no greatest one: h = 0x9E3779B97F4A7C15, and for each
-// word w in order h = (h ^ w) * 0xFF51AFD7ED558CCD % 2**64; h ^= h >> 32.
+// The hashes were computed by hand in Python's numbers, which have no greatest one: h = 0x9E3779B97F4A7C15,
+// and for each word w in order h = (h ^ w) * 0xFF51AFD7ED558CCD % 2**64; h ^= h >> 32.
 #[test]
 fn hashes_of_keys(rt: HostRuntime) {
     let mut one_address = [0; 14];

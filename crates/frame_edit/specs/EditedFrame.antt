@@ -19,11 +19,12 @@ loaded_frame bytes = record { bytes = bytes; loaded = length bytes; meta = no_me
 abbrev pub with_bytes : EditedFrame → List ℕ → EditedFrame
 with_bytes frame bytes = record { bytes = bytes; loaded = frame.loaded; meta = frame.meta }
 
--- four bytes more would be more than 64 past the loaded length, or more than 262,144. A frame that no tag is pushed into lacks
--- no room.
+-- four bytes more would be more than 64 past the loaded length, or more than 262,144. A frame that no tag is
+-- pushed into lacks no room.
 abbrev pub lacks_room : EditedFrame → Bool
 lacks_room frame =
-    has_ethernet frame.bytes && (nat_lt (frame.loaded + 64) (length frame.bytes + 4) || nat_lt FRAME_MAX (length frame.bytes + 4))
+    has_ethernet frame.bytes
+    && (nat_lt (frame.loaded + 64) (length frame.bytes + 4) || nat_lt FRAME_MAX (length frame.bytes + 4))
 
 -- where a frame lies in its buffer of 64 and 262,144 bytes, so that `end` stands 64 past the loaded length
 pub record IsPlaced (buffer : List ℕ) (start end : ℕ) : Type 0 where

@@ -1,5 +1,5 @@
--- The metadata of a frame: the packet's priority, mark and queue mapping of tc-skbedit(8). That all three start at 0 is this
--- project's own.
+-- The metadata of a frame: the packet's priority, mark and queue mapping of tc-skbedit(8). That all three
+-- start at 0 is this project's own.
 use Rattle.std.specs.Prelude.{◌≡◌}
 use Rattle.frame_edit.specs.declared.meta.Meta.{Meta}
 

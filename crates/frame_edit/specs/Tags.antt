@@ -1,6 +1,8 @@
--- VLAN tags in the bytes of an Ethernet frame, and what the actions of tc-vlan(8) make of them. Bytes are counted from 0, and
--- numbers are big-endian. How many bytes a frame must have for an action to change it is this project's own.
-use Rattle.std.specs.Prelude.{ℕ, ◌+◌, ◌*◌, ◌/◌, ◌%◌, ◌^◌, Bool, ◌&&◌, ◌||◌, ◌==◌, nat_le, if◌then◌else◌, List, ◌++◌, length, take, drop, Option, unwrap_or}
+-- VLAN tags in the bytes of an Ethernet frame, and what the actions of tc-vlan(8) make of them. Bytes are
+-- counted from 0, and numbers are big-endian. How many bytes a frame must have for an action to change it is
+-- this project's own.
+use Rattle.std.specs.Prelude.{ℕ, ◌+◌, ◌*◌, ◌/◌, ◌%◌, ◌^◌, Bool, ◌&&◌, ◌||◌, ◌==◌, nat_le, if◌then◌else◌, List}
+use Rattle.std.specs.Prelude.{◌++◌, length, take, drop, Option, unwrap_or}
 use Rattle.byteorder.specs.Endian.{big_number, big_bytes}
 
 -- the number in the two bytes from a place on
@@ -19,12 +21,13 @@ ether_type_of bytes = if has_ethernet bytes then two_at bytes 12 else 0
 abbrev pub is_tag_type : ℕ → Bool
 is_tag_type number = number == 0x8100 || number == 0x88a8
 
--- IEEE 802.1Q, clause 9: a tag is its own EtherType (TPID) and two bytes of control information (TCI) behind the addresses. It
--- counts as one only where the EtherType behind it is in the frame too.
+-- IEEE 802.1Q, clause 9: a tag is its own EtherType (TPID) and two bytes of control information (TCI) behind
+-- the addresses. It counts as one only where the EtherType behind it is in the frame too.
 abbrev pub is_tagged : List ℕ → Bool
 is_tagged bytes = is_tag_type (two_at bytes 12) && nat_le 18 (length bytes)
 
--- IEEE 802.1Q, clause 9.6: the TCI has three bits of priority, the drop eligible bit (DEI), and twelve bits of the VLAN's id
+-- IEEE 802.1Q, clause 9.6: the TCI has three bits of priority, the drop eligible bit (DEI), and twelve bits
+-- of the VLAN's id
 abbrev pub control_of : ℕ → ℕ → ℕ → ℕ
 control_of priority drop_eligible id = priority * 2 ^ 13 + drop_eligible * 2 ^ 12 + id
 
@@ -62,7 +65,8 @@ pushed bytes tpid tci = if has_ethernet bytes then with_tag bytes tpid tci else 
 abbrev pub popped : List ℕ → List ℕ
 popped bytes = if is_tagged bytes then without_tag bytes else bytes
 
--- modify: the outermost tag gets the TPID, the id and, where one is given, the priority; an untagged frame stays as it is
+-- modify: the outermost tag gets the TPID, the id and, where one is given, the priority; an untagged frame
+-- stays as it is
 abbrev pub modified : List ℕ → ℕ → Option ℕ → ℕ → List ℕ
 modified bytes id priority tpid =
     if is_tagged bytes then retagged bytes tpid (control_with (two_at bytes 14) id priority) else bytes

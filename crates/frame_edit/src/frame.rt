@@ -40,7 +40,11 @@ impl Model for Frame {
 
     ghost Value = { EditedFrame };
 
-    ghost view = { λ f. record { bytes = slice_range f.buffer.items f.start f.end; loaded = f.end - 64; meta = f.meta } };
+    ghost view = { λ f. record {
+      bytes = slice_range f.buffer.items f.start f.end;
+      loaded = f.end - 64;
+      meta = f.meta;
+    } };
 
     ghost invariant = { λ f. IsPlaced f.buffer.items f.start f.end };
 }

@@ -1,7 +1,8 @@
 //! Edits of a tag in a slice of bytes.
 ghost use Rattle.std.specs.Prelude.{◌≡◌, ◌+◌, ◌≤◌, ◌<◌, length, drop};
 ghost use Rattle.std.specs.Option.{ForSome};
-ghost use Rattle.frame_edit.specs.Tags.{two_at, is_tag_type, is_tagged, control_with, with_tag, without_tag, retagged, modified};
+ghost use Rattle.frame_edit.specs.Tags.{two_at, is_tag_type, is_tagged, control_with, with_tag, without_tag};
+ghost use Rattle.frame_edit.specs.Tags.{retagged, modified};
 
 use byteorder::{BigEndian, ByteOrder};
 

@@ -1,4 +1,5 @@
--- Each generated line ends with its one line feed, so the batch has as many lines as the hook and its filters are.
+-- Each generated line ends with its one line feed, so the batch has as many lines as the hook and its filters
+-- are.
 use Rattle.std.proofs.Common.{◌≡◌, ◌∙◌, ℕ, zero, suc, ◌+◌, ◌/◌, ◌%◌, ◌^◌, ◌<◌, ◌≤◌, Bool, true, false, cond, List, [], ◌∷◌, ◌++◌, length, refl, ap, arith}
 use Rattle.std.specs.Prelude.{◌==◌, not, count_by, codes, decimal, if◌then◌else◌}
 use Rattle.std.specs.List.{slice_split}

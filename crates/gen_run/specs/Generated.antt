@@ -44,7 +44,8 @@ files_of front batch capture job output =
 
 -- THE FILES THAT ARE MADE: the batch, the capture, the job, and what the job's run puts
 abbrev pub made_files : ℕ → List ℕ → Ran → List MadeFile
-made_files filters front ran = files_of front (batch_text filters) (capture_bytes (capture_of filters)) (job_text front) (output_bytes filters ran)
+made_files filters front ran = files_of front (batch_text filters) (capture_bytes (capture_of filters))
+    (job_text front) (output_bytes filters ran)
 
 -- THE TEXT: the counters of the job's run, the summary, `end`
 abbrev pub made_text : ℕ → Ran → List ℕ

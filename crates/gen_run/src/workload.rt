@@ -34,7 +34,8 @@ pub struct Generated {
     pub refused: bool,
 }
 
-/// A batch for at most 4,096 filters has far fewer commands than a run may have. An empty function that carries this law.
+/// A batch for at most 4,096 filters has far fewer commands than a run may have. An empty function that
+/// carries this law.
 pub fn few_commands()
     ensures { (filters : ℕ) → filters ≤ 4096 → length (commands_of (batch_text filters)) ≤ COMMANDS_MAX }
 {}
@@ -53,7 +54,8 @@ fn walk_all(alloc: Global, filters: u32, batch: &[u8]) -> Result<Walks, NoMemory
     requires batch { batch.now ≡ batch_text filters }
     ensures packets { IfOk result (λ w. w.packets ≡ packets_of filters) }
     ensures short { IfOk result (λ w. AreShort w.packets) }
-    ensures walked { IfOk result (λ w. (ran : Ran) × IsRunOf filters ran × IsWalked ran Ingress (packets_of filters) w.walk) }
+    ensures walked { IfOk result (λ w. (ran : Ran) × IsRunOf filters ran
+        × IsWalked ran Ingress (packets_of filters) w.walk) }
     ensures passed_short { IfOk result (λ w. AreShort w.walk.passed) }
 {
     few_commands();
@@ -76,15 +78,16 @@ fn bytes_of(alloc: Global, packets: Packets) -> Result<Vec<u8>, NoMemory>
     write(alloc, &capture)
 }
 
-/// Makes a batch of so many filters, a capture that meets each twelve times, and the job that walks the one through the other, and
-/// runs that job. Its batch is over before its capture begins, so each packet's walk is the plain one. The names of the files begin
-/// with `front`.
+/// Makes a batch of so many filters, a capture that meets each twelve times, and the job that walks the one
+/// through the other, and runs that job. Its batch is over before its capture begins, so each packet's walk
+/// is the plain one. The names of the files begin with `front`.
 ///
 /// `NoMemory`: memory was refused.
 pub fn generate(alloc: Global, filters: u32, front: &str) -> Result<Generated, NoMemory>
     requires some { 1 ≤ filters }
     requires few { filters ≤ 4096 }
-    ensures { IfOk result (λ made. (ran : Ran) × IsRunOf filters ran × IsGenerated filters front.now ran made) }
+    ensures { IfOk result (λ made. (ran : Ran) × IsRunOf filters ran
+        × IsGenerated filters front.now ran made) }
 {
     let batch = gen_batch(alloc, filters)?;
     let Walks { packets, walk } = walk_all(alloc, filters, &batch)?;

@@ -8,7 +8,13 @@ abbrev pub serials_of : List PlainMask → List ℕ
 serials_of masks = map (λ (mask : PlainMask). mask.serial) masks
 
 abbrev pub head_of : PlainTable → Head
-head_of table = record { serial = table.serial; chain = table.chain; pref = table.pref; protocol = table.protocol; masks = serials_of table.masks }
+head_of table = record {
+  serial = table.serial;
+  chain = table.chain;
+  pref = table.pref;
+  protocol = table.protocol;
+  masks = serials_of table.masks;
+}
 
 -- the mask of that serial stands at a place of the table at a place
 pub record IsMaskAt (heads : List Head) (table place serial : ℕ) : Type 0 where

@@ -1,9 +1,10 @@
 //! The tables of a hook as a packet's walk is told them.
 //!
-//! A walk asks a hook for its heads: its tables by chain and pref, each with the serials of its masks. A plain state answers from its flat
-//! rows, which are sorted and grouped for it (`heads_on` of `walk_rules`). Two laws say what whoever keeps more than rows may count on.
-//! `listed_heads`: who keeps tables in lists tells each list as one head, and has told the heads of the state. `same_mask`: in a sound
-//! state a mask stands at one place of one table of one hook, so that its serial alone says where it is.
+//! A walk asks a hook for its heads: its tables by chain and pref, each with the serials of its masks. A
+//! plain state answers from its flat rows, which are sorted and grouped for it (`heads_on` of `walk_rules`).
+//! Two laws say what whoever keeps more than rows may count on. `listed_heads`: who keeps tables in lists
+//! tells each list as one head, and has told the heads of the state. `same_mask`: in a sound state a mask
+//! stands at one place of one table of one hook, so that its serial alone says where it is.
 //!
 //! The first law asks for lists that are kept whole; the second speaks of states alone.
 //!

@@ -1,4 +1,5 @@
--- No edit changes an action's index: an action that is there afterwards has a new serial, or the index that its serial had.
+-- No edit changes an action's index: an action that is there afterwards has a new serial, or the index that
+-- its serial had.
 use Rattle.std.proofs.Common.{◌≡◌, ◌⊎◌, inl, inr, ℕ, ◌+◌, ◌<◌, ◌≤◌, Bool, true, false, not, cond, ◌&&◌, if◌then◌else◌, List, [], ◌∷◌, Option, Some, None, Result, Ok, refl, sym, ◌∙◌, ap, subst, arith, eq-eqb}
 use Rattle.std.specs.Prelude.{filter}
 use Rattle.std.specs.Option.{option_map, unwrap_or}

@@ -1,5 +1,7 @@
--- What the law of commits asks of one edit, in this project's states (this project's own). `h` is the commits before the edit.
-use Rattle.std.specs.Prelude.{◌≡◌, ◌≢◌, ◌⊎◌, ℕ, ◌<◌, ◌≤◌, ◌==◌, not, List, length, filter, Option, Some, None, Ok}
+-- What the law of commits asks of one edit, in this project's states (this project's own). `h` is the commits
+-- before the edit.
+use Rattle.std.specs.Prelude.{◌≡◌, ◌≢◌, ◌⊎◌, ℕ, ◌<◌, ◌≤◌, ◌==◌, not, List, length, filter, Option, Some, None}
+use Rattle.std.specs.Prelude.{Ok}
 use Rattle.std.specs.Option.{unwrap_or}
 use Rattle.tc_base.specs.declared.hook.Hook.{Hook}
 use Rattle.act_kinds.specs.declared.params.Params.{Params}
@@ -29,8 +31,8 @@ now h = now_of hook_meaning h
 abbrev pub next : List (Commit Edit) → Edit → State
 next h y = next_of hook_meaning h y
 
--- The commits keep the law, and the edit is one that a line can say and is accepted after them: it leads to the state t, and this is
--- what was done.
+-- The commits keep the law, and the edit is one that a line can say and is accepted after them: it leads to
+-- the state t, and this is what was done.
 pub record IsAccepted (h : List (Commit Edit)) (b : ℕ) (y : Edit) (t : State) (done : Done) : Type 0 where
   pub keeps : Keeps hook_meaning hook_codec h b
   pub low : b ≤ length h
@@ -66,7 +68,8 @@ NoneComes s t = (action : ℕ) → IsLive hook_meaning t action → IsLive hook_
 
 -- an action that comes has one of the serials that were given meanwhile
 abbrev pub NewOnesCome : State → State → Type 0
-NewOnesCome s t = (action : ℕ) → IsLive hook_meaning t action → IsLive hook_meaning s action ⊎ ((s.actions_made < action) × (action ≤ t.actions_made))
+NewOnesCome s t = (action : ℕ) → IsLive hook_meaning t action → IsLive hook_meaning s action
+    ⊎ ((s.actions_made < action) × (action ≤ t.actions_made))
 
 -- one action has this index and these parameters afterwards, and nothing else is otherwise than before
 pub record SetsAction (serial index : ℕ) (params : Params) (s t : State) : Type 0 where
@@ -108,8 +111,8 @@ pub record Loses (mask handle : ℕ) (s t : State) : Type 0 where
   pub loses : LosesFilter hook_meaning s t mask earlier old later
 
 -- ---- heads
--- The tables of one hook change, or their masks: those of every other hook number stay, all masks but those that are concerned keep
--- words and filters, and a live action keeps its index and parameters or goes.
+-- The tables of one hook change, or their masks: those of every other hook number stay, all masks but those
+-- that are concerned keep words and filters, and a live action keeps its index and parameters or goes.
 pub record LeavesOtherHook (hook : Hook) (IsConcerned : ℕ → Type 0) (s t : State) : Type 0 where
   pub heads : (other : ℕ) → other ≢ hook_number hook → tables_at t other ≡ tables_at s other
   pub words : (mask : ℕ) → (IsConcerned mask → ⊥) → words_of t mask ≡ words_of s mask

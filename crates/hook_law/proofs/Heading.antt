@@ -94,7 +94,8 @@ module _ {E S N P : Type 0} (K : Meaning E S N P) (R : Codec N P) (h : List (Com
   abbrev Came : ℕ → Role → Type 0
   Came r x = IsOfPrepared K R b h c y r x ⊎ IsMade K R b h y r x
 
-  -- what stands afterwards stood, or is of a mask that was prepared and that the chain names, or is an action that was put
+  -- what stands afterwards stood, or is of a mask that was prepared and that the chain names, or is an action
+  -- that was put
   pub head_comes : (r : ℕ) (x : Role) → Present K R h → Stands K R (h ++ c ∷ []) r x
       → Stands K R h r x ⊎ (IsOfPrepared K R b h c y r x ⊎ IsMade K R b h y r x)
   head_comes r (Head i) p s = inl s

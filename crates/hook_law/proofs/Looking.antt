@@ -55,7 +55,8 @@ module _ {E S N P : Type 0} (K : Meaning E S N P) (R : Codec N P) where
   record_tells edits m named point p mask t read low high = let o = t.reads p low high in let same : o.mask ≡ mask = some_is o.mask mask (sym o.read ∙ read) in
       (sym o.words ∙ ap (λ (z : MaskRecord). z.words) same, subst (λ (z : MaskRecord). SizeFits K z.size m (state_at K edits (p - 1)) (state_at K edits p)) same o.size)
 
-  -- a record that was read at one time is right up to the point of a later one at which the root has its stamp and size
+  -- a record that was read at one time is right up to the point of a later one at which the root has its
+  -- stamp and size
   pub record_holds : (h : List (Commit E)) (b n at m slot k row p : ℕ) (mask : MaskRecord) → Keeps K R h b → b ≤ n → n ≤ at → at ≤ length h
       → IsMaskAt R (take n h) m slot
       → read_first R.mask (root_of (take n h) (mask_root slot)).chain ≡ Some mask

@@ -77,7 +77,8 @@ module _ {E S N P : Type 0} (K : Meaning E S N P) (R : Codec N P) where
       alone n x lown le d same s = subst (λ (z : Commit E). Stands K R (h ++ c ∷ []) z.root x) same
           (w.alone n x lown le (subst (λ (z : Commit E). Stands K R (take n h) z.root x) (sym same) s))
 
-  -- what stood after n commits stood at some time up to any later one with its root as it is at that later time
+  -- what stood after n commits stood at some time up to any later one with its root as it is at that later
+  -- time
   pub last_stood : (h : List (Commit E)) (b n r : ℕ) (x : Role) (d : ℕ) → Keeps K R h b → b ≤ n → n + d ≤ length h → Stands K R (take n h) r x
       → (q : ℕ) × (n ≤ q) × (q ≤ n + d) × Stands K R (take q h) r x × (root_of (take (n + d) h) r ≡ root_of (take q h) r)
   last_stood h b n r x zero k low high s = let e : n + 0 ≡ n = omega arith in (n, omega arith, omega arith, s, ap (λ (z : ℕ). root_of (take z h) r) e)

@@ -99,7 +99,8 @@ module _ {E S N P : Type 0} (K : Meaning E S N P) (R : Codec N P) where
   pub change_rests : (h : List (Commit E)) (c : Commit E) (y : E) → ChangesAction K R h c y → IsAtRest K R (h ++ c ∷ [])
   change_rests h c y w m = write_rests h c y m (point_of h + 1) (λ r low high is. let ro = w.root in omega arith) w.carries.number (w.touches.filters m) (w.rest m)
 
-  -- an edit of a bucket leaves every other mask at rest, and its own where the size is still the one for the filters
+  -- an edit of a bucket leaves every other mask at rest, and its own where the size is still the one for the
+  -- filters
   pub rewrite_rests_others : (h : List (Commit E)) (b : ℕ) (c : Commit E) (y : E) (w : RewritesBucket K R b h c y)
       → IsAtRestBut K R (h ++ c ∷ []) w.region.mask
   rewrite_rests_others h b c y w m ne = write_rests h c y m (point_of h + 1) (λ r low high is. let ro = w.root in omega arith) w.carries.number (w.touches.others.filters m ne) (w.rest m)

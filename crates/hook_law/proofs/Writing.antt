@@ -1,4 +1,5 @@
--- The law of a numbered commit to a root that is neither a head's nor a mask's: the marker root, a bucket's or an action's.
+-- The law of a numbered commit to a root that is neither a head's nor a mask's: the marker root, a bucket's
+-- or an action's.
 use Rattle.std.proofs.Common.{◌≡◌, ◌≢◌, ℕ, ◌+◌, ◌<◌, ◌≤◌, ◌⊎◌, inl, inr, Bool, true, false, eqb, List, [], ◌∷◌, ◌++◌, length, take, Option, Some, refl, ap, sym, ◌∙◌, subst, arith}
 use Rattle.store_history.specs.declared.history.Commit.{Commit}
 use Rattle.store_history.specs.declared.history.Named.{Named}

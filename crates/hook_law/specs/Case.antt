@@ -18,7 +18,8 @@ small_meaning = record {
   start = 0;
   step = λ s y. s + 1;
   Lawful = λ ys. Unit {0};
-  heads = λ s hook. if (s == 1) && (hook == 0) then record { serial = 1; names = 0; masks = 1 ∷ [] } ∷ [] else [];
+  heads = λ s hook. if (s == 1) && (hook == 0) then record { serial = 1; names = 0; masks = 1 ∷ [] } ∷ []
+      else [];
   words = λ s m. [];
   filters = λ s m. if (s == 1) && (m == 1) then small_filter ∷ [] else [];
   params = λ s a. None;

@@ -1,4 +1,5 @@
--- What an edit leaves of a state, and what it changes (this project's own). The first state is the one before the edit.
+-- What an edit leaves of a state, and what it changes (this project's own). The first state is the one before
+-- the edit.
 use Rattle.std.specs.Prelude.{◌≡◌, ◌≢◌, ℕ, ◌⊎◌, List, [], ◌∷◌, ◌++◌, Some, None}
 use Rattle.hook_law.specs.Records.{StatedFilter}
 use Rattle.hook_law.specs.Chains.{bucket_of}
@@ -8,7 +9,8 @@ use Rattle.hook_law.specs.Standing.{Region}
 module _ {E S N P : Type 0} (K : Meaning E S N P) where
   -- a live action keeps its parameters or goes
   abbrev pub KeepsParams : S → S → Type 0
-  KeepsParams s t = (a : ℕ) (params : P) → K.params s a ≡ Some params → (K.params t a ≡ Some params) ⊎ (K.params t a ≡ None)
+  KeepsParams s t = (a : ℕ) (params : P) → K.params s a ≡ Some params → (K.params t a ≡ Some params)
+      ⊎ (K.params t a ≡ None)
 
   -- no mask and no table changes
   pub record LeavesMasks (s t : S) : Type 0 where
@@ -27,7 +29,8 @@ module _ {E S N P : Type 0} (K : Meaning E S N P) where
   -- only filters of the region's bucket k change
   pub record TouchesBucket (s t : S) (q : Region) (k : ℕ) : Type 0 where
     pub others : LeavesOthers s t q.mask
-    pub buckets : (i : ℕ) → i ≢ k → bucket_of K.hash q.size i (K.filters t q.mask) ≡ bucket_of K.hash q.size i (K.filters s q.mask)
+    pub buckets : (i : ℕ) → i ≢ k → bucket_of K.hash q.size i (K.filters t q.mask)
+        ≡ bucket_of K.hash q.size i (K.filters s q.mask)
 
   -- the mask m gains the filter, at the end of its filters
   pub record GainsFilter (s t : S) (m : ℕ) (f : StatedFilter) : Type 0 where

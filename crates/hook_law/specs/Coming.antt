@@ -27,7 +27,8 @@ module _ {E S N P : Type 0} (K : Meaning E S N P) (R : Codec N P) where
     pub root : r ≡ action_root put.slot
 
   -- a mask that was prepared and that the commit's chain names, at its root, or a bucket of it
-  pub record IsOfPrepared (b : ℕ) (h : List (Commit E)) (c : Commit E) (y : E) (r : ℕ) (x : Role) : Type 0 where
+  pub record IsOfPrepared (b : ℕ) (h : List (Commit E)) (c : Commit E) (y : E) (r : ℕ)
+      (x : Role) : Type 0 where
     pub mask : ℕ
     pub slot : ℕ
     pub small : slot < mask_slots

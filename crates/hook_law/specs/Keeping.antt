@@ -9,8 +9,8 @@ use Rattle.hook_law.specs.Meaning.{Meaning, point_of, now_of, IsLive}
 use Rattle.hook_law.specs.Standing.{Region, Role, Bucket, IsIn, IsMaskAt, IsSlotOf, Stands}
 use Rattle.hook_law.specs.Telling.{Tells}
 
--- a commit made at this point: a numbered one has the next number, as number and as stamp, and another one the point's or the
--- next number as stamp
+-- a commit made at this point: a numbered one has the next number, as number and as stamp, and another one
+-- the point's or the next number as stamp
 abbrev pub IsStamped : {E : Type 0} → ℕ → Option (ℕ × E) → ℕ → Type 0
 IsStamped point None stamp = (stamp ≡ point) ⊎ (stamp ≡ point + 1)
 IsStamped point (Some numbered) stamp = (numbered.0 ≡ point + 1) × (stamp ≡ point + 1)
@@ -19,10 +19,13 @@ module _ {E S N P : Type 0} (K : Meaning E S N P) (R : Codec N P) where
   -- what holds of each history between two commits
   pub record Present (h : List (Commit E)) : Type 0 where
     pub lawful : K.Lawful (edits_of h)
-    pub tells : (r : ℕ) (role : Role) → Stands K R h r role → Tells K R (edits_of h) role (root_of h r) (point_of h)
+    pub tells : (r : ℕ) (role : Role) → Stands K R h r role
+        → Tells K R (edits_of h) role (root_of h r) (point_of h)
     -- a filter in a bucket names its actions with their slots
-    pub slots : (r : ℕ) (q : Region) (k : ℕ) (fs : List FilterRecord) (f : FilterRecord) (x : Slotted) → Stands K R h r (Bucket q k)
-        → read_all R.filter (root_of h r).chain ≡ Some fs → IsIn f fs → IsIn x f.actions → IsSlotOf R h x.serial x.slot
+    pub slots : (r : ℕ) (q : Region) (k : ℕ) (fs : List FilterRecord) (f : FilterRecord) (x : Slotted)
+        → Stands K R h r (Bucket q k)
+        → read_all R.filter (root_of h r).chain ≡ Some fs → IsIn f fs → IsIn x f.actions
+        → IsSlotOf R h x.serial x.slot
     -- an action has one slot, and a live one has a slot; a mask has one slot
     pub one_slot : (a s t : ℕ) → IsSlotOf R h a s → IsSlotOf R h a t → s ≡ t
     pub placed : (a : ℕ) → IsLive K (now_of K h) a → (slot : ℕ) × IsSlotOf R h a slot
@@ -33,12 +36,15 @@ module _ {E S N P : Type 0} (K : Meaning E S N P) (R : Codec N P) where
   -- The law. The base b is the number of commits since which readers may hold what the roots named.
   pub record Keeps (h : List (Commit E)) (b : ℕ) : Type 0 where
     pub present : (n : ℕ) → b ≤ n → n ≤ length h → Present (take n h)
-    pub stamped : (n : ℕ) (c : Commit E) → slice_get h n ≡ Some c → IsStamped (point_of (take n h)) c.edit c.named.stamp
-    -- where something stood at the root of a later commit since b, it stands there after that commit: what left gets none
+    pub stamped : (n : ℕ) (c : Commit E) → slice_get h n ≡ Some c
+        → IsStamped (point_of (take n h)) c.edit c.named.stamp
+    -- where something stood at the root of a later commit since b, it stands there after that commit: what
+    -- left gets none
     pub alone : (n m : ℕ) (c : Commit E) (x : Role) → b ≤ n → n ≤ m → slice_get h m ≡ Some c
         → Stands K R (take n h) c.root x → Stands K R (take (m + 1) h) c.root x
     -- since b a root stands for one thing
-    pub apart : (n m r : ℕ) (x y : Role) → b ≤ n → n ≤ m → m ≤ length h → Stands K R (take n h) r x → Stands K R (take m h) r y
+    pub apart : (n m r : ℕ) (x y : Role) → b ≤ n → n ≤ m → m ≤ length h → Stands K R (take n h) r x
+        → Stands K R (take m h) r y
         → x ≡ y
 
   -- the mask's size is the one for its filters now

@@ -17,7 +17,8 @@ pub record Meaning (E S N P : Type 0) : Type 1 where
   pub filters : S → ℕ → List StatedFilter
   -- the parameters of the action with a serial, where it is live
   pub params : S → ℕ → Option P
-  -- a filter is in the bucket with its key's hash modulo the size, and so many filters want buckets of this number
+  -- a filter is in the bucket with its key's hash modulo the size, and so many filters want buckets of this
+  -- number
   pub hash : List ℕ → ℕ
   pub size_for : ℕ → ℕ
 
@@ -35,7 +36,8 @@ module _ {E S N P : Type 0} (K : Meaning E S N P) where
   abbrev pub state_at : List E → ℕ → S
   state_at edits point = run K.start (take point edits)
 
-  -- the state that a history has come to, the one before its last edit, and the one that a further edit leads to
+  -- the state that a history has come to, the one before its last edit, and the one that a further edit leads
+  -- to
   abbrev pub now_of : List (Commit E) → S
   now_of h = state_at (edits_of h) (point_of h)
 

@@ -1,5 +1,5 @@
--- What each kind of numbered commit to another root than a head's has to meet (this project's own). The base is b, the history
--- before the commit is h, and y is the edit that it carries.
+-- What each kind of numbered commit to another root than a head's has to meet (this project's own). The base
+-- is b, the history before the commit is h, and y is the edit that it carries.
 use Rattle.std.specs.Prelude.{◌≡◌, ℕ, ◌+◌, ◌%◌, ◌<◌, ◌⊎◌, List, [], ◌∷◌, ◌++◌, length, map, take, drop, Some}
 use Rattle.store_history.specs.declared.history.Link.{Link}
 use Rattle.store_history.specs.declared.history.Commit.{Commit}
@@ -11,7 +11,8 @@ use Rattle.hook_law.specs.Meaning.{Meaning, point_of, now_of, next_of, IsLive}
 use Rattle.hook_law.specs.Standing.{Region, Role, IsIn, IsRowAt, IsSlotOf, IsUnused}
 use Rattle.hook_law.specs.Telling.{Reads, ReadsAction}
 use Rattle.hook_law.specs.Keeping.{IsAtRest}
-use Rattle.hook_law.specs.Changes.{LeavesMasks, TouchesBucket, GainsFilter, SwapsFilter, LosesFilter, TouchesAction}
+use Rattle.hook_law.specs.Changes.{LeavesMasks, TouchesBucket, GainsFilter, SwapsFilter, LosesFilter}
+use Rattle.hook_law.specs.Changes.{TouchesAction}
 
 module _ {E S N P : Type 0} (K : Meaning E S N P) where
   -- the commit carries the edit, with the next number, which is its stamp too
@@ -57,9 +58,11 @@ module _ {E S N P : Type 0} (K : Meaning E S N P) (R : Codec N P) where
     pub root : c.root ≡ bucket_root row (place_of k)
     pub carries : Carries K h c y
     pub read : read_all R.filter c.named.chain ≡ Some filters
-    pub are : map stated_filter filters ≡ bucket_of K.hash region.size k (K.filters (next_of K h y) region.mask)
+    pub are : map stated_filter filters
+        ≡ bucket_of K.hash region.size k (K.filters (next_of K h y) region.mask)
     pub touches : TouchesBucket K (now_of K h) (next_of K h y) region k
-    pub names : (f : FilterRecord) (x : Slotted) → IsIn f filters → IsIn x f.actions → IsSlotOf R h x.serial x.slot
+    pub names : (f : FilterRecord) (x : Slotted) → IsIn f filters → IsIn x f.actions
+        → IsSlotOf R h x.serial x.slot
     pub made : PutsActions b h y
 
   -- filter add to a mask that stands: a link in front of the chain
@@ -80,8 +83,8 @@ module _ {E S N P : Type 0} (K : Meaning E S N P) (R : Codec N P) where
     pub names : (x : Slotted) → IsIn x filter.actions → IsSlotOf R h x.serial x.slot
     pub made : PutsActions b h y
 
-  -- filter replace with the same mask and key: copies of the links of later filters, a link for the new filter, and the old chain
-  -- behind the old one
+  -- filter replace with the same mask and key: copies of the links of later filters, a link for the new
+  -- filter, and the old chain behind the old one
   pub record ReplacesInBucket (b : ℕ) (h : List (Commit E)) (c : Commit E) (y : E) : Type 0 where
     pub region : Region
     pub k : ℕ
@@ -102,11 +105,13 @@ module _ {E S N P : Type 0} (K : Meaning E S N P) (R : Codec N P) where
     pub read : R.filter link.words ≡ Some filter
     pub old_bucket : K.hash old.key % region.size ≡ k
     pub new_bucket : K.hash filter.key % region.size ≡ k
-    pub swaps : SwapsFilter K (now_of K h) (next_of K h y) region.mask earlier old (stated_filter filter) later
+    pub swaps : SwapsFilter K (now_of K h) (next_of K h y) region.mask earlier old
+        (stated_filter filter) later
     pub names : (x : Slotted) → IsIn x filter.actions → IsSlotOf R h x.serial x.slot
     pub made : PutsActions b h y
 
-  -- filter del that leaves the mask: copies of the links of later filters, and the old chain behind the filter
+  -- filter del that leaves the mask: copies of the links of later filters, and the old chain behind the
+  -- filter
   pub record RemovesFromBucket (b : ℕ) (h : List (Commit E)) (c : Commit E) (y : E) : Type 0 where
     pub region : Region
     pub k : ℕ

@@ -1,5 +1,6 @@
--- What blocks read as, and the same things as a state has them, without slots (this project's own). The names of a table, such as
--- its chain and preference, are of a type N, and an action's parameters, its index among them, of a type P.
+-- What blocks read as, and the same things as a state has them, without slots (this project's own). The names
+-- of a table, such as its chain and preference, are of a type N, and an action's parameters, its index among
+-- them, of a type P.
 use Rattle.std.specs.Prelude.{ℕ, List, map, Option}
 
 -- a mask or an action with the slot where it is

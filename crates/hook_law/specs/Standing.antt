@@ -3,12 +3,14 @@ use Rattle.std.specs.Prelude.{◌≡◌, ℕ, ◌<◌, ◌≤◌, List, length, 
 use Rattle.store_history.specs.declared.history.Link.{Link}
 use Rattle.store_history.specs.declared.history.Commit.{Commit}
 use Rattle.store_history.specs.History.{root_of}
-use Rattle.hook_law.specs.Places.{hooks, mask_slots, action_slots, rows, head_root, mask_root, action_root, bucket_root, row_of, place_of}
+use Rattle.hook_law.specs.Places.{hooks, mask_slots, action_slots, rows, head_root, mask_root, action_root}
+use Rattle.hook_law.specs.Places.{bucket_root, row_of, place_of}
 use Rattle.hook_law.specs.Records.{MaskRecord, ActionRecord, Codec}
 use Rattle.hook_law.specs.Chains.{read_first, masks_of}
 use Rattle.hook_law.specs.Meaning.{Meaning, now_of, IsLive}
 
--- the buckets that one record of a mask names, told by the slot, the mask, and the stamp and size in the mask's root
+-- the buckets that one record of a mask names, told by the slot, the mask, and the stamp and size in the
+-- mask's root
 pub record Region : Type 0 where
   pub slot : ℕ
   pub mask : ℕ
@@ -17,7 +19,12 @@ pub record Region : Type 0 where
 
 -- the region of a record that was read, by the slot, the mask's serial and the stamp of the mask's root
 abbrev pub region_of : ℕ → ℕ → ℕ → MaskRecord → Region
-region_of slot mask stamp record_read = record { slot = slot; mask = mask; stamp = stamp; size = record_read.size }
+region_of slot mask stamp record_read = record {
+  slot = slot;
+  mask = mask;
+  stamp = stamp;
+  size = record_read.size;
+}
 
 -- what a root can stand for: the head of a hook, a mask, a bucket of a region, or an action
 pub data Role : Type 0 where
@@ -73,7 +80,8 @@ module _ {E N P : Type 0} (R : Codec N P) where
     pub puts : PutsAction commit action slot
 
 module _ {E S N P : Type 0} (K : Meaning E S N P) (R : Codec N P) where
-  -- what a root stands for: a head always, a mask and its buckets where a head names it, an action where it is live
+  -- what a root stands for: a head always, a mask and its buckets where a head names it, an action where it
+  -- is live
   abbrev pub Stands : List (Commit E) → ℕ → Role → Type 0
   Stands h r (Head hook) = (hook < hooks) × (r ≡ head_root hook)
   Stands h r (Mask m) = (slot : ℕ) × IsMaskAt R h m slot × (r ≡ mask_root slot)

@@ -3,7 +3,8 @@ use Rattle.std.specs.Prelude.{◌≡◌, ℕ, ◌-◌, ◌*◌, ◌≤◌, ◌�
 use Rattle.store_history.specs.declared.history.Link.{Link}
 use Rattle.store_history.specs.declared.history.Named.{Named}
 use Rattle.hook_law.specs.Places.{row_buckets}
-use Rattle.hook_law.specs.Records.{TableRecord, MaskRecord, FilterRecord, ActionRecord, Codec, stated_table, stated_filter}
+use Rattle.hook_law.specs.Records.{TableRecord, MaskRecord, FilterRecord, ActionRecord, Codec, stated_table}
+use Rattle.hook_law.specs.Records.{stated_filter}
 use Rattle.hook_law.specs.Chains.{read_all, read_first, bucket_of}
 use Rattle.hook_law.specs.Meaning.{Meaning, state_at}
 use Rattle.hook_law.specs.Standing.{Role, Head, Mask, Bucket, Action}
@@ -51,4 +52,5 @@ module _ {E S N P : Type 0} (K : Meaning E S N P) where
     -- what the root names is right in each state from its stamp up to the point
     pub record Tells (edits : List E) (role : Role) (named : Named) (point : ℕ) : Type 0 where
       pub early : named.stamp ≤ point
-      pub reads : (k : ℕ) → named.stamp ≤ k → k ≤ point → Reads role named.chain (state_at K edits (k - 1)) (state_at K edits k)
+      pub reads : (k : ℕ) → named.stamp ≤ k → k ≤ point
+          → Reads role named.chain (state_at K edits (k - 1)) (state_at K edits k)

@@ -1,4 +1,5 @@
--- What each kind of commit without a number has to meet (this project's own). The base is b, the history before the commit is h.
+-- What each kind of commit without a number has to meet (this project's own). The base is b, the history
+-- before the commit is h.
 use Rattle.std.specs.Prelude.{◌≡◌, ℕ, ◌+◌, ◌<◌, ◌⊎◌, List, [], slice_get, Some, None}
 use Rattle.store_history.specs.declared.history.Commit.{Commit}
 use Rattle.store_history.specs.declared.history.Named.{Named}
@@ -12,7 +13,8 @@ use Rattle.hook_law.specs.Telling.{ReadsMask, ReadsBucket}
 
 -- no two commits of the list have one root
 abbrev pub HaveOwnRoots : {E : Type 0} → List (Commit E) → Type 0
-HaveOwnRoots {E} cs = (i j : ℕ) (c d : Commit E) → slice_get cs i ≡ Some c → slice_get cs j ≡ Some d → c.root ≡ d.root → i ≡ j
+HaveOwnRoots {E} cs = (i j : ℕ) (c d : Commit E) → slice_get cs i ≡ Some c → slice_get cs j ≡ Some d
+    → c.root ≡ d.root → i ≡ j
 
 module _ {E S N P : Type 0} (K : Meaning E S N P) (R : Codec N P) where
   -- a commit to a root that stood for nothing since b: a new action, a row or a mask to come
@@ -26,7 +28,8 @@ module _ {E S N P : Type 0} (K : Meaning E S N P) (R : Codec N P) where
   -- several such commits, one after the other: each is one after h, and no two put the same action
   pub record SparesAll (b : ℕ) (h cs : List (Commit E)) : Type 0 where
     pub each : (j : ℕ) (c : Commit E) → slice_get cs j ≡ Some c → Spares b h c
-    pub once : (i j : ℕ) (c d : Commit E) (a s t : ℕ) → i < j → slice_get cs i ≡ Some c → slice_get cs j ≡ Some d
+    pub once : (i j : ℕ) (c d : Commit E) (a s t : ℕ) → i < j → slice_get cs i ≡ Some c
+        → slice_get cs j ≡ Some d
         → PutsAction R c a s → PutsAction R d a t → ⊥
 
   -- a commit that empties a root that stood for nothing since b, as tidying does
@@ -43,7 +46,8 @@ module _ {E S N P : Type 0} (K : Meaning E S N P) (R : Codec N P) where
   pub record FillsBucket (h : List (Commit E)) (named : Named) (mask size k since : ℕ) (s : S) : Type 0 where
     pub stamp : named.stamp ≡ since
     pub reads : ReadsBucket K R mask size k named.chain s
-    pub names : (fs : List FilterRecord) (f : FilterRecord) (x : Slotted) → read_all R.filter named.chain ≡ Some fs → IsIn f fs
+    pub names : (fs : List FilterRecord) (f : FilterRecord) (x : Slotted)
+        → read_all R.filter named.chain ≡ Some fs → IsIn f fs
         → IsIn x f.actions → IsSlotOf R h x.serial x.slot
 
   -- the root stood for nothing since b, and was filled for a bucket of the mask
@@ -51,8 +55,8 @@ module _ {E S N P : Type 0} (K : Meaning E S N P) (R : Codec N P) where
     pub unused : IsUnused K R b h r
     pub fills : FillsBucket h (root_of h r) mask size k since s
 
-  -- the last commit of a resize: the root of a mask that stands gets another record, and the roots of the new rows hold its filters
-  -- already
+  -- the last commit of a resize: the root of a mask that stands gets another record, and the roots of the new
+  -- rows hold its filters already
   pub record Resizes (b : ℕ) (h : List (Commit E)) (c : Commit E) : Type 0 where
     pub serial : ℕ
     pub slot : ℕ
@@ -75,7 +79,8 @@ module _ {E S N P : Type 0} (K : Meaning E S N P) (R : Codec N P) where
     pub root : commit.root ≡ r
     pub fills : FillsBucket h commit.named mask size k (point_of h) (now_of K h)
 
-  -- a whole resize after h: the commits cs, each to a root of its own, that fill the new rows, and then c to the mask's root.
+  -- a whole resize after h: the commits cs, each to a root of its own, that fill the new rows, and then c to
+  -- the mask's root.
   pub record ResizesWhole (b : ℕ) (h cs : List (Commit E)) (c : Commit E) : Type 0 where
     pub serial : ℕ
     pub slot : ℕ

@@ -1,6 +1,7 @@
 //! What the law speaks of.
 
-/// The terms of a hook: its edits, the states that they lead to, what the law reads off a state, and what blocks read as.
+/// The terms of a hook: its edits, the states that they lead to, what the law reads off a state, and what
+/// blocks read as.
 ///
 /// Nothing is made of such a type. It hands the definitions to the laws.
 pub trait Terms {

@@ -1,4 +1,5 @@
--- Actions that have a bind and a reference for each place of a list: the places can be let go one after the other.
+-- Actions that have a bind and a reference for each place of a list: the places can be let go one after the
+-- other.
 use Rattle.std.proofs.Common.{◌≡◌, ℕ, ◌<◌, ◌≤◌, ◌==◌, Bool, true, false, cond, List, [], ◌∷◌, map, Option, Some, None, refl, sym, ◌∙◌, ap, subst, arith, eqb-true}
 use Rattle.std.specs.Prelude.{find, option_map, IsSomeAnd, if◌then◌else◌}
 use Rattle.std.proofs.lemmas.Bool.{ne_eqb, not_from_false}

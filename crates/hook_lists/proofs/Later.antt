@@ -1,5 +1,5 @@
--- Places that can be let go one after the other can be let go also when a plan has been carried out before: where serials differ,
--- such places are as many as the binds at most.
+-- Places that can be let go one after the other can be let go also when a plan has been carried out before:
+-- where serials differ, such places are as many as the binds at most.
 use Rattle.std.proofs.Common.{◌≡◌, ℕ, zero, suc, ◌+◌, ◌<◌, ◌≤◌, ◌==◌, Bool, true, false, cond, List, [], ◌∷◌, map, refl, sym, ◌∙◌, ap, subst, arith, eqb-true}
 use Rattle.std.specs.Prelude.{find, IsSomeAnd}
 use Rattle.std.proofs.lemmas.Bool.Decides.{nat_tests}

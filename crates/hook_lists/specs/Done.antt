@@ -7,7 +7,8 @@ use Rattle.filter_tables.specs.Rows.{all_rows, BothWhole}
 use Rattle.hook_lists.specs.declared.kept.Kept.{Kept}
 use Rattle.hook_lists.specs.States.{both_of, state_of}
 
--- the state is the one that the step leads to, the answer is the step's, the tables are whole, and the filters are counted
+-- the state is the one that the step leads to, the answer is the step's, the tables are whole, and the
+-- filters are counted
 pub record IsDone (kept : Kept) (done : Done) (next : State) (said : Done) : Type 0 where
   pub state : SameState (state_of kept) next
   pub answer : done ≡ said

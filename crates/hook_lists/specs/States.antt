@@ -35,7 +35,8 @@ state_of kept = record {
   actions_made = kept.actions.made;
 }
 
--- what holds of the lists at all times: their tables are whole, their state is sound, and the filters are counted
+-- what holds of the lists at all times: their tables are whole, their state is sound, and the filters are
+-- counted
 pub record AreKept (kept : Kept) : Type 0 where
   pub whole : BothWhole (both_of kept)
   pub sound : Sound (state_of kept)

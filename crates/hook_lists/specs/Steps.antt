@@ -40,7 +40,8 @@ pub record SameTables (old new : Kept) : Type 0 where
   pub masks_made : new.masks_made ≡ old.masks_made
   pub filters : new.filters ≡ old.filters
 
--- an edit is prepared where the step accepts it, and refused for the step's reason, or for want of memory where the step accepts it
+-- an edit is prepared where the step accepts it, and refused for the step's reason, or for want of memory
+-- where the step accepts it
 abbrev pub IsPrepared : {P : Type 0} → Result P Refusal → Stepped → Type 0
 IsPrepared (Ok prepared) (Ok next) = Unit {0}
 IsPrepared (Err refusal) (Err said) = refusal ≡ said

@@ -5,8 +5,8 @@ use act_registry::Registry;
 use filter_tables::FilterTables;
 use std::alloc::Global;
 
-/// The tables of the two hooks with their masks and filters, and the actions that filters share. `Lists` of filter_lists holds
-/// one, and sees to it that it is whole.
+/// The tables of the two hooks with their masks and filters, and the actions that filters share. `Lists` of
+/// filter_lists holds one, and sees to it that it is whole.
 #[derive(Drop)]
 pub struct Kept {
     pub hooked: bool,

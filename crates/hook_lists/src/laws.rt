@@ -18,9 +18,13 @@ pub fn room_changes_nothing()
     ensures kept { (old new : Kept) → IsRoomier old new → AreKept old → AreKept new }
 {}
 
-/// The places of some filters can be let go one after the other, also when a plan has been carried out before.
+/// The places of some filters can be let go one after the other, also when a plan has been carried out
+/// before.
 pub fn places_are_bound()
-    ensures now { (kept : Kept) (gone : Row → Bool) → AreKept kept → AreBound (flat_map (λ (row : Row). row.actions) (filter gone (all_rows (both_of kept)))) kept.actions.entries }
-    ensures later { (serials : List ℕ) (old : Kept) (new : registries.Kept Params) (plan : List PlannedAction) → AreKept old → AreBound serials old.actions.entries →
+    ensures now { (kept : Kept) (gone : Row → Bool) → AreKept kept
+        → AreBound (flat_map (λ (row : Row). row.actions) (filter gone (all_rows (both_of kept))))
+        kept.actions.entries }
+    ensures later { (serials : List ℕ) (old : Kept) (new : registries.Kept Params) (plan : List PlannedAction)
+        → AreKept old → AreBound serials old.actions.entries →
         made_of new ≡ carried (made_of old.actions) plan → AreBound serials new.entries }
 {}

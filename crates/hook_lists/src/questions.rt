@@ -1,8 +1,9 @@
-//! Why an edit of filters is refused: each check gives the refusal that the state's own condition gives. A table is found once, and
-//! its place handed on.
+//! Why an edit of filters is refused: each check gives the refusal that the state's own condition gives. A
+//! table is found once, and its place handed on.
 ghost use Rattle.filter_state.specs.declared.limits.TheConstants.{MASKS_MAX};
 ghost use Rattle.std.specs.Prelude.{◌≡◌, ◌<◌, ◌&&◌, not, nat_le, length, find, is_some, Some};
-ghost use Rattle.filter_state.specs.Refusals.{no_hook, protocol_clash, protocol_clash_if, exists_but, masks_full};
+ghost use Rattle.filter_state.specs.Refusals.{no_hook, protocol_clash, protocol_clash_if, exists_but};
+ghost use Rattle.filter_state.specs.Refusals.{masks_full};
 ghost use Rattle.filter_index.specs.Listed.{has_key};
 ghost use Rattle.filter_state.specs.Tables.{protocol_eq};
 ghost use Rattle.filter_tables.specs.Places.{item_at, place_where};
@@ -48,7 +49,8 @@ pub fn check_hook(kept: &Kept) -> Result<(), Refusal>
     Err(Refusal::NoHook)
 }
 
-/// `ProtocolClash`: the table of that chain and pref, which stands at the place, has another protocol, which the answer has.
+/// `ProtocolClash`: the table of that chain and pref, which stands at the place, has another protocol, which
+/// the answer has.
 pub fn check_protocol(
     kept: &Kept,
     hook: Hook,
@@ -92,7 +94,8 @@ pub fn check_protocol_if(
     }
 }
 
-/// `Exists`: the table has a filter of that mask and key under another handle than the one to be left out; the answer has it.
+/// `Exists`: the table has a filter of that mask and key under another handle than the one to be left out;
+/// the answer has it.
 pub fn check_match(
     kept: &Kept,
     hook: Hook,
@@ -105,7 +108,8 @@ pub fn check_match(
 ) -> Result<(), Refusal>
     requires kept { AreKept kept.now }
     requires place { place ≡ place_on hook chain pref kept.now }
-    ensures { refusal_of result ≡ exists_but (state_of kept.now) hook chain pref left mask.now.words key.now.words }
+    ensures { refusal_of result
+        ≡ exists_but (state_of kept.now) hook chain pref left mask.now.words key.now.words }
 {
     let Some(place) = place else {
         return Ok(());
@@ -172,7 +176,8 @@ fn other_with_key(filters: &Filters, left: Option<u32>, key: &Key<14>) -> Option
 
 // Whether that mask would be one too many.
 fn has_no_room(masks: &MaskLists, mask: &Key<14>) -> bool
-    ensures { result ≡ (not (is_some (place_where (has_words mask.now.words) masks.now.masks)) && nat_le MASKS_MAX (length masks.now.masks)) }
+    ensures { result ≡ (not (is_some (place_where (has_words mask.now.words) masks.now.masks))
+        && nat_le MASKS_MAX (length masks.now.masks)) }
 {
     masks.find_mask(mask).is_none() && masks.as_slice().len() >= MASKS_MAX
 }

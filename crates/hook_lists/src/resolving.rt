@@ -24,14 +24,18 @@ pub fn resolve(kept: &Kept, lines: &ActionLines, plan: &mut ActionPlan) -> Resul
     requires empty { plan.old ≡ [] }
     requires lines { AreFilterActions lines.now }
     requires few { length lines.now ≤ LINE_ACTIONS_MAX }
-    ensures { PlanTold (made_of kept.now.actions) (resolved_for (state_of kept.now) lines.now) (plan_or plan.new result) }
+    ensures { PlanTold (made_of kept.now.actions) (resolved_for (state_of kept.now) lines.now)
+        (plan_or plan.new result) }
 {
     plan.fill(&kept.actions, lines.as_slice())
 }
 
-/// `ActionsFull`: more than 1,024 actions would be live. `CountersFull`: more than 16,384 would have been made in this run.
+/// `ActionsFull`: more than 1,024 actions would be live. `CountersFull`: more than 16,384 would have been
+/// made in this run.
 pub fn check_actions(kept: &Kept, plan: &ActionPlan) -> Result<(), Refusal>
-    ensures { refusal_of result ≡ or_else (actions_full (carried (made_of kept.now.actions) plan.now)) (counters_full (carried (made_of kept.now.actions) plan.now)) }
+    ensures { refusal_of result
+        ≡ or_else (actions_full (carried (made_of kept.now.actions) plan.now))
+        (counters_full (carried (made_of kept.now.actions) plan.now)) }
 {
     let more = plan.made();
     if kept.actions.entries().len() + more as usize > ACTIONS_MAX {
@@ -46,7 +50,8 @@ pub fn check_actions(kept: &Kept, plan: &ActionPlan) -> Result<(), Refusal>
 /// Makes room for the actions that a plan makes, so that it can be carried out.
 pub fn reserve_actions(kept: &mut Kept, plan: &ActionPlan) -> Result<(), NoMemory>
     requires fit { AreFit (made_of kept.old.actions) plan.now }
-    requires full { or_else (actions_full (carried (made_of kept.old.actions) plan.now)) (counters_full (carried (made_of kept.old.actions) plan.now)) ≡ None }
+    requires full { or_else (actions_full (carried (made_of kept.old.actions) plan.now))
+        (counters_full (carried (made_of kept.old.actions) plan.now)) ≡ None }
     ensures roomier { IsRoomier kept.old kept.new }
     ensures ingress { kept.new.ingress ≡ kept.old.ingress }
     ensures egress { kept.new.egress ≡ kept.old.egress }
@@ -71,7 +76,8 @@ pub fn carry_out(kept: &mut Kept, plan: &PlannedActions)
 pub fn unbind(kept: &mut Kept, serials: &[u32])
     requires { AreBound serials.now kept.old.actions.entries }
     ensures tables { SameTables kept.old kept.new }
-    ensures actions { actions_of kept.new.actions.entries ≡ all_unbound serials.now (actions_of kept.old.actions.entries) }
+    ensures actions { actions_of kept.new.actions.entries
+        ≡ all_unbound serials.now (actions_of kept.old.actions.entries) }
     ensures made { kept.new.actions.made ≡ kept.old.actions.made }
 {
     unbind_all(&mut kept.actions, serials);

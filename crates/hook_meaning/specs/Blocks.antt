@@ -25,13 +25,21 @@ table_record table = record {
 }
 
 abbrev pub mask_record : StoredMask → MaskRecord
-mask_record mask = record { serial = mask.serial; size = mask.size; words = mask.mask.words; rows = mask.rows }
+mask_record mask = record {
+  serial = mask.serial;
+  size = mask.size;
+  words = mask.mask.words;
+  rows = mask.rows;
+}
 
 abbrev pub filter_record : StoredFilter → FilterRecord
 filter_record f = record { handle = f.handle; key = f.key.words; actions = map action_slotted f.actions }
 
 abbrev pub action_record : StoredAction → ActionRecord ActionTerms
-action_record action = record { serial = action.serial; params = record { index = action.index; params = action.params } }
+action_record action = record {
+  serial = action.serial;
+  params = record { index = action.index; params = action.params };
+}
 
 -- THE CODEC: the words of a block read as the table, the mask, the filter or the action whose words they are
 abbrev pub hook_codec : Codec TableNames ActionTerms

@@ -30,7 +30,11 @@ pub record ActionTerms : Type 0 where
   pub params : Params
 
 abbrev pub table_stated : Head → StatedTable TableNames
-table_stated head = record { serial = head.serial; names = record { chain = head.chain; pref = head.pref; protocol = head.protocol }; masks = head.masks }
+table_stated head = record {
+  serial = head.serial;
+  names = record { chain = head.chain; pref = head.pref; protocol = head.protocol };
+  masks = head.masks;
+}
 
 abbrev pub filter_stated : Filter → StatedFilter
 filter_stated f = record { handle = f.handle; key = f.key; actions = f.actions }
@@ -50,8 +54,8 @@ filters_at s mask = map filter_stated (filters_of s mask)
 abbrev pub action_at : State → ℕ → Option ActionTerms
 action_at s serial = option_map action_stated (first_where (has_serial serial) s.actions)
 
--- THE MEANING OF EDITS: they lead from the state without a qdisc to others, a refused one to no other, and the law reads a state's
--- tables, masks, filters and actions
+-- THE MEANING OF EDITS: they lead from the state without a qdisc to others, a refused one to no other, and
+-- the law reads a state's tables, masks, filters and actions
 abbrev pub hook_meaning : Meaning Edit State TableNames ActionTerms
 hook_meaning = record {
   start = no_state;

@@ -1,5 +1,5 @@
--- What commits tell of tables, masks and filters, as readers of the store take it (this project's own). `h` is a list of commits, and k
--- is a number of the edits that they carry.
+-- What commits tell of tables, masks and filters, as readers of the store take it (this project's own). `h`
+-- is a list of commits, and k is a number of the edits that they carry.
 use Rattle.std.specs.Prelude.{ℕ, List, map}
 use Rattle.tc_base.specs.declared.hook.Hook.{Hook}
 use Rattle.visit_room.specs.declared.names.ActionName.{ActionName}
@@ -20,13 +20,23 @@ use Rattle.hook_meaning.specs.Stated.{filters_at}
 use Rattle.hook_meaning.specs.Blocks.{hook_codec}
 
 abbrev pub plain_table : Head → PlainTable
-plain_table head = record { serial = head.serial; chain = head.chain; pref = head.pref; protocol = head.protocol; masks = head.masks }
+plain_table head = record {
+  serial = head.serial;
+  chain = head.chain;
+  pref = head.pref;
+  protocol = head.protocol;
+  masks = head.masks;
+}
 
 abbrev pub action_name : Slotted → ActionName
 action_name x = record { serial = x.serial; slot = x.slot }
 
 abbrev pub stored_filter : FilterRecord → StoredFilter
-stored_filter f = record { handle = f.handle; key = record { words = f.key }; actions = map action_name f.actions }
+stored_filter f = record {
+  handle = f.handle;
+  key = record { words = f.key };
+  actions = map action_name f.actions;
+}
 
 -- the state after the first k edits
 abbrev pub state_after_edits : List (Commit Edit) → ℕ → State

@@ -18,13 +18,16 @@ pub fn opens_at_nothing()
     ensures keeps { Keeps hook_meaning hook_codec [] 0 }
 {}
 
-/// The law's state at a point is the plain state after so many edits, and after those that commits carry it is sound.
+/// The law's state at a point is the plain state after so many edits, and after those that commits carry it
+/// is sound.
 pub fn states_stay_sound()
     ensures plain { (edits : List Edit) (k : ℕ) → law.state_at hook_meaning edits k ≡ state_at k edits }
-    ensures sound { (h : List (Commit Edit)) (b k : ℕ) → Keeps hook_meaning hook_codec h b → b ≤ length h → Sound (state_after_edits h k) }
+    ensures sound { (h : List (Commit Edit)) (b k : ℕ) → Keeps hook_meaning hook_codec h b → b ≤ length h
+        → Sound (state_after_edits h k) }
 {}
 
 /// What the law reads of an action has the parameters that the state has.
 pub fn actions_have_their_parameters()
-    ensures { (s : State) (serial : ℕ) → option_map (λ (terms : ActionTerms). terms.params) (action_at s serial) ≡ params_at s serial }
+    ensures { (s : State) (serial : ℕ)
+        → option_map (λ (terms : ActionTerms). terms.params) (action_at s serial) ≡ params_at s serial }
 {}

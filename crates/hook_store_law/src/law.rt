@@ -5,7 +5,8 @@ use mask_table::MaskLaw;
 use miniq_pair::HeadLaw;
 use store_history::Law;
 
-/// The law of the hook's store: what `hook_law` asks of its commits, at this project's terms. Nothing is made of this type.
+/// The law of the hook's store: what `hook_law` asks of its commits, at this project's terms. Nothing is made
+/// of this type.
 pub struct HookLaw;
 
 impl Law for HookLaw {
@@ -35,8 +36,8 @@ impl HeadLaw for HookLaw {
     ghost few = { heads_most };
 }
 
-// A mask stands where a head names it. Its words and its filters are those of the plain state, and each filter has its actions at the slots
-// to which the commits put them.
+// A mask stands where a head names it. Its words and its filters are those of the plain state, and each
+// filter has its actions at the slots to which the commits put them.
 impl MaskLaw for HookLaw {
     ghost use Rattle.hook_meaning.specs.Told.{stands_at, words_after, filters_after};
     ghost use Rattle.hook_meaning.proofs.Masking.{slot_stood, mask_told};

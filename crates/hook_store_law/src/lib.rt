@@ -1,23 +1,26 @@
 //! The law of the hook's store.
 //!
-//! The hook is kept in a store of blocks that one writer fills and many readers walk. Such a store keeps one law, over the list of its
-//! commits, and its readers learn what the law says of what they loaded. `HookLaw` is that law: the law of a hook (`hook_law`) at this
-//! project's states, edits and blocks (`hook_meaning`). What a numbered commit carries is an `Edit`.
+//! The hook is kept in a store of blocks that one writer fills and many readers walk. Such a store keeps one
+//! law, over the list of its commits, and its readers learn what the law says of what they loaded. `HookLaw`
+//! is that law: the law of a hook (`hook_law`) at this project's states, edits and blocks (`hook_meaning`).
+//! What a numbered commit carries is an `Edit`.
 //!
 //! # Why one type
 //!
-//! A store has one law, and each way of reading it asks for its own facts: `HeadLaw` for the tables of a hook, `MaskLaw` for the
-//! filters of a mask. Both are said of this one type, so `miniq_pair::head` and `mask_table::lookup` are called on one store by one reader,
-//! and what they tell speaks of the same states: the tables, the words and the filters are those of the plain state after so many of
-//! the edits that the commits carry. A mask stands at a slot where a head names it with that slot.
+//! A store has one law, and each way of reading it asks for its own facts: `HeadLaw` for the tables of a
+//! hook, `MaskLaw` for the filters of a mask. Both are said of this one type, so `miniq_pair::head` and
+//! `mask_table::lookup` are called on one store by one reader, and what they tell speaks of the same states:
+//! the tables, the words and the filters are those of the plain state after so many of the edits that the
+//! commits carry. A mask stands at a slot where a head names it with that slot.
 //!
 //! # Who uses it
 //!
-//! The desk above, which makes the store, its writer and its readers, and decides which commits an edit makes. Nothing of this type
-//! exists at run time, and it has no call, so any thread may name it.
+//! The desk above, which makes the store, its writer and its readers, and decides which commits an edit
+//! makes. Nothing of this type exists at run time, and it has no call, so any thread may name it.
 //!
-//! Not promised: that the commits of any edit keep the law. The laws of `hook_law` say what each kind of commit has to meet, and the
-//! crate that commits has to show it. Nor is anything said here of how actions are read.
+//! Not promised: that the commits of any edit keep the law. The laws of `hook_law` say what each kind of
+//! commit has to meet, and the crate that commits has to show it. Nor is anything said here of how actions
+//! are read.
 #![tactic(auto)]
 
 mod law;

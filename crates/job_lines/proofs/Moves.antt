@@ -1,4 +1,5 @@
--- One line on: which lines lead from a state to which one, and that the language of a state is those lines and the next language.
+-- One line on: which lines lead from a state to which one, and that the language of a state is those lines
+-- and the next language.
 use Rattle.std.proofs.Common.{◌≡◌, ◌∙◌, ◌⊎◌, inl, inr, ℕ, ◌+◌, ◌<◌, ◌≤◌, Bool, true, false, List, [], ◌∷◌, ◌++◌, length, length-append, Option, Some, None, refl, sym, ap, subst, append_assoc, append-nil, arith}
 use Rattle.std.specs.Prelude.{codes, if◌then◌else◌}
 use Rattle.std.specs.List.{AllByRecursion}

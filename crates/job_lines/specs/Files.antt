@@ -1,5 +1,6 @@
 -- What a file says of a job, or where it first fails to be one (this project's own).
-use Rattle.std.specs.Prelude.{◌≡◌, ◌⊎◌, ℕ, ◌+◌, ◌≤◌, ◌==◌, List, [], ◌∷◌, ◌++◌, length, map, take, count_by, Some, slice_get, if◌then◌else◌}
+use Rattle.std.specs.Prelude.{◌≡◌, ◌⊎◌, ℕ, ◌+◌, ◌≤◌, ◌==◌, List, [], ◌∷◌, ◌++◌, length, map, take, count_by}
+use Rattle.std.specs.Prelude.{Some, slice_get, if◌then◌else◌}
 use Rattle.tc_words.specs.Lines.{lines_of as file_lines, words_of}
 use Rattle.tc_words.specs.Texts.{words_are}
 use Rattle.job_lines.specs.declared.fault.JobFault.{JobFault}

@@ -1,5 +1,6 @@
 -- The lines of a job file, as lists of words, and which jobs there are (this project's own).
-use Rattle.std.specs.Prelude.{ℕ, ◌≤◌, ◌<◌, ◌==◌, Bool, true, false, not, ◌&&◌, nat_le, IsTrue, List, [], ◌∷◌, ◌++◌, length, map, flat_map, Option, Some, None, codes}
+use Rattle.std.specs.Prelude.{ℕ, ◌≤◌, ◌<◌, ◌==◌, Bool, true, false, not, ◌&&◌, nat_le, IsTrue, List, [], ◌∷◌}
+use Rattle.std.specs.Prelude.{◌++◌, length, map, flat_map, Option, Some, None, codes}
 use Rattle.std.specs.List.{AllByRecursion, list_all}
 use Rattle.std.specs.Fmt.{decimal}
 use Rattle.tc_base.specs.declared.hook.Hook.{Hook}
@@ -63,7 +64,8 @@ rounds_lines rounds = flat_map round_lines rounds ++ (end_line ∷ [])
 
 -- all lines of a job
 abbrev pub lines_of : Job → List Words
-lines_of job = header_line ∷ count_line (codes "workers") job.workers ∷ count_line (codes "controls") job.controls ∷ rounds_lines job.rounds
+lines_of job = header_line ∷ count_line (codes "workers") job.workers
+    ∷ count_line (codes "controls") job.controls ∷ rounds_lines job.rounds
 
 -- ---- which jobs there are
 -- a printed byte of ASCII; the number sign begins a comment, so that no word has it
@@ -86,12 +88,15 @@ IsCapture (Some capture) = IsName capture.name × IsName capture.out
 -- the batches stand by rising control, so each control has one at most
 abbrev pub ByControl : List BatchName → Type 0
 ByControl [] = Unit {0}
-ByControl (batch ∷ batches) = AllByRecursion (λ (later : BatchName). batch.control < later.control) batches × ByControl batches
+ByControl (batch ∷ batches) = AllByRecursion (λ (later : BatchName). batch.control < later.control) batches
+    × ByControl batches
 
 -- a round under so many controls, which may be empty
 abbrev pub IsRound : ℕ → Round → Type 0
-IsRound controls round = AllByRecursion (IsBatch controls) round.batches × ByControl round.batches × IsCapture round.capture
+IsRound controls round = AllByRecursion (IsBatch controls) round.batches × ByControl round.batches
+    × IsCapture round.capture
 
 -- 1 to 8 workers, 1 to 4 controls, and any number of rounds
 abbrev pub IsJob : Job → Type 0
-IsJob job = (1 ≤ job.workers) × (job.workers ≤ 8) × (1 ≤ job.controls) × (job.controls ≤ 4) × AllByRecursion (IsRound job.controls) job.rounds
+IsJob job = (1 ≤ job.workers) × (job.workers ≤ 8) × (1 ≤ job.controls) × (job.controls ≤ 4)
+    × AllByRecursion (IsRound job.controls) job.rounds

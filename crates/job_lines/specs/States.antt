@@ -1,5 +1,5 @@
--- How far the lines of a job have come, with all that was read of them. This serves the proofs: no clause of a public call speaks
--- of it.
+-- How far the lines of a job have come, with all that was read of them. This serves the proofs: no clause of
+-- a public call speaks of it.
 use Rattle.std.specs.Prelude.{ℕ, ◌+◌, List, length, Option, Some, None}
 use Rattle.job_lines.specs.declared.job.BatchName.{BatchName}
 use Rattle.job_lines.specs.declared.job.Job.{Job}
@@ -7,8 +7,9 @@ use Rattle.job_lines.specs.declared.draft.Stage.{Stage}
 use Rattle.job_lines.specs.declared.draft.Stage.TheVariants as stages
 use Rattle.job_lines.specs.declared.draft.Draft.{Draft}
 
--- what was read last: nothing; the header; the workers; the controls or a whole round, with the job up to here; the first line or a batch of
--- a round, with the job before it, its batches so far and the control of the last one, or 0; the end
+-- what was read last: nothing; the header; the workers; the controls or a whole round, with the job up to
+-- here; the first line or a batch of a round, with the job before it, its batches so far and the control of
+-- the last one, or 0; the end
 pub data State : Type 0 where
   Begun : State
   Headed : State

@@ -1,6 +1,7 @@
--- The reading of a job line by line: what a line says, and the state after it. This serves the proofs: no clause of a public call
--- speaks of it.
-use Rattle.std.specs.Prelude.{◌≡◌, ℕ, ◌<◌, ◌≤◌, ◌==◌, Bool, true, false, not, ◌&&◌, nat_lt, List, [], ◌∷◌, ◌++◌, length, Option, Some, None, if◌then◌else◌, codes}
+-- The reading of a job line by line: what a line says, and the state after it. This serves the proofs: no
+-- clause of a public call speaks of it.
+use Rattle.std.specs.Prelude.{◌≡◌, ℕ, ◌<◌, ◌≤◌, ◌==◌, Bool, true, false, not, ◌&&◌, nat_lt, List, [], ◌∷◌}
+use Rattle.std.specs.Prelude.{◌++◌, length, Option, Some, None, if◌then◌else◌, codes}
 use Rattle.std.specs.List.{list_all}
 use Rattle.std.specs.Option.{option_map, option_and_then}
 use Rattle.std.specs.Str.{bytes_eq}
@@ -31,7 +32,8 @@ above_zero (Some number) = if number == 0 then None else Some number
 
 -- the count behind a keyword, from 1 to a greatest one
 abbrev pub count_of : List ℕ → ℕ → Words → Option ℕ
-count_of keyword most (word ∷ number ∷ []) = if bytes_eq word keyword then above_zero (decimal_of number most) else None
+count_of keyword most (word ∷ number ∷ []) = if bytes_eq word keyword then above_zero (decimal_of number most)
+    else None
 count_of keyword most words = None
 
 -- whether a batch is forced, by what stands behind its name
@@ -42,12 +44,14 @@ force_of (word ∷ next ∷ more) = None
 
 -- a batch whose control is above the last one
 abbrev pub batch_above : ℕ → List ℕ → Option ℕ → Option Bool → Option BatchName
-batch_above last name (Some control) (Some force) = if nat_lt last control then Some (record { control = control; name = name; force = force }) else None
+batch_above last name (Some control) (Some force) = if nat_lt last control
+    then Some (record { control = control; name = name; force = force }) else None
 batch_above last name control force = None
 
 -- the batch of a line, under so many controls and above the last one
 abbrev pub batch_of : ℕ → ℕ → Words → Option BatchName
-batch_of controls last (word ∷ number ∷ name ∷ more) = if bytes_eq word (codes "batch") && is_name name then batch_above last name (decimal_of number controls) (force_of more) else None
+batch_of controls last (word ∷ number ∷ name ∷ more) = if bytes_eq word (codes "batch") && is_name name
+    then batch_above last name (decimal_of number controls) (force_of more) else None
 batch_of controls last words = None
 
 -- the hook of a word
@@ -64,7 +68,8 @@ capture_on name out (Some hook) = Some (record { hook = hook; name = name; out =
 
 -- the capture of a line
 abbrev pub capture_of : Words → Option CaptureName
-capture_of (word ∷ hook ∷ name ∷ out ∷ []) = if bytes_eq word (codes "capture") && (is_name name && is_name out) then capture_on name out (hook_of hook) else None
+capture_of (word ∷ hook ∷ name ∷ out ∷ []) = if bytes_eq word (codes "capture")
+    && (is_name name && is_name out) then capture_on name out (hook_of hook) else None
 capture_of words = None
 
 -- ---- the state after a line
@@ -74,7 +79,11 @@ round_of batches capture = record { batches = batches; capture = capture }
 
 -- the job with one round more
 abbrev pub with_round : Job → Round → Job
-with_round job round = record { workers = job.workers; controls = job.controls; rounds = job.rounds ++ (round ∷ []) }
+with_round job round = record {
+  workers = job.workers;
+  controls = job.controls;
+  rounds = job.rounds ++ (round ∷ []);
+}
 
 -- the job before its first round
 abbrev pub without_rounds : ℕ → ℕ → Job
@@ -90,7 +99,8 @@ after_round job words =
 -- in a round, at a line that may be a capture: it ends the round
 abbrev pub after_batches : Job → List BatchName → Words → Option CaptureName → Option State
 after_batches job batches words None = after_round (with_round job (round_of batches None)) words
-after_batches job batches words (Some capture) = Some (State.Ready (with_round job (round_of batches (Some capture))))
+after_batches job batches words (Some capture) =
+    Some (State.Ready (with_round job (round_of batches (Some capture))))
 
 -- in a round, at a line that may be a batch
 abbrev pub in_round : Job → List BatchName → Words → Option BatchName → Option State
@@ -101,7 +111,8 @@ in_round job batches words (Some batch) = Some (State.Open job (batches ++ (batc
 abbrev pub next_state : State → Words → Option State
 next_state State.Begun words = if words_are words header_line then Some State.Headed else None
 next_state State.Headed words = option_map State.Staffed (count_of (codes "workers") 8 words)
-next_state (State.Staffed workers) words = option_map (λ controls. State.Ready (without_rounds workers controls)) (count_of (codes "controls") 4 words)
+next_state (State.Staffed workers) words = option_map
+    (λ controls. State.Ready (without_rounds workers controls)) (count_of (codes "controls") 4 words)
 next_state (State.Ready job) words = after_round job words
 next_state (State.Open job batches last) words = in_round job batches words (batch_of job.controls last words)
 next_state (State.Ended job) words = None
@@ -121,6 +132,8 @@ IsWithin state = begun_in state ≤ most_rounds
 
 -- a line of this number fails in a state
 abbrev pub LineFails : State → ℕ → Words → JobFault → Type 0
-LineFails state number words (faults.Form line kinds.JobSyntax) = (line ≡ number) × (after_line state words ≡ None)
-LineFails state number words (faults.Form line kinds.TooManyRounds) = (line ≡ number) × ((next : State) × (after_line state words ≡ Some next) × (most_rounds < begun_in next))
+LineFails state number words (faults.Form line kinds.JobSyntax) = (line ≡ number)
+    × (after_line state words ≡ None)
+LineFails state number words (faults.Form line kinds.TooManyRounds) = (line ≡ number)
+    × ((next : State) × (after_line state words ≡ Some next) × (most_rounds < begun_in next))
 LineFails state number words faults.NoMemory = Unit {0}

@@ -66,7 +66,8 @@ impl Draft {
         alloc: Global,
         capture: Option<CaptureName>,
     ) -> Result<(), AllocError>
-        ensures { IfOk result (λ _. whole_job self.new ≡ with_round (whole_job self.old) (round_of self.old.batches.items capture)) }
+        ensures { IfOk result (λ _. whole_job self.new
+            ≡ with_round (whole_job self.old) (round_of self.old.batches.items capture)) }
     {
         let batches = std::mem::replace(&mut self.batches, Vec::new(alloc));
         self.rounds.push(Round {

@@ -15,7 +15,8 @@ pub enum JobKind {
 /// Why a file's bytes gave no job.
 #[derive(Clone, Copy, Debug, PartialEq, Eq)]
 pub enum JobFault {
-    /// The first line at which the file fails to be a job, counted from 1; where lines are missing, the number of its lines plus 1.
+    /// The first line at which the file fails to be a job, counted from 1; where lines are missing, the
+    /// number of its lines plus 1.
     Form { line: u64, kind: JobKind },
     /// Memory was refused.
     NoMemory,

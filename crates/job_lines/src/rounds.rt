@@ -1,4 +1,5 @@
-//! Lists of a job, which contracts see as lists. Each is made from a `Vec` and gives it back, and neither takes memory.
+//! Lists of a job, which contracts see as lists. Each is made from a `Vec` and gives it back, and neither
+//! takes memory.
 ghost use Rattle.std.specs.Prelude.{◌≡◌};
 
 use crate::job::{BatchName, Round};

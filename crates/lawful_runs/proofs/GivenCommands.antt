@@ -1,5 +1,5 @@
--- What a job gives to the controls of a round: the controls rise and are few, and the lines of each batch rise, so an event's line names
--- one command.
+-- What a job gives to the controls of a round: the controls rise and are few, and the lines of each batch
+-- rise, so an event's line names one command.
 use Rattle.std.proofs.Common.{◌≡◌, ◌∙◌, ℕ, zero, suc, ◌+◌, ◌<◌, ◌≤◌, ◌==◌, Bool, true, false, List, [], ◌∷◌, length, drop, sym, ap, subst, arith}
 use Rattle.std.specs.Prelude.{if◌then◌else◌}
 use Rattle.std.specs.List.{AllByRecursion}

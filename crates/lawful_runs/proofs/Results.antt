@@ -1,4 +1,5 @@
--- The edits of a round's events: the state accepts them one after the other, and they are as many as accepted events.
+-- The edits of a round's events: the state accepts them one after the other, and they are as many as accepted
+-- events.
 use Rattle.std.proofs.Common.{◌≡◌, ◌∙◌, ℕ, ◌+◌, List, [], ◌∷◌, ◌++◌, length, sym, ap, subst, arith}
 use Rattle.std.specs.Prelude.{if◌then◌else◌}
 use Rattle.std.proofs.lemmas.List.{length-append}

@@ -1,4 +1,5 @@
--- The visits of a walk: each is answered by the state of its point, and they have the points of the walk, in order.
+-- The visits of a walk: each is answered by the state of its point, and they have the points of the walk, in
+-- order.
 use Rattle.std.proofs.Common.{◌≡◌, ◌∙◌, ℕ, ◌≤◌, List, [], ◌∷◌, ◌++◌, map, Option, Some, None, refl, sym, ap, append_assoc, append-nil, arith}
 use Rattle.std.specs.List.{slice_get}
 use Rattle.std.specs.Option.{option_map}

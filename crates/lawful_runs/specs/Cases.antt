@@ -48,10 +48,20 @@ refused control line = record { control = control; line = line; kind = kinds.Ref
 -- ---- walks that visit an empty head alone
 -- a packet without bytes, and a walk that lets it pass
 abbrev pub empty_packet : Arrival
-empty_packet = record { hook = hooks.Ingress; packet = record { seconds = 0; fraction = 0; original = 0; bytes = [] } }
+empty_packet = record {
+  hook = hooks.Ingress;
+  packet = record { seconds = 0; fraction = 0; original = 0; bytes = [] };
+}
 
 abbrev pub walked_by : ℕ → List ℕ → Outcome
-walked_by worker points = record { worker = worker; verdict = verdicts.Pass; bytes = []; meta = no_meta; points = points; executed = [] }
+walked_by worker points = record {
+  worker = worker;
+  verdict = verdicts.Pass;
+  bytes = [];
+  meta = no_meta;
+  points = points;
+  executed = [];
+}
 
 -- three edits that make no filter
 abbrev pub three_edits : List Edit

@@ -1,4 +1,5 @@
--- What a job gives to run: its rounds, each with the commands of its batches and the packets of its capture (this project's own).
+-- What a job gives to run: its rounds, each with the commands of its batches and the packets of its capture
+-- (this project's own).
 use Rattle.capture_walk.specs.declared.limits.TheConstants.{PACKETS_MAX}
 use Rattle.batch_run.specs.declared.limit.TheConstants.{COMMANDS_MAX}
 use Rattle.std.specs.Prelude.{◌≡◌, ℕ, ◌≤◌, Bool, List, [], ◌∷◌, length, map, drop, sum_by, Option, Some, None}
@@ -32,7 +33,11 @@ pub record GivenRound : Type 0 where
 
 -- ---- files are handed out in the order in which the job names them
 abbrev pub given_batches : List BatchName → List (List ℕ) → List GivenBatch
-given_batches (name ∷ names) (bytes ∷ files) = record { control = name.control; force = name.force; commands = commands_of bytes } ∷ given_batches names files
+given_batches (name ∷ names) (bytes ∷ files) = record {
+  control = name.control;
+  force = name.force;
+  commands = commands_of bytes;
+} ∷ given_batches names files
 given_batches [] files = []
 given_batches (name ∷ names) [] = []
 

@@ -1,5 +1,5 @@
--- WHICH RUNS OF A JOB ARE LAWFUL (this project's own). Whatever the interleaving of controls and workers was, a run has one journal of
--- accepted edits, and each packet's walk is one over the states of that journal.
+-- WHICH RUNS OF A JOB ARE LAWFUL (this project's own). Whatever the interleaving of controls and workers was,
+-- a run has one journal of accepted edits, and each packet's walk is one over the states of that journal.
 use Rattle.std.specs.Prelude.{◌≡◌, ℕ, ◌==◌, List, [], ◌∷◌, ◌++◌, length, map, count_by, sum_by, if◌then◌else◌}
 use Rattle.std.specs.List.{flat_map}
 use Rattle.filter_state.specs.declared.edit.Edit.{Edit}
@@ -20,10 +20,12 @@ use Rattle.lawful_runs.specs.Outcomes.{AreWalked}
 
 -- ---- rounds
 -- a round behind the edits and the walks of the rounds before it, which accepts these edits
-pub record IsRound (workers : ℕ) (round : GivenRound) (before : List Edit) (earlier : List Outcome) (it : RoundRecord) (edits : List Edit) : Type 0 where
+pub record IsRound (workers : ℕ) (round : GivenRound) (before : List Edit) (earlier : List Outcome)
+    (it : RoundRecord) (edits : List Edit) : Type 0 where
   pub order : AreInOrder round.batches it.events
   pub results : AreResults round.batches (state_from no_state before) it.events edits
-  pub walked : AreWalked workers (before ++ edits) (length before) (length (before ++ edits)) earlier round.arrivals it.outcomes
+  pub walked : AreWalked workers (before ++ edits) (length before)
+      (length (before ++ edits)) earlier round.arrivals it.outcomes
 
 -- rounds one after the other; the journal has the edits of all
 abbrev pub AreRounds : ℕ → List GivenRound → List Edit → List Outcome → List RoundRecord → List Edit → Type 0
@@ -31,13 +33,15 @@ AreRounds workers [] before earlier [] journal = journal ≡ before
 AreRounds workers [] before earlier (it ∷ its) journal = ⊥
 AreRounds workers (round ∷ rounds) before earlier [] journal = ⊥
 AreRounds workers (round ∷ rounds) before earlier (it ∷ its) journal =
-    (edits : List Edit) × IsRound workers round before earlier it edits × AreRounds workers rounds (before ++ edits) (earlier ++ it.outcomes) its journal
+    (edits : List Edit) × IsRound workers round before earlier it edits
+    × AreRounds workers rounds (before ++ edits) (earlier ++ it.outcomes) its journal
 
 -- ---- counters
 -- the actions that edits ever make, from a state on, in order
 abbrev pub made_by : State → List Edit → List MadeAction
 made_by s [] = []
-made_by s (edit ∷ edits) = made_since s (state_after s (step s edit)) ++ made_by (state_after s (step s edit)) edits
+made_by s (edit ∷ edits) = made_since s (state_after s (step s edit))
+    ++ made_by (state_after s (step s edit)) edits
 
 abbrev pub executed_in : List Outcome → List (ℕ × ℕ)
 executed_in outcomes = flat_map (λ (outcome : Outcome). outcome.executed) outcomes

@@ -1,5 +1,5 @@
--- A small job, and a run of it: a batch drops packets to 10.0.0.1. Another lets those to 10.0.0.2 pass, and its edit is accepted between
--- the first and the second visit of a packet to 10.0.0.2.
+-- A small job, and a run of it: a batch drops packets to 10.0.0.1. Another lets those to 10.0.0.2 pass, and
+-- its edit is accepted between the first and the second visit of a packet to 10.0.0.2.
 use Rattle.std.specs.Prelude.{ℕ, false, List, [], ◌∷◌, ◌++◌, Some, None, codes}
 use Rattle.tc_base.specs.declared.hook.Hook.TheVariants as hooks
 use Rattle.pcap_io.specs.declared.capture.Capture.{Capture}
@@ -18,7 +18,8 @@ use Rattle.lawful_runs.specs.declared.loaded.LoadedJob.{LoadedJob}
 
 -- ---- what the files hold
 abbrev pub first_batch : List ℕ
-first_batch = codes "qdisc add dev eth0 clsact\nfilter add dev eth0 ingress protocol ip pref 10 flower dst_ip 10.0.0.1 action drop\n"
+first_batch = codes
+    "qdisc add dev eth0 clsact\nfilter add dev eth0 ingress protocol ip pref 10 flower dst_ip 10.0.0.1 action drop\n"
 
 abbrev pub second_batch : List ℕ
 second_batch = codes "filter add dev eth0 ingress protocol ip pref 10 flower dst_ip 10.0.0.2 action ok\n"
@@ -27,12 +28,17 @@ second_batch = codes "filter add dev eth0 ingress protocol ip pref 10 flower dst
 abbrev pub frame : List ℕ
 frame =
     0x02 ∷ 0x00 ∷ 0x00 ∷ 0x00 ∷ 0x00 ∷ 0x01 ∷ 0x02 ∷ 0x00 ∷ 0x00 ∷ 0x00 ∷ 0x00 ∷ 0x02 ∷ 0x08 ∷ 0x00
-    ∷ 0x45 ∷ 0x00 ∷ 0x00 ∷ 0x2e ∷ 0x00 ∷ 0x00 ∷ 0x00 ∷ 0x00 ∷ 0x40 ∷ 0x11 ∷ 0x00 ∷ 0x00 ∷ 10 ∷ 0 ∷ 0 ∷ 254 ∷ 10 ∷ 0 ∷ 0 ∷ 2
+    ∷ 0x45 ∷ 0x00 ∷ 0x00 ∷ 0x2e ∷ 0x00 ∷ 0x00 ∷ 0x00 ∷ 0x00 ∷ 0x40 ∷ 0x11 ∷ 0x00 ∷ 0x00 ∷ 10 ∷ 0 ∷ 0 ∷ 254
+    ∷ 10 ∷ 0 ∷ 0 ∷ 2
     ∷ 0x13 ∷ 0x88 ∷ 0x00 ∷ 0x35 ∷ 0x00 ∷ 0x1a ∷ 0x00 ∷ 0x00
     ∷ 0 ∷ 0 ∷ 0 ∷ 0 ∷ 0 ∷ 0 ∷ 0 ∷ 0 ∷ 0 ∷ 0 ∷ 0 ∷ 0 ∷ 0 ∷ 0 ∷ 0 ∷ 0 ∷ 0 ∷ 0 ∷ []
 
 abbrev pub capture : Capture
-capture = record { big = false; nanos = false; packets = record { seconds = 1; fraction = 0; original = 60; bytes = frame } ∷ [] }
+capture = record {
+  big = false;
+  nanos = false;
+  packets = record { seconds = 1; fraction = 0; original = 60; bytes = frame } ∷ [];
+}
 
 -- ---- the job
 abbrev pub job : Job
@@ -66,7 +72,11 @@ outcome = record {
 }
 
 abbrev pub first_round : RoundRecord
-first_round = record { events = accepted_line 1 dones.Hooked ∷ accepted_line 2 (dones.Filter 10 1 (1 ∷ [])) ∷ []; outcomes = [] }
+first_round = record {
+  events = accepted_line 1 dones.Hooked ∷ accepted_line 2 (dones.Filter 10 1 (1 ∷ []))
+      ∷ [];
+  outcomes = [];
+}
 
 abbrev pub second_round : RoundRecord
 second_round = record { events = accepted_line 1 (dones.Filter 10 2 (2 ∷ [])) ∷ []; outcomes = outcome ∷ [] }

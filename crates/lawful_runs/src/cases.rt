@@ -4,7 +4,8 @@ ghost use Rattle.lawful_runs.specs.Events.{IsThrough, AreInOrder};
 ghost use Rattle.lawful_runs.specs.Points.{AreLawfulPoints, seen_by};
 ghost use Rattle.lawful_runs.specs.Outcomes.{AreWalked};
 ghost use Rattle.lawful_runs.specs.Lawful.{IsLawfulRun, IsLawfulReport};
-ghost use Rattle.lawful_runs.specs.Cases.{head_at, mask_at, action_at, commands, accepted, refused, two_batches, empty_packet, walked_by, three_edits};
+ghost use Rattle.lawful_runs.specs.Cases.{head_at, mask_at, action_at, commands, accepted, refused};
+ghost use Rattle.lawful_runs.specs.Cases.{two_batches, empty_packet, walked_by, three_edits};
 ghost use Rattle.lawful_runs.specs.WorkedRun.{worked_job, worked_run, worked_report};
 
 /// Which parts of runs are lawful, and which aren't.
@@ -16,7 +17,8 @@ pub fn worked_cases()
     ensures below_head { AreLawfulPoints 2 3 (head_at 3 ∷ mask_at 5 2 ∷ []) → ⊥ }
     ensures mask_falls { AreLawfulPoints 2 3 (head_at 2 ∷ mask_at 5 3 ∷ mask_at 5 2 ∷ []) → ⊥ }
     ensures other_mask_falls { AreLawfulPoints 2 3 (head_at 2 ∷ mask_at 5 3 ∷ mask_at 6 2 ∷ []) }
-    ensures action_falls { AreLawfulPoints 2 3 (head_at 2 ∷ action_at 7 3 ∷ mask_at 5 2 ∷ action_at 7 2 ∷ []) → ⊥ }
+    ensures action_falls { AreLawfulPoints 2 3 (head_at 2 ∷ action_at 7 3 ∷ mask_at 5 2 ∷ action_at 7 2 ∷ [])
+        → ⊥ }
 
     // a batch ends at its first refused line, and where it is forced at its last line; it leaves no line out
     ensures to_the_end { IsThrough false commands (accepted 1 1 ∷ accepted 1 2 ∷ accepted 1 4 ∷ []) }
@@ -28,14 +30,20 @@ pub fn worked_cases()
     ensures cut_off { IsThrough false commands (accepted 1 1 ∷ []) → ⊥ }
 
     // the lines of two controls lie between each other's, each control's in order
-    ensures interleaved { AreInOrder two_batches (accepted 2 1 ∷ accepted 1 1 ∷ refused 2 2 ∷ refused 1 2 ∷ []) }
-    ensures out_of_order { AreInOrder two_batches (accepted 2 1 ∷ accepted 1 2 ∷ refused 2 2 ∷ refused 1 1 ∷ []) → ⊥ }
+    ensures interleaved { AreInOrder two_batches (accepted 2 1 ∷ accepted 1 1 ∷ refused 2 2 ∷ refused 1 2
+        ∷ []) }
+    ensures out_of_order { AreInOrder two_batches (accepted 2 1 ∷ accepted 1 2 ∷ refused 2 2 ∷ refused 1 1
+        ∷ []) → ⊥ }
 
     // a walk's head is no older than what its worker has seen; what another worker saw doesn't count
-    ensures own_points { seen_by 1 (walked_by 1 (2 ∷ 4 ∷ 3 ∷ []) ∷ walked_by 2 (9 ∷ []) ∷ walked_by 1 (3 ∷ []) ∷ []) ≡ 4 }
-    ensures two_workers { AreWalked 2 three_edits 2 3 [] (empty_packet ∷ empty_packet ∷ []) (walked_by 1 (3 ∷ []) ∷ walked_by 2 (2 ∷ []) ∷ []) }
-    ensures one_worker { AreWalked 2 three_edits 2 3 [] (empty_packet ∷ empty_packet ∷ []) (walked_by 1 (3 ∷ []) ∷ walked_by 1 (2 ∷ []) ∷ []) → ⊥ }
-    ensures seen_before { AreWalked 2 three_edits 2 3 (walked_by 1 (3 ∷ []) ∷ []) (empty_packet ∷ []) (walked_by 1 (2 ∷ []) ∷ []) → ⊥ }
+    ensures own_points { seen_by 1 (walked_by 1 (2 ∷ 4 ∷ 3 ∷ []) ∷ walked_by 2 (9 ∷ []) ∷ walked_by 1 (3 ∷ [])
+        ∷ []) ≡ 4 }
+    ensures two_workers { AreWalked 2 three_edits 2 3 [] (empty_packet ∷ empty_packet ∷ [])
+        (walked_by 1 (3 ∷ []) ∷ walked_by 2 (2 ∷ []) ∷ []) }
+    ensures one_worker { AreWalked 2 three_edits 2 3 [] (empty_packet ∷ empty_packet ∷ [])
+        (walked_by 1 (3 ∷ []) ∷ walked_by 1 (2 ∷ []) ∷ []) → ⊥ }
+    ensures seen_before { AreWalked 2 three_edits 2 3 (walked_by 1 (3 ∷ []) ∷ []) (empty_packet ∷ [])
+        (walked_by 1 (2 ∷ []) ∷ []) → ⊥ }
 {}
 
 /// A small job's run, with an edit between two visits of a walk, is lawful, and so is its report.

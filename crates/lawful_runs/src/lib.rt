@@ -1,23 +1,26 @@
 //! Which runs of a job are lawful, and which reports.
 //!
-//! A job says which batches and captures meet in which round. How they meet is left to threads: controls apply the lines of their
-//! batches while workers walk packets. So a job has many runs, and this crate says which of them there may be (`specs/Lawful.antt`). The
-//! events of a round are its controls' lines, each control's in order, each with the result of its edit on the state before it
-//! (`specs/Events.antt`). The accepted edits, in this order, are the journal, and a point names the state after so many of them. Each
-//! packet's walk makes each visit at one point of the journal, at which the visited thing stood (`specs/Outcomes.antt`). The points
-//! have four rules (`specs/Points.antt`): the head's is neither before the edits of earlier rounds nor before anything that its worker
-//! had seen, no other is before the head's, none is past the edits of the round, and for one mask or one action they never fall. A
-//! counter is kept for each action that was ever made.
+//! A job says which batches and captures meet in which round. How they meet is left to threads: controls
+//! apply the lines of their batches while workers walk packets. So a job has many runs, and this crate says
+//! which of them there may be (`specs/Lawful.antt`). The events of a round are its controls' lines, each
+//! control's in order, each with the result of its edit on the state before it (`specs/Events.antt`). The
+//! accepted edits, in this order, are the journal, and a point names the state after so many of them. Each
+//! packet's walk makes each visit at one point of the journal, at which the visited thing stood
+//! (`specs/Outcomes.antt`). The points have four rules (`specs/Points.antt`): the head's is neither before
+//! the edits of earlier rounds nor before anything that its worker had seen, no other is before the head's,
+//! none is past the edits of the round, and for one mask or one action they never fall. A counter is kept for
+//! each action that was ever made.
 //!
-//! The definitions compute nothing that a run would have to follow, and name no thread: they are judged by a report and a
-//! job alone. `laws` says what follows for any lawful run: it has one journal, each line has its result and each packet its walk in that
-//! journal, and no worker goes back. `cases` tells of small parts of runs, and of one whole run with its report, whether they are lawful.
+//! The definitions compute nothing that a run would have to follow, and name no thread: they are judged by a
+//! report and a job alone. `laws` says what follows for any lawful run: it has one journal, each line has its
+//! result and each packet its walk in that journal, and no worker goes back. `cases` tells of small parts of
+//! runs, and of one whole run with its report, whether they are lawful.
 //!
-//! `LoadedJob` is a job with what its files hold, as plain data, which may go to any thread. Nothing else is there at run time: the
-//! functions of `laws` and `cases` do nothing, and any thread may call them.
+//! `LoadedJob` is a job with what its files hold, as plain data, which may go to any thread. Nothing else is
+//! there at run time: the functions of `laws` and `cases` do nothing, and any thread may call them.
 //!
-//! Not promised: that a run ends, that any two controls or workers really met, or any order in time between threads that told
-//! each other nothing.
+//! Not promised: that a run ends, that any two controls or workers really met, or any order in time between
+//! threads that told each other nothing.
 #![tactic(auto)]
 
 mod cases;

@@ -45,8 +45,8 @@ impl Captures {
     }
 }
 
-/// A job, and what its files hold: batches and captures each in the order in which the job names them, round by round. A file that
-/// is named twice stands there twice.
+/// A job, and what its files hold: batches and captures each in the order in which the job names them, round
+/// by round. A file that is named twice stands there twice.
 #[derive(Drop)]
 pub struct LoadedJob {
     pub job: Job,

@@ -1,4 +1,5 @@
--- What the names, the values and the masks of a filter's fields are together, as plain lists, and each part after a change.
+-- What the names, the values and the masks of a filter's fields are together, as plain lists, and each part
+-- after a change.
 use Rattle.std.proofs.Common.{◌≡◌, ◌∙◌, ℕ, ◌+◌, ◌<◌, Bool, true, false, List, [], ◌∷◌, length, get_or, refl, sym, subst, arith, inl, inr}
 use Rattle.std.specs.Prelude.{◌⊎◌, bit_and, slice_set}
 use Rattle.std.proofs.lemmas.Bool.{cases_eq}

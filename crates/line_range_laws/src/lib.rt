@@ -1,11 +1,12 @@
 //! That each batch line gives an edit in the ranges of a line.
 //!
-//! What an edit may be is said twice in this project: by the grammar of a batch line, which says how each is written, and by the
-//! ranges of an edit, on which whoever takes edits relies. Those ranges are to be just what lines give: this crate proves that no
-//! line gives an edit outside of them, which is one half.
+//! What an edit may be is said twice in this project: by the grammar of a batch line, which says how each is
+//! written, and by the ranges of an edit, on which whoever takes edits relies. Those ranges are to be just
+//! what lines give: this crate proves that no line gives an edit outside of them, which is one half.
 //!
-//! It stands apart because it is proofs alone, over the definitions of the crates below, so that none of them has to be proved
-//! again when a proof here changes. There is no code: the one function does nothing, and any thread may call it.
+//! It stands apart because it is proofs alone, over the definitions of the crates below, so that none of them
+//! has to be proved again when a proof here changes. There is no code: the one function does nothing, and any
+//! thread may call it.
 #![tactic(auto)]
 
 ghost use Rattle.std.specs.Prelude.{ℕ, List};

@@ -1,6 +1,7 @@
--- The words of a batch line as they are printed, one form after the other. Which of the forms that tc(8), tc-flower(8),
--- tc-vlan(8) and tc-skbedit(8) describe is printed is this project's own.
-use Rattle.std.specs.Prelude.{ℕ, ◌+◌, ◌-◌, ◌/◌, ◌%◌, ◌^◌, ◌==◌, false, List, [], ◌∷◌, ◌++◌, codes, if◌then◌else◌}
+-- The words of a batch line as they are printed, one form after the other. Which of the forms that tc(8),
+-- tc-flower(8), tc-vlan(8) and tc-skbedit(8) describe is printed is this project's own.
+use Rattle.std.specs.Prelude.{ℕ, ◌+◌, ◌-◌, ◌/◌, ◌%◌, ◌^◌, ◌==◌, false, List, [], ◌∷◌, ◌++◌, codes}
+use Rattle.std.specs.Prelude.{if◌then◌else◌}
 use Rattle.std.specs.List.{join_with_byte}
 use Rattle.std.specs.Char.{digit_char}
 use Rattle.std.specs.Fmt.{decimal, digits}
@@ -66,7 +67,8 @@ masked_octet_text value mask = join_with_byte 47 (decimal value ∷ decimal mask
 
 -- the octets of a number of 24 bits, the highest first, each in two digits, with colons between
 abbrev pub three_octets : ℕ → List ℕ
-three_octets n = join_with_byte 58 (two_digits (n / 65536) ∷ two_digits (n / 256 % 256) ∷ two_digits (n % 256) ∷ [])
+three_octets n =
+    join_with_byte 58 (two_digits (n / 65536) ∷ two_digits (n / 256 % 256) ∷ two_digits (n % 256) ∷ [])
 
 -- RFC 6991, section 4 (mac-address): the six octets of 48 bits
 abbrev pub mac_address_text : ℕ → List ℕ
@@ -108,6 +110,7 @@ ipv6_text high low length = join_with_byte 47 (ipv6_address_text high low ∷ de
 abbrev pub prefix_length_of : ℕ → ℕ
 prefix_length_of mask = 32 - trailing_zeros w32 mask
 
--- the same of 128 bits, which come in two halves: of a mask the high half is all ones where the low half is not 0
+-- the same of 128 bits, which come in two halves: of a mask the high half is all ones where the low half is
+-- not 0
 abbrev pub ipv6_length_of : ℕ → ℕ → ℕ
 ipv6_length_of high low = (64 - trailing_zeros w64 high) + (64 - trailing_zeros w64 low)

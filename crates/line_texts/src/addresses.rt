@@ -1,6 +1,8 @@
 //! Addresses of network cards, and IPv4 and IPv6 prefixes.
 ghost use Rattle.std.specs.Prelude.{◌≡◌, ◌<◌, ◌≤◌, ◌^◌, ◌++◌, OnOk};
-ghost use Rattle.line_texts.specs.Texts.{three_octets, mac_address_text, masked_mac_text, mac_text, two_octets, dotted, ipv4_text, four_groups, ipv6_address_text, ipv6_text, prefix_length_of, ipv6_length_of};
+ghost use Rattle.line_texts.specs.Texts.{three_octets, mac_address_text, masked_mac_text, mac_text};
+ghost use Rattle.line_texts.specs.Texts.{two_octets, dotted, ipv4_text, four_groups, ipv6_address_text};
+ghost use Rattle.line_texts.specs.Texts.{ipv6_text, prefix_length_of, ipv6_length_of};
 
 use crate::numbers::{push_number, push_text, push_two_digits, push_two_groups};
 use std::alloc::AllocError;
@@ -38,8 +40,9 @@ fn push_masked_mac(out: &mut Vec<u8>, value: u64, mask: u64) -> Result<(), Alloc
     push_mac_address(out, mask)
 }
 
-/// Puts the address of a network card behind what is there: six groups of two hexadecimal digits with colons between
-/// (RFC 6991, section 4), and where not all 48 bits count a slash and the mask alike (tc-flower(8), dst_mac).
+/// Puts the address of a network card behind what is there: six groups of two hexadecimal digits with colons
+/// between (RFC 6991, section 4), and where not all 48 bits count a slash and the mask alike (tc-flower(8),
+/// dst_mac).
 #[tactic(auto, unfolding(crate::specs::Texts::mac_text))]
 pub fn push_mac(out: &mut Vec<u8>, value: u64, mask: u64) -> Result<(), AllocError>
     requires value { value < 2 ^ 48 }
@@ -82,8 +85,8 @@ fn push_dotted(out: &mut Vec<u8>, address: u64) -> Result<(), AllocError>
     push_two_octets(out, address % 65536)
 }
 
-/// Puts an IPv4 prefix behind what is there: `a.b.c.d/len`, four octets in decimal digits (RFC 1123, section 2.1) and the
-/// length that the mask tells (RFC 4632, section 3.1).
+/// Puts an IPv4 prefix behind what is there: `a.b.c.d/len`, four octets in decimal digits (RFC 1123, section
+/// 2.1) and the length that the mask tells (RFC 4632, section 3.1).
 #[tactic(auto, unfolding(crate::specs::Texts::ipv4_text))]
 pub fn push_ipv4(out: &mut Vec<u8>, value: u32, mask: u32) -> Result<(), AllocError>
     ensures { OnOk result (out.new.items ≡ out.old.items ++ ipv4_text value (prefix_length_of mask)) }
@@ -118,9 +121,9 @@ fn push_with_length(out: &mut Vec<u8>, high: u64, low: u64, length: u32) -> Resu
     push_number(out, u64::from(length))
 }
 
-/// Puts an IPv6 prefix behind what is there: its eight groups in hexadecimal digits with colons between and no `::`
-/// (RFC 4291, section 2.2, form 1), a slash and the length that the mask tells (section 2.3). Value and mask come in two
-/// halves.
+/// Puts an IPv6 prefix behind what is there: its eight groups in hexadecimal digits with colons between and
+/// no `::` (RFC 4291, section 2.2, form 1), a slash and the length that the mask tells (section 2.3). Value
+/// and mask come in two halves.
 pub fn push_ipv6(
     out: &mut Vec<u8>,
     high: u64,
@@ -128,7 +131,8 @@ pub fn push_ipv6(
     mask_high: u64,
     mask_low: u64,
 ) -> Result<(), AllocError>
-    ensures { OnOk result (out.new.items ≡ out.old.items ++ ipv6_text high low (ipv6_length_of mask_high mask_low)) }
+    ensures { OnOk result (out.new.items
+        ≡ out.old.items ++ ipv6_text high low (ipv6_length_of mask_high mask_low)) }
 {
     push_with_length(out, high, low, ipv6_length(mask_high, mask_low))
 }

@@ -1,5 +1,6 @@
 //! What holds of the texts. The functions do nothing: their contracts are the laws.
-ghost use Rattle.std.specs.Prelude.{◌≡◌, ◌<◌, ◌≤◌, ◌+◌, ◌*◌, ◌/◌, ◌%◌, ◌^◌, ◌==◌, ◌⊎◌, ℕ, List, IsTrue, IsFalse, Some, bit_and, decimal};
+ghost use Rattle.std.specs.Prelude.{◌≡◌, ◌<◌, ◌≤◌, ◌+◌, ◌*◌, ◌/◌, ◌%◌, ◌^◌, ◌==◌, ◌⊎◌, ℕ, List, IsTrue};
+ghost use Rattle.std.specs.Prelude.{IsFalse, Some, bit_and, decimal};
 ghost use Rattle.std.specs.List.{list_all, list_any, join_with_byte};
 ghost use Rattle.tc_base.specs.declared.hook.Proto.TheVariants.{All, Ether};
 ghost use Rattle.tc_words.specs.Addresses.{prefix_mask, ipv4_of};
@@ -7,20 +8,26 @@ ghost use Rattle.tc_words.specs.Ipv6Addresses.{ipv6_mask, ipv6_of};
 ghost use Rattle.tc_words.specs.Lines.{words_of};
 ghost use Rattle.tc_words.specs.MacAddresses.{mac_of};
 ghost use Rattle.tc_words.specs.Numbers.{decimal_of};
-ghost use Rattle.line_words.specs.Forms.{number_between, tpid_of, ether_type_of, protocol_of, ip_protocol_of, class_of, masked_hex_of, masked_octet_of};
+ghost use Rattle.line_words.specs.Forms.{number_between, tpid_of, ether_type_of, protocol_of, ip_protocol_of};
+ghost use Rattle.line_words.specs.Forms.{class_of, masked_hex_of, masked_octet_of};
 ghost use Rattle.line_texts.specs.CleanWords.{is_clean};
-ghost use Rattle.line_texts.specs.Texts.{handle_text, ether_type_text, protocol_text, ip_protocol_text, class_text, masked_hex_text, masked_octet_text, mac_text, ipv4_text, ipv6_text, prefix_length_of, ipv6_length_of};
+ghost use Rattle.line_texts.specs.Texts.{handle_text, ether_type_text, protocol_text, ip_protocol_text};
+ghost use Rattle.line_texts.specs.Texts.{class_text, masked_hex_text, masked_octet_text, mac_text, ipv4_text};
+ghost use Rattle.line_texts.specs.Texts.{ipv6_text, prefix_length_of, ipv6_length_of};
 
 /// Clean words with one space between are the words of the line.
 pub fn clean_words_are_words()
-    ensures { (words : List (List ℕ)) → IsTrue (list_all is_clean words) → words_of (join_with_byte 32 words) ≡ words }
+    ensures { (words : List (List ℕ)) → IsTrue (list_all is_clean words) → words_of (join_with_byte 32 words)
+        ≡ words }
 {}
 
 /// A number and a handle are read back where they are in the range of their place.
 pub fn numbers_are_read()
-    ensures number { (least most n : ℕ) → n < 2 ^ 64 → least ≤ n → n ≤ most → number_between least most (decimal n) ≡ Some n }
+    ensures number { (least most n : ℕ) → n < 2 ^ 64 → least ≤ n → n ≤ most
+        → number_between least most (decimal n) ≡ Some n }
     ensures decimal { (most n : ℕ) → n < 2 ^ 64 → n ≤ most → decimal_of (decimal n) most ≡ Some n }
-    ensures handle { (least most n : ℕ) → n < 2 ^ 32 → least ≤ n → n ≤ most → number_between least most (handle_text n) ≡ Some n }
+    ensures handle { (least most n : ℕ) → n < 2 ^ 32 → least ≤ n → n ≤ most
+        → number_between least most (handle_text n) ≡ Some n }
 {}
 
 /// Each protocol is read back, whether it has a name or not.
@@ -35,7 +42,8 @@ pub fn protocols_are_read()
 /// A class is read back, and so is a value with its mask where the value has no bit outside the mask.
 pub fn pairs_are_read()
     ensures class { (n : ℕ) → n < 2 ^ 32 → class_of (class_text n) ≡ Some n }
-    ensures masked_hex { (digits value mask : ℕ) → 0 < digits → digits ≤ 3 → value < 16 ^ digits → mask < 16 ^ digits →
+    ensures masked_hex { (digits value mask : ℕ) → 0 < digits → digits ≤ 3 → value < 16 ^ digits
+        → mask < 16 ^ digits →
         bit_and value mask ≡ value → masked_hex_of (masked_hex_text value mask) digits ≡ Some (value, mask) }
     ensures masked_octet { (value mask : ℕ) → value ≤ 255 → mask ≤ 255 →
         bit_and value mask ≡ value → masked_octet_of (masked_octet_text value mask) ≡ Some (value, mask) }
@@ -46,7 +54,8 @@ pub fn addresses_are_read()
     ensures mac { (value mask : ℕ) → value < 2 ^ 48 → mask < 2 ^ 48 →
         bit_and value mask ≡ value → mac_of (mac_text value mask) ≡ Some (value, mask) }
     ensures ipv4 { (value length : ℕ) → value < 2 ^ 32 → length ≤ 32 →
-        bit_and value (prefix_mask length) ≡ value → ipv4_of (ipv4_text value length) ≡ Some (value, prefix_mask length) }
+        bit_and value (prefix_mask length) ≡ value → ipv4_of (ipv4_text value length)
+        ≡ Some (value, prefix_mask length) }
     ensures ipv6 { (high low length : ℕ) → high < 2 ^ 64 → low < 2 ^ 64 → length ≤ 128 →
         bit_and (high * 2 ^ 64 + low) (ipv6_mask length) ≡ high * 2 ^ 64 + low →
         ipv6_of (ipv6_text high low length) ≡ Some (record { high = high; low = low; length = length }) }
@@ -55,12 +64,14 @@ pub fn addresses_are_read()
 /// The length of a prefix is found in its mask.
 pub fn lengths_are_found()
     ensures ipv4 { (length : ℕ) → length ≤ 32 → prefix_length_of (prefix_mask length) ≡ length }
-    ensures ipv6 { (length : ℕ) → length ≤ 128 → ipv6_length_of (ipv6_mask length / 2 ^ 64) (ipv6_mask length % 2 ^ 64) ≡ length }
+    ensures ipv6 { (length : ℕ) → length ≤ 128
+        → ipv6_length_of (ipv6_mask length / 2 ^ 64) (ipv6_mask length % 2 ^ 64) ≡ length }
 {}
 
 /// A colon tells the two kinds of addresses apart.
 pub fn colons_tell()
-    ensures ipv4 { (value length : ℕ) → value < 2 ^ 32 → length ≤ 32 → IsFalse (list_any (λ b. b == 58) (ipv4_text value length)) }
+    ensures ipv4 { (value length : ℕ) → value < 2 ^ 32 → length ≤ 32
+        → IsFalse (list_any (λ b. b == 58) (ipv4_text value length)) }
     ensures ipv6 { (high low length : ℕ) → IsTrue (list_any (λ b. b == 58) (ipv6_text high low length)) }
 {}
 
@@ -72,9 +83,14 @@ pub fn texts_are_clean()
     ensures all { IsTrue (is_clean (protocol_text All)) }
     ensures ip_protocol { (n : ℕ) → n < 256 → IsTrue (is_clean (ip_protocol_text n)) }
     ensures class { (n : ℕ) → n < 2 ^ 32 → IsTrue (is_clean (class_text n)) }
-    ensures masked_hex { (digits value mask : ℕ) → 0 < digits → digits ≤ 3 → value < 16 ^ digits → mask < 16 ^ digits → IsTrue (is_clean (masked_hex_text value mask)) }
-    ensures masked_octet { (value mask : ℕ) → value ≤ 255 → mask ≤ 255 → IsTrue (is_clean (masked_octet_text value mask)) }
-    ensures mac { (value mask : ℕ) → value < 2 ^ 48 → mask < 2 ^ 48 → IsTrue (is_clean (mac_text value mask)) }
-    ensures ipv4 { (value length : ℕ) → value < 2 ^ 32 → length ≤ 32 → IsTrue (is_clean (ipv4_text value length)) }
-    ensures ipv6 { (high low length : ℕ) → high < 2 ^ 64 → low < 2 ^ 64 → length ≤ 128 → IsTrue (is_clean (ipv6_text high low length)) }
+    ensures masked_hex { (digits value mask : ℕ) → 0 < digits → digits ≤ 3 → value < 16 ^ digits
+        → mask < 16 ^ digits → IsTrue (is_clean (masked_hex_text value mask)) }
+    ensures masked_octet { (value mask : ℕ) → value ≤ 255 → mask ≤ 255
+        → IsTrue (is_clean (masked_octet_text value mask)) }
+    ensures mac { (value mask : ℕ) → value < 2 ^ 48 → mask < 2 ^ 48
+        → IsTrue (is_clean (mac_text value mask)) }
+    ensures ipv4 { (value length : ℕ) → value < 2 ^ 32 → length ≤ 32
+        → IsTrue (is_clean (ipv4_text value length)) }
+    ensures ipv6 { (high low length : ℕ) → high < 2 ^ 64 → low < 2 ^ 64 → length ≤ 128
+        → IsTrue (is_clean (ipv6_text high low length)) }
 {}

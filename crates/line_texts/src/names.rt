@@ -1,6 +1,7 @@
 //! Protocols, by their names where they have one.
 ghost use Rattle.std.specs.Prelude.{◌≡◌, ◌<◌, ◌++◌, OnOk};
-ghost use Rattle.line_texts.specs.Texts.{marked, two_digits, four_digits, ether_type_text, protocol_text, ip_protocol_text};
+ghost use Rattle.line_texts.specs.Texts.{marked, two_digits, four_digits, ether_type_text, protocol_text};
+ghost use Rattle.line_texts.specs.Texts.{ip_protocol_text};
 
 use crate::numbers::{push_four_digits, push_text, push_two_digits};
 use std::alloc::AllocError;
@@ -13,8 +14,8 @@ fn push_ether_number(out: &mut Vec<u8>, number: u16) -> Result<(), AllocError>
     push_four_digits(out, u64::from(number))
 }
 
-/// Puts an EtherType behind what is there: `ip`, `ipv6`, `arp`, `802.1Q` or `802.1ad` (IANA, IEEE 802 Numbers), or else `0x`
-/// and four hexadecimal digits.
+/// Puts an EtherType behind what is there: `ip`, `ipv6`, `arp`, `802.1Q` or `802.1ad` (IANA, IEEE 802
+/// Numbers), or else `0x` and four hexadecimal digits.
 #[tactic(auto, unfolding(crate::specs::Texts::ether_type_text))]
 pub fn push_ether_type(out: &mut Vec<u8>, number: u16) -> Result<(), AllocError>
     ensures { OnOk result (out.new.items ≡ out.old.items ++ ether_type_text number) }
@@ -46,8 +47,8 @@ fn push_ip_number(out: &mut Vec<u8>, number: u8) -> Result<(), AllocError>
     push_two_digits(out, u64::from(number))
 }
 
-/// Puts a protocol over IP behind what is there: `tcp` or `udp` (IANA, Protocol Numbers), or else `0x` and two hexadecimal
-/// digits.
+/// Puts a protocol over IP behind what is there: `tcp` or `udp` (IANA, Protocol Numbers), or else `0x` and
+/// two hexadecimal digits.
 #[tactic(auto, unfolding(crate::specs::Texts::ip_protocol_text))]
 pub fn push_ip_protocol(out: &mut Vec<u8>, number: u8) -> Result<(), AllocError>
     ensures { OnOk result (out.new.items ≡ out.old.items ++ ip_protocol_text number) }

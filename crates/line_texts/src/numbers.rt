@@ -1,7 +1,8 @@
 //! Numbers in decimal and in hexadecimal digits, alone and in pairs.
 ghost use Rattle.std.specs.Prelude.{◌≡◌, ◌<◌, ◌++◌, ◌∷◌, [], decimal, OnOk};
 ghost use Rattle.std.specs.Char.{digit_char};
-ghost use Rattle.line_texts.specs.Texts.{hex_text, marked, handle_text, two_digits, four_digits, two_groups, class_text, masked_hex_text, masked_octet_text};
+ghost use Rattle.line_texts.specs.Texts.{hex_text, marked, handle_text, two_digits, four_digits, two_groups};
+ghost use Rattle.line_texts.specs.Texts.{class_text, masked_hex_text, masked_octet_text};
 
 use itoa::Buffer;
 use std::alloc::AllocError;
@@ -75,7 +76,8 @@ pub(crate) fn push_four_digits(out: &mut Vec<u8>, number: u64) -> Result<(), All
     push_two_digits(out, number % 256)
 }
 
-/// Puts a handle behind what is there: `0x` and its hexadecimal digits, as tc(8) shows the handles of filters.
+/// Puts a handle behind what is there: `0x` and its hexadecimal digits, as tc(8) shows the handles of
+/// filters.
 #[tactic(auto, unfolding(crate::specs::Texts::handle_text))]
 pub fn push_handle(out: &mut Vec<u8>, handle: u32) -> Result<(), AllocError>
     ensures { OnOk result (out.new.items ≡ out.old.items ++ handle_text handle) }
@@ -92,7 +94,8 @@ pub(crate) fn push_two_groups(out: &mut Vec<u8>, number: u64) -> Result<(), Allo
     push_hex(out, number % 65536)
 }
 
-/// Puts a class behind what is there: `H:H`, its major and its minor number of 16 bits in hexadecimal digits (tc(8), classid).
+/// Puts a class behind what is there: `H:H`, its major and its minor number of 16 bits in hexadecimal digits
+/// (tc(8), classid).
 #[tactic(auto, unfolding(crate::specs::Texts::class_text))]
 pub fn push_class(out: &mut Vec<u8>, class: u32) -> Result<(), AllocError>
     ensures { OnOk result (out.new.items ≡ out.old.items ++ class_text class) }

@@ -1,6 +1,8 @@
--- What the words of a batch line spell, one form after the other. The forms are this project's own, after those that tc-flower(8),
--- tc-vlan(8) and tc-skbedit(8) describe; numbers and addresses alone stand with `tc_words`.
-use Rattle.std.specs.Prelude.{ℕ, Bool, ◌+◌, ◌*◌, ◌-◌, ◌^◌, ◌&&◌, ◌==◌, nat_le, nat_lt, bit_and, List, [], ◌∷◌, length, slice_index, codes, Option, Some, None, if◌then◌else◌}
+-- What the words of a batch line spell, one form after the other. The forms are this project's own, after
+-- those that tc-flower(8), tc-vlan(8) and tc-skbedit(8) describe; numbers and addresses alone stand with
+-- `tc_words`.
+use Rattle.std.specs.Prelude.{ℕ, Bool, ◌+◌, ◌*◌, ◌-◌, ◌^◌, ◌&&◌, ◌==◌, nat_le, nat_lt, bit_and, List, [], ◌∷◌}
+use Rattle.std.specs.Prelude.{length, slice_index, codes, Option, Some, None, if◌then◌else◌}
 use Rattle.std.specs.List.{slice_split}
 use Rattle.std.specs.Option.{option_map, option_or}
 use Rattle.std.specs.Str.{bytes_eq}
@@ -47,7 +49,8 @@ ether_type_of word =
 unfoldable pub protocol_of : List ℕ → Option Proto
 protocol_of word = if bytes_eq word (codes "all") then Some All else option_map Ether (ether_type_of word)
 
--- IANA, Protocol Numbers: a protocol over IP by its name, or by 1 or 2 hexadecimal digits with or without `0x`
+-- IANA, Protocol Numbers: a protocol over IP by its name, or by 1 or 2 hexadecimal digits with or without
+-- `0x`
 unfoldable pub ip_protocol_of : List ℕ → Option ℕ
 ip_protocol_of word =
     if bytes_eq word (codes "tcp") then Some 6
@@ -81,9 +84,11 @@ masked_by says whole (value ∷ []) = under_mask (says value) (Some whole)
 masked_by says whole (value ∷ mask ∷ []) = under_mask (says value) (says mask)
 masked_by says whole parts = None
 
--- tc-flower(8), ip_tos and tcp_flags: up to so many hexadecimal digits with or without `0x`, and behind a slash a mask alike
+-- tc-flower(8), ip_tos and tcp_flags: up to so many hexadecimal digits with or without `0x`, and behind a
+-- slash a mask alike
 unfoldable pub masked_hex_of : List ℕ → ℕ → Option (ℕ × ℕ)
-masked_hex_of word digits = masked_by (λ part. marked_hex_of part digits) (16 ^ digits - 1) (slice_split (λ b. b == 47) word)
+masked_hex_of word digits =
+    masked_by (λ part. marked_hex_of part digits) (16 ^ digits - 1) (slice_split (λ b. b == 47) word)
 
 -- tc-flower(8), ip_ttl: a number of 8 bits, and behind a slash a mask alike
 unfoldable pub masked_octet_of : List ℕ → Option (ℕ × ℕ)

@@ -14,8 +14,8 @@ fn join_class(major: Option<u64>, minor: Option<u64>) -> Option<u32>
     Some((major * 65536 + minor) as u32)
 }
 
-/// The number of a class, `MAJOR:MINOR`, as one number of 32 bits with the major half highest (tc(8), `classid`). Each half is 1
-/// to 4 hexadecimal digits of either case, without `0x`. So `1:10` is 0x00010010.
+/// The number of a class, `MAJOR:MINOR`, as one number of 32 bits with the major half highest (tc(8),
+/// `classid`). Each half is 1 to 4 hexadecimal digits of either case, without `0x`. So `1:10` is 0x00010010.
 ///
 /// `None` for any other word, one with an empty half or a second `:` too.
 pub fn read_class(word: &[u8]) -> Option<u32>

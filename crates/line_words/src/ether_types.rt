@@ -5,8 +5,8 @@ ghost use Rattle.line_words.specs.Forms.{tpid_of, has_mark, ether_number_of, eth
 
 use tc_words::{is_text, read_hex};
 
-/// The EtherType of a VLAN tag by the name of its standard: `802.1Q` or `802.1q` is 0x8100, and `802.1ad` or `802.1AD` is
-/// 0x88A8 (IEEE 802.1Q, clause 9.5, table 9-1; tc-vlan(8), `protocol`).
+/// The EtherType of a VLAN tag by the name of its standard: `802.1Q` or `802.1q` is 0x8100, and `802.1ad` or
+/// `802.1AD` is 0x88A8 (IEEE 802.1Q, clause 9.5, table 9-1; tc-vlan(8), `protocol`).
 ///
 /// `None` for any other word.
 #[tactic(auto, unfolding(crate::specs::Forms::tpid_of))]
@@ -49,8 +49,8 @@ fn read_tag_or_number(word: &[u8]) -> Option<u16>
     }
 }
 
-/// The EtherType that a word names: `ip` or `ipv4`, `ipv6`, `arp`, a VLAN tag as `read_tpid` takes it (IANA, IEEE 802 Numbers),
-/// or the number itself in 1 to 4 hexadecimal digits of either case behind `0x`.
+/// The EtherType that a word names: `ip` or `ipv4`, `ipv6`, `arp`, a VLAN tag as `read_tpid` takes it (IANA,
+/// IEEE 802 Numbers), or the number itself in 1 to 4 hexadecimal digits of either case behind `0x`.
 ///
 /// `None` for any other word, a number without `0x` and one with `0X` too.
 #[tactic(auto, unfolding(crate::specs::Forms::ether_type_of))]

@@ -13,10 +13,10 @@ fn under_mask(value: Option<u64>, mask: Option<u64>) -> Option<(u64, u64)>
     Some((value & mask, mask))
 }
 
-/// The value AND the mask, and then the mask, of a value that stands alone or has `/` and a mask behind it (tc-flower(8), `ip_tos`
-/// and `tcp_flags`). Value and mask are 1 to `digits` hexadecimal digits of either case, each with or without `0x` before
-/// them. A value alone has all bits of `digits` digits in its mask: 8 bits in 2 digits, 12 in 3. At most 15 digits may be
-/// asked for.
+/// The value AND the mask, and then the mask, of a value that stands alone or has `/` and a mask behind it
+/// (tc-flower(8), `ip_tos` and `tcp_flags`). Value and mask are 1 to `digits` hexadecimal digits of either
+/// case, each with or without `0x` before them. A value alone has all bits of `digits` digits in its mask: 8
+/// bits in 2 digits, 12 in 3. At most 15 digits may be asked for.
 ///
 /// `None` for any other word.
 pub fn read_masked_hex(word: &[u8], digits: u32) -> Option<(u64, u64)>
@@ -36,9 +36,9 @@ fn read_octet(text: &[u8]) -> Option<u64>
     Some(u64::from(number))
 }
 
-/// The value AND the mask, and then the mask, of a number of 8 bits that stands alone or has `/` and a mask behind it
-/// (tc-flower(8), `ip_ttl`). Value and mask are numbers up to 255, in decimal digits or behind `0x` or `0X` in hexadecimal
-/// ones. A value alone has all 8 bits in its mask.
+/// The value AND the mask, and then the mask, of a number of 8 bits that stands alone or has `/` and a mask
+/// behind it (tc-flower(8), `ip_ttl`). Value and mask are numbers up to 255, in decimal digits or behind `0x`
+/// or `0X` in hexadecimal ones. A value alone has all 8 bits in its mask.
 ///
 /// `None` for any other word.
 pub fn read_masked_octet(word: &[u8]) -> Option<(u64, u64)>

@@ -30,8 +30,9 @@ fn read_octet(word: &[u8]) -> Option<u8>
     Some(number as u8)
 }
 
-/// The number of a protocol over IP (tc-flower(8), `ip_proto`; IANA, Protocol Numbers): `tcp`, `udp`, `icmp`, `icmpv6` or `sctp`,
-/// or the number itself in 1 or 2 hexadecimal digits of either case, with or without `0x` before them. So `17` is 23.
+/// The number of a protocol over IP (tc-flower(8), `ip_proto`; IANA, Protocol Numbers): `tcp`, `udp`, `icmp`,
+/// `icmpv6` or `sctp`, or the number itself in 1 or 2 hexadecimal digits of either case, with or without `0x`
+/// before them. So `17` is 23.
 ///
 /// `None` for any other word.
 #[tactic(auto, unfolding(crate::specs::Forms::ip_protocol_of))]

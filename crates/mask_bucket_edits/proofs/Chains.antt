@@ -1,4 +1,5 @@
--- The chain in which a filter was found: it is kept, with the filter's block at its place, and what is behind is kept too.
+-- The chain in which a filter was found: it is kept, with the filter's block at its place, and what is behind
+-- is kept too.
 use Rattle.std.proofs.Common.{◌≡◌, ◌∙◌, ℕ, zero, suc, ◌+◌, ◌<◌, List, [], ◌∷◌, ◌++◌, length, map, take, drop, get_or, slice_get, Option, Some, None, refl, sym, ap, subst, arith}
 use Rattle.std.proofs.lemmas.List.{take-map}
 use Rattle.std.proofs.lemmas.Option.{slice_get_within, slice_get-get_or}

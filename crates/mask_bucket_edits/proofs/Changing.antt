@@ -1,4 +1,5 @@
--- What a bucket's chain and the masks' filters become as blocks are put in front of what is behind a filter, and the bucket's root names them.
+-- What a bucket's chain and the masks' filters become as blocks are put in front of what is behind a filter,
+-- and the bucket's root names them.
 use Rattle.std.proofs.Common.{◌≡◌, ◌≢◌, ◌∙◌, ◌⊎◌, inl, inr, ℕ, suc, ◌+◌, ◌<◌, ◌≤◌, List, [], ◌∷◌, ◌++◌, length, map, take, drop, get_or, slice_get, Option, Some, None, refl, sym, ap, subst, arith, get_or-set_same}
 use Rattle.std.specs.Borrow.{Bor}
 use Rattle.std.specs.Option.{option_map}

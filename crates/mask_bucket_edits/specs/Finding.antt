@@ -13,8 +13,10 @@ pub record HasHandle (filters : List (Option StoredFilter)) (handle b : ℕ) : T
   pub kept : slice_index_or filters b None ≡ Some filter
   pub named : filter.handle ≡ handle
 
--- the root of the bucket at a place among those of all rows names these blocks, with a filter of that handle behind so many others
-pub record IsFound (roots : ℕ → Named) (mask : StoredMask) (handle place count : ℕ) (blocks : List ℕ) : Type 0 where
+-- the root of the bucket at a place among those of all rows names these blocks, with a filter of that handle
+-- behind so many others
+pub record IsFound (roots : ℕ → Named) (mask : StoredMask) (handle place count : ℕ)
+    (blocks : List ℕ) : Type 0 where
   pub front : List StoredFilter
   pub filter : StoredFilter
   pub there : FilterAt roots mask handle (BUCKET_ROOTS + place) front filter

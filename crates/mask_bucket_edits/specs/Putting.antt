@@ -1,5 +1,6 @@
 -- Blocks that come to have filters, in front of a chain that is kept (this project's own).
-use Rattle.std.specs.Prelude.{◌≡◌, ℕ, ◌<◌, List, [], ◌∷◌, ◌++◌, map, slice_get, slice_index, Option, Some, None}
+use Rattle.std.specs.Prelude.{◌≡◌, ℕ, ◌<◌, List, [], ◌∷◌, ◌++◌, map, slice_get, slice_index, Option, Some}
+use Rattle.std.specs.Prelude.{None}
 use Rattle.std.specs.Borrow.{Bor}
 use Rattle.pin_store.specs.declared.shape.Shape.{Shape}
 use Rattle.pin_store.specs.Layout.{block_words}
@@ -24,20 +25,25 @@ AreApart xs ys = (b : ℕ) → IsAmong b xs → IsAmong b ys → ⊥
 
 -- all filters that are kept so are of that bucket of so many
 abbrev pub AreOfBucket : ℕ → ℕ → List (ℕ × Option StoredFilter) → Type 0
-AreOfBucket size bucket dated = (place age : ℕ) (filter : StoredFilter) → slice_get dated place ≡ Some (age, Some filter) → bucket_for size filter.key.words ≡ bucket
+AreOfBucket size bucket dated = (place age : ℕ) (filter : StoredFilter)
+    → slice_get dated place ≡ Some (age, Some filter) → bucket_for size filter.key.words ≡ bucket
 
 -- blocks were filled, and what is kept of them was written
 pub record AreFilled (mirror mirror2 : Mirror) (shape : Shape) (old new blocks : List ℕ) : Type 0 where
-  pub others : (other : ℕ) → (IsAmong other blocks → ⊥) → other < shape.blocks → block_words shape new other ≡ block_words shape old other
+  pub others : (other : ℕ) → (IsAmong other blocks → ⊥) → other < shape.blocks
+      → block_words shape new other ≡ block_words shape old other
   pub slots : mirror2.slots.items ≡ mirror.slots.items
   pub first : mirror2.first.items ≡ mirror.first.items
-  pub next : (c : ℕ) → (IsAmong c blocks → ⊥) → slice_index mirror2.next.items c ≡ slice_index mirror.next.items c
+  pub next : (c : ℕ) → (IsAmong c blocks → ⊥) → slice_index mirror2.next.items c
+      ≡ slice_index mirror.next.items c
   pub kept : (c : ℕ) → (IsAmong c blocks → ⊥) → kept_in mirror2 c ≡ kept_in mirror c
 
--- blocks come to have these filters with these ages, each linked to the next, in front of the chain that begins with a number; `start` is the
--- number with which the longer chain begins
-pub record ArePut (mirror mirror2 : Mirror) (shape : Shape) (old new blocks : List ℕ) (dated : List (ℕ × Option StoredFilter)) (number start : ℕ) : Type 0 where
+-- blocks come to have these filters with these ages, each linked to the next, in front of the chain that
+-- begins with a number; `start` is the number with which the longer chain begins
+pub record ArePut (mirror mirror2 : Mirror) (shape : Shape) (old new blocks : List ℕ)
+    (dated : List (ℕ × Option StoredFilter)) (number start : ℕ) : Type 0 where
   pub filled : AreFilled mirror mirror2 shape old new blocks
   pub have : map (kept_in mirror2) blocks ≡ dated
   pub chain : (size bucket : ℕ) (tail : List ℕ) → AreApart tail blocks → AreOfBucket size bucket dated
-      → HoldsChain mirror shape old size bucket number tail → HoldsChain mirror2 shape new size bucket start (blocks ++ tail)
+      → HoldsChain mirror shape old size bucket number tail
+      → HoldsChain mirror2 shape new size bucket start (blocks ++ tail)

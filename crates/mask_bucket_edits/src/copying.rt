@@ -18,7 +18,8 @@ use mask_mirror::{Mirror, kept_filter, put_in_front};
 use pin_store::{Store, Writer};
 use store_history::Law;
 
-// Puts a copy of the filter in a block, with its age, into another block, in front of the chain that begins with a number.
+// Puts a copy of the filter in a block, with its age, into another block, in front of the chain that begins
+// with a number.
 fn put_copy<L: Law>(
     mirror: &mut Mirror,
     writer: &mut Writer<L>,
@@ -32,21 +33,26 @@ fn put_copy<L: Law>(
     requires block { block < POOL_BLOCKS }
     requires from { HasFilter mirror.old.filters.items from }
     requires free { IsUnnamed (base_of (sheet_of writer.old.place)) (seen_by writer.old.place) block }
-    requires kept { IsKept mirror.old store.now.shape (sheet_of writer.old.place).cells (root_of (seen_by writer.old.place)) }
+    requires kept { IsKept mirror.old store.now.shape (sheet_of writer.old.place).cells
+        (root_of (seen_by writer.old.place)) }
     ensures store { IsSeatOf store.now writer.new.place }
     ensures seen { seen_by writer.new.place ≡ seen_by writer.old.place }
     ensures sheet { IsSameButCells (sheet_of writer.old.place) (sheet_of writer.new.place) }
-    ensures put { ArePut mirror.old mirror.new store.now.shape (sheet_of writer.old.place).cells (sheet_of writer.new.place).cells (block ∷ []) (kept_in mirror.old from ∷ []) number (block + 1) }
-    ensures lists { (slot last : ℕ) (fs : List StoredFilter) → HasFilters mirror.old slot last fs → HasFilters mirror.new slot last fs }
-    ensures kept { IsKept mirror.new store.now.shape (sheet_of writer.new.place).cells (root_of (seen_by writer.new.place)) }
+    ensures put { ArePut mirror.old mirror.new store.now.shape (sheet_of writer.old.place).cells
+        (sheet_of writer.new.place).cells (block ∷ []) (kept_in mirror.old from ∷ []) number (block + 1) }
+    ensures lists { (slot last : ℕ) (fs : List StoredFilter) → HasFilters mirror.old slot last fs
+        → HasFilters mirror.new slot last fs }
+    ensures kept { IsKept mirror.new store.now.shape (sheet_of writer.new.place).cells
+        (root_of (seen_by writer.new.place)) }
 {
     let filter = kept_filter(mirror, from);
     let age = mirror.ages[from as usize];
     put_in_front(mirror, writer, store, block, &filter, age, number);
 }
 
-/// Puts copies of the filters of some blocks, with their ages, into as many given blocks, in front of the chain that begins with a number, and
-/// answers the number with which the longer chain begins. No root is changed, so what is kept stays what the roots name.
+/// Puts copies of the filters of some blocks, with their ages, into as many given blocks, in front of the
+/// chain that begins with a number, and answers the number with which the longer chain begins. No root is
+/// changed, so what is kept stays what the roots name.
 pub fn put_copies<L: Law>(
     mirror: &mut Mirror,
     writer: &mut Writer<L>,
@@ -61,13 +67,17 @@ pub fn put_copies<L: Law>(
     requires from { (place b : ℕ) → slice_get from.now place ≡ Some b → HasFilter mirror.old.filters.items b }
     requires given { AreGiven (base_of (sheet_of writer.old.place)) (seen_by writer.old.place) given.now }
     requires apart { AreApart from.now given.now }
-    requires kept { IsKept mirror.old store.now.shape (sheet_of writer.old.place).cells (root_of (seen_by writer.old.place)) }
+    requires kept { IsKept mirror.old store.now.shape (sheet_of writer.old.place).cells
+        (root_of (seen_by writer.old.place)) }
     ensures store { IsSeatOf store.now writer.new.place }
     ensures seen { seen_by writer.new.place ≡ seen_by writer.old.place }
     ensures sheet { IsSameButCells (sheet_of writer.old.place) (sheet_of writer.new.place) }
-    ensures put { ArePut mirror.old mirror.new store.now.shape (sheet_of writer.old.place).cells (sheet_of writer.new.place).cells given.now (map (kept_in mirror.old) from.now) number result }
-    ensures lists { (slot last : ℕ) (fs : List StoredFilter) → HasFilters mirror.old slot last fs → HasFilters mirror.new slot last fs }
-    ensures kept { IsKept mirror.new store.now.shape (sheet_of writer.new.place).cells (root_of (seen_by writer.new.place)) }
+    ensures put { ArePut mirror.old mirror.new store.now.shape (sheet_of writer.old.place).cells
+        (sheet_of writer.new.place).cells given.now (map (kept_in mirror.old) from.now) number result }
+    ensures lists { (slot last : ℕ) (fs : List StoredFilter) → HasFilters mirror.old slot last fs
+        → HasFilters mirror.new slot last fs }
+    ensures kept { IsKept mirror.new store.now.shape (sheet_of writer.new.place).cells
+        (root_of (seen_by writer.new.place)) }
 {
     let mut start = number;
     let mut left = from.len();
@@ -79,8 +89,9 @@ pub fn put_copies<L: Law>(
     start
 }
 
-// Puts a filter with an age, and copies of those of some blocks in front of it, into one more given block than these, in front of the chain that
-// begins with a number, and answers the number with which the longer chain begins.
+// Puts a filter with an age, and copies of those of some blocks in front of it, into one more given block
+// than these, in front of the chain that begins with a number, and answers the number with which the longer
+// chain begins.
 fn put_changed<L: Law>(
     mirror: &mut Mirror,
     writer: &mut Writer<L>,
@@ -98,14 +109,18 @@ fn put_changed<L: Law>(
     requires storable { IsStorableFilter filter.now }
     requires given { AreGiven (base_of (sheet_of writer.old.place)) (seen_by writer.old.place) given.now }
     requires apart { AreApart from.now given.now }
-    requires kept { IsKept mirror.old store.now.shape (sheet_of writer.old.place).cells (root_of (seen_by writer.old.place)) }
+    requires kept { IsKept mirror.old store.now.shape (sheet_of writer.old.place).cells
+        (root_of (seen_by writer.old.place)) }
     ensures store { IsSeatOf store.now writer.new.place }
     ensures seen { seen_by writer.new.place ≡ seen_by writer.old.place }
     ensures sheet { IsSameButCells (sheet_of writer.old.place) (sheet_of writer.new.place) }
-    ensures put { ArePut mirror.old mirror.new store.now.shape (sheet_of writer.old.place).cells (sheet_of writer.new.place).cells given.now
+    ensures put { ArePut mirror.old mirror.new store.now.shape (sheet_of writer.old.place).cells
+        (sheet_of writer.new.place).cells given.now
         (map (kept_in mirror.old) from.now ++ (age, Some filter.now) ∷ []) number result }
-    ensures lists { (slot last : ℕ) (fs : List StoredFilter) → HasFilters mirror.old slot last fs → HasFilters mirror.new slot last fs }
-    ensures kept { IsKept mirror.new store.now.shape (sheet_of writer.new.place).cells (root_of (seen_by writer.new.place)) }
+    ensures lists { (slot last : ℕ) (fs : List StoredFilter) → HasFilters mirror.old slot last fs
+        → HasFilters mirror.new slot last fs }
+    ensures kept { IsKept mirror.new store.now.shape (sheet_of writer.new.place).cells
+        (root_of (seen_by writer.new.place)) }
 {
     let last = from.len();
     let block = given[last];
@@ -113,8 +128,9 @@ fn put_changed<L: Law>(
     put_copies(mirror, writer, store, from, &given[..last], block + 1)
 }
 
-/// Puts the one filter, if there is one, with an age, and copies of those of some blocks in front of it, into as many given blocks, in front of the
-/// chain that begins with a number, and answers the number with which the longer chain begins.
+/// Puts the one filter, if there is one, with an age, and copies of those of some blocks in front of it, into
+/// as many given blocks, in front of the chain that begins with a number, and answers the number with which
+/// the longer chain begins.
 pub fn put_edited<L: Law>(
     mirror: &mut Mirror,
     writer: &mut Writer<L>,
@@ -132,14 +148,18 @@ pub fn put_edited<L: Law>(
     requires storable { (filter : StoredFilter) → IsAmong filter (listed with) → IsStorableFilter filter }
     requires given { AreGiven (base_of (sheet_of writer.old.place)) (seen_by writer.old.place) given.now }
     requires apart { AreApart from.now given.now }
-    requires kept { IsKept mirror.old store.now.shape (sheet_of writer.old.place).cells (root_of (seen_by writer.old.place)) }
+    requires kept { IsKept mirror.old store.now.shape (sheet_of writer.old.place).cells
+        (root_of (seen_by writer.old.place)) }
     ensures store { IsSeatOf store.now writer.new.place }
     ensures seen { seen_by writer.new.place ≡ seen_by writer.old.place }
     ensures sheet { IsSameButCells (sheet_of writer.old.place) (sheet_of writer.new.place) }
-    ensures put { ArePut mirror.old mirror.new store.now.shape (sheet_of writer.old.place).cells (sheet_of writer.new.place).cells given.now
+    ensures put { ArePut mirror.old mirror.new store.now.shape (sheet_of writer.old.place).cells
+        (sheet_of writer.new.place).cells given.now
         (map (kept_in mirror.old) from.now ++ aged age (listed with.entry)) number result }
-    ensures lists { (slot last : ℕ) (fs : List StoredFilter) → HasFilters mirror.old slot last fs → HasFilters mirror.new slot last fs }
-    ensures kept { IsKept mirror.new store.now.shape (sheet_of writer.new.place).cells (root_of (seen_by writer.new.place)) }
+    ensures lists { (slot last : ℕ) (fs : List StoredFilter) → HasFilters mirror.old slot last fs
+        → HasFilters mirror.new slot last fs }
+    ensures kept { IsKept mirror.new store.now.shape (sheet_of writer.new.place).cells
+        (root_of (seen_by writer.new.place)) }
 {
     match with {
         None => put_copies(mirror, writer, store, from, given, number),

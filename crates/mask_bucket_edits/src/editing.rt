@@ -24,11 +24,13 @@ use pin_store::{Store, Writer};
 use store_history::{EditName, Law};
 use tc_base::{Numbers, Point};
 
-/// Takes the filter with a handle out of the mask at a slot: fills the given blocks with the later filters of its bucket, which stand in
-/// front of it, and makes the one commit that names these in front of what was behind it. The commit carries the edit that `E`
-/// names, under its number. The blocks of the old chain up to the filter's own are left in a room.
+/// Takes the filter with a handle out of the mask at a slot: fills the given blocks with the later filters of
+/// its bucket, which stand in front of it, and makes the one commit that names these in front of what was
+/// behind it. The commit carries the edit that `E` names, under its number. The blocks of the old chain up to
+/// the filter's own are left in a room.
 ///
-/// The mask has such a filter, and as many blocks are given as its bucket has later ones. The law must hold of all commits with this one.
+/// The mask has such a filter, and as many blocks are given as its bucket has later ones. The law must hold
+/// of all commits with this one.
 pub fn take_out<L: Law, E: EditName<L::Entry>>(
     room: &mut NumberRoom,
     left: &mut NumberRoom,
@@ -44,29 +46,45 @@ pub fn take_out<L: Law, E: EditName<L::Entry>>(
     requires shape { HasPoolAndRoots store.now.shape.words store.now.shape.blocks store.now.shape.roots }
     requires slot { slot < MASK_SLOTS }
     requires there { (kept : KeptMask) × (root : ℕ) × (front : List StoredFilter) × (filter : StoredFilter)
-        × Stands mirror.old slot kept × FilterAt (root_of (seen_by writer.old.place)) kept.mask handle root front filter }
-    requires many { (kept : KeptMask) (root : ℕ) (front : List StoredFilter) (filter : StoredFilter) → Stands mirror.old slot kept
-        → FilterAt (root_of (seen_by writer.old.place)) kept.mask handle root front filter → length given.now ≡ length front }
-    requires given { AreGiven (base_of (sheet_of writer.old.place)) (seen_by writer.old.place) given.now }
-    requires kept { IsKept mirror.old store.now.shape (sheet_of writer.old.place).cells (root_of (seen_by writer.old.place)) }
-    requires lawful { (kept : KeptMask) (root : ℕ) (front : List StoredFilter) (filter : StoredFilter) → Stands mirror.old slot kept
+        × Stands mirror.old slot kept
+        × FilterAt (root_of (seen_by writer.old.place)) kept.mask handle root front filter }
+    requires many { (kept : KeptMask) (root : ℕ) (front : List StoredFilter) (filter : StoredFilter)
+        → Stands mirror.old slot kept
         → FilterAt (root_of (seen_by writer.old.place)) kept.mask handle root front filter
-        → L.keeps (seen_by writer.old.place ++ remove_at (seen_by writer.old.place) root given.now front edit E.edit ∷ []) (base_of (sheet_of writer.old.place)) }
+        → length given.now ≡ length front }
+    requires given { AreGiven (base_of (sheet_of writer.old.place)) (seen_by writer.old.place) given.now }
+    requires kept { IsKept mirror.old store.now.shape (sheet_of writer.old.place).cells
+        (root_of (seen_by writer.old.place)) }
+    requires lawful { (kept : KeptMask) (root : ℕ) (front : List StoredFilter) (filter : StoredFilter)
+        → Stands mirror.old slot kept
+        → FilterAt (root_of (seen_by writer.old.place)) kept.mask handle root front filter
+        → L.keeps (seen_by writer.old.place
+        ++ remove_at (seen_by writer.old.place) root given.now front edit E.edit ∷ [])
+        (base_of (sheet_of writer.old.place)) }
     ensures store { IsSeatOf store.now writer.new.place }
-    ensures done { (kept : KeptMask) → Stands mirror.old slot kept → (root : ℕ) × (front : List StoredFilter) × (filter : StoredFilter)
+    ensures done { (kept : KeptMask) → Stands mirror.old slot kept → (root : ℕ) × (front : List StoredFilter)
+        × (filter : StoredFilter)
         × FilterAt (root_of (seen_by writer.old.place)) kept.mask handle root front filter
-        × (seen_by writer.new.place ≡ seen_by writer.old.place ++ remove_at (seen_by writer.old.place) root given.now front edit E.edit ∷ [])
-        × (left.new ≡ map (λ (l : Link). l.block) (take (length front + 1) (root_of (seen_by writer.old.place) root).chain)) }
+        × (seen_by writer.new.place ≡ seen_by writer.old.place
+        ++ remove_at (seen_by writer.old.place) root given.now front edit E.edit ∷ [])
+        × (left.new
+        ≡ map (λ (l : Link). l.block)
+        (take (length front + 1) (root_of (seen_by writer.old.place) root).chain)) }
     ensures sheet { IsSameButCells (sheet_of writer.old.place) (sheet_of writer.new.place) }
     ensures others { (other : ℕ) → (IsAmong other given.now → ⊥) → other < store.now.shape.blocks
-        → block_words store.now.shape (sheet_of writer.new.place).cells other ≡ block_words store.now.shape (sheet_of writer.old.place).cells other }
-    ensures kept { IsKept mirror.new store.now.shape (sheet_of writer.new.place).cells (root_of (seen_by writer.new.place)) }
+        → block_words store.now.shape (sheet_of writer.new.place).cells other
+        ≡ block_words store.now.shape (sheet_of writer.old.place).cells other }
+    ensures kept { IsKept mirror.new store.now.shape (sheet_of writer.new.place).cells
+        (root_of (seen_by writer.new.place)) }
     ensures masks { mirror.new.slots.items ≡ mirror.old.slots.items }
     // the mask goes on without the filter, where no other has its handle
-    ensures list { (last : ℕ) (earlier : List StoredFilter) (filter : StoredFilter) (later : List StoredFilter)
-        → HasFilters mirror.old slot last (earlier ++ filter ∷ later) → filter.handle ≡ handle → HasNone handle (earlier ++ later)
+    ensures list { (last : ℕ) (earlier : List StoredFilter) (filter : StoredFilter)
+        (later : List StoredFilter)
+        → HasFilters mirror.old slot last (earlier ++ filter ∷ later) → filter.handle ≡ handle
+        → HasNone handle (earlier ++ later)
         → HasFilters mirror.new slot last (earlier ++ later) }
-    ensures lists { (other last : ℕ) (fs : List StoredFilter) → other ≢ slot → HasFilters mirror.old other last fs → HasFilters mirror.new other last fs }
+    ensures lists { (other last : ℕ) (fs : List StoredFilter) → other ≢ slot
+        → HasFilters mirror.old other last fs → HasFilters mirror.new other last fs }
 {
     let found = find(left, mirror, slot, handle);
     rewrite::<L, E>(
@@ -83,11 +101,13 @@ pub fn take_out<L: Law, E: EditName<L::Entry>>(
     left.truncate(found.front + 1);
 }
 
-/// Puts a filter in the place of the one with its handle and key in the mask at a slot: fills the given blocks with the later filters of
-/// its bucket and with the new one, and makes the one commit that names these in front of what was behind the old one. The
-/// commit carries the edit that `E` names, under its number. The blocks of the old chain up to the old filter's are left in a room.
+/// Puts a filter in the place of the one with its handle and key in the mask at a slot: fills the given
+/// blocks with the later filters of its bucket and with the new one, and makes the one commit that names
+/// these in front of what was behind the old one. The commit carries the edit that `E` names, under its
+/// number. The blocks of the old chain up to the old filter's are left in a room.
 ///
-/// The mask has such a filter, and one more block is given than its bucket has later ones. The law must hold of all commits with this one.
+/// The mask has such a filter, and one more block is given than its bucket has later ones. The law must hold
+/// of all commits with this one.
 pub fn exchange<L: Law, E: EditName<L::Entry>>(
     room: &mut NumberRoom,
     left: &mut NumberRoom,
@@ -104,29 +124,50 @@ pub fn exchange<L: Law, E: EditName<L::Entry>>(
     requires slot { slot < MASK_SLOTS }
     requires storable { IsStorableFilter filter.now }
     requires there { (kept : KeptMask) × (front : List StoredFilter) × (old : StoredFilter)
-        × Stands mirror.old slot kept × FilterAt (root_of (seen_by writer.old.place)) kept.mask filter.now.handle (root_for kept.mask filter.now) front old }
-    requires many { (kept : KeptMask) (front : List StoredFilter) (old : StoredFilter) → Stands mirror.old slot kept
-        → FilterAt (root_of (seen_by writer.old.place)) kept.mask filter.now.handle (root_for kept.mask filter.now) front old → length given.now ≡ length front + 1 }
+        × Stands mirror.old slot kept
+        × FilterAt (root_of (seen_by writer.old.place)) kept.mask filter.now.handle
+        (root_for kept.mask filter.now) front old }
+    requires many { (kept : KeptMask) (front : List StoredFilter) (old : StoredFilter)
+        → Stands mirror.old slot kept
+        → FilterAt (root_of (seen_by writer.old.place)) kept.mask filter.now.handle
+        (root_for kept.mask filter.now) front old → length given.now ≡ length front + 1 }
     requires given { AreGiven (base_of (sheet_of writer.old.place)) (seen_by writer.old.place) given.now }
-    requires kept { IsKept mirror.old store.now.shape (sheet_of writer.old.place).cells (root_of (seen_by writer.old.place)) }
-    requires lawful { (kept : KeptMask) (front : List StoredFilter) (old : StoredFilter) → Stands mirror.old slot kept
-        → FilterAt (root_of (seen_by writer.old.place)) kept.mask filter.now.handle (root_for kept.mask filter.now) front old
-        → L.keeps (seen_by writer.old.place ++ replace_at (seen_by writer.old.place) (root_for kept.mask filter.now) given.now front filter.now edit E.edit ∷ []) (base_of (sheet_of writer.old.place)) }
+    requires kept { IsKept mirror.old store.now.shape (sheet_of writer.old.place).cells
+        (root_of (seen_by writer.old.place)) }
+    requires lawful { (kept : KeptMask) (front : List StoredFilter) (old : StoredFilter)
+        → Stands mirror.old slot kept
+        → FilterAt (root_of (seen_by writer.old.place)) kept.mask filter.now.handle
+        (root_for kept.mask filter.now) front old
+        → L.keeps (seen_by writer.old.place
+        ++ replace_at (seen_by writer.old.place) (root_for kept.mask filter.now) given.now front filter.now
+        edit E.edit ∷ []) (base_of (sheet_of writer.old.place)) }
     ensures store { IsSeatOf store.now writer.new.place }
-    ensures done { (kept : KeptMask) → Stands mirror.old slot kept → (front : List StoredFilter) × (old : StoredFilter)
-        × FilterAt (root_of (seen_by writer.old.place)) kept.mask filter.now.handle (root_for kept.mask filter.now) front old
-        × (seen_by writer.new.place ≡ seen_by writer.old.place ++ replace_at (seen_by writer.old.place) (root_for kept.mask filter.now) given.now front filter.now edit E.edit ∷ [])
-        × (left.new ≡ map (λ (l : Link). l.block) (take (length front + 1) (root_of (seen_by writer.old.place) (root_for kept.mask filter.now)).chain)) }
+    ensures done { (kept : KeptMask) → Stands mirror.old slot kept → (front : List StoredFilter)
+        × (old : StoredFilter)
+        × FilterAt (root_of (seen_by writer.old.place)) kept.mask filter.now.handle
+        (root_for kept.mask filter.now) front old
+        × (seen_by writer.new.place ≡ seen_by writer.old.place
+        ++ replace_at (seen_by writer.old.place) (root_for kept.mask filter.now) given.now front filter.now
+        edit E.edit ∷ [])
+        × (left.new
+        ≡ map (λ (l : Link). l.block)
+        (take (length front + 1)
+        (root_of (seen_by writer.old.place) (root_for kept.mask filter.now)).chain)) }
     ensures sheet { IsSameButCells (sheet_of writer.old.place) (sheet_of writer.new.place) }
     ensures others { (other : ℕ) → (IsAmong other given.now → ⊥) → other < store.now.shape.blocks
-        → block_words store.now.shape (sheet_of writer.new.place).cells other ≡ block_words store.now.shape (sheet_of writer.old.place).cells other }
-    ensures kept { IsKept mirror.new store.now.shape (sheet_of writer.new.place).cells (root_of (seen_by writer.new.place)) }
+        → block_words store.now.shape (sheet_of writer.new.place).cells other
+        ≡ block_words store.now.shape (sheet_of writer.old.place).cells other }
+    ensures kept { IsKept mirror.new store.now.shape (sheet_of writer.new.place).cells
+        (root_of (seen_by writer.new.place)) }
     ensures masks { mirror.new.slots.items ≡ mirror.old.slots.items }
     // the filter stands where the old one stood, where no other has its handle
     ensures list { (last : ℕ) (earlier : List StoredFilter) (old : StoredFilter) (later : List StoredFilter)
-        → HasFilters mirror.old slot last (earlier ++ old ∷ later) → old.handle ≡ filter.now.handle → old.key.words ≡ filter.now.key.words
-        → HasNone filter.now.handle (earlier ++ later) → HasFilters mirror.new slot last (earlier ++ filter.now ∷ later) }
-    ensures lists { (other last : ℕ) (fs : List StoredFilter) → other ≢ slot → HasFilters mirror.old other last fs → HasFilters mirror.new other last fs }
+        → HasFilters mirror.old slot last (earlier ++ old ∷ later) → old.handle ≡ filter.now.handle
+        → old.key.words ≡ filter.now.key.words
+        → HasNone filter.now.handle (earlier ++ later)
+        → HasFilters mirror.new slot last (earlier ++ filter.now ∷ later) }
+    ensures lists { (other last : ℕ) (fs : List StoredFilter) → other ≢ slot
+        → HasFilters mirror.old other last fs → HasFilters mirror.new other last fs }
 {
     let place = place_in(mirror, slot, &filter.key);
     let front = find_in(left, mirror, place, filter.handle);

@@ -15,8 +15,8 @@ use pin_store::{Store, Writer};
 use store_history::{EditName, Law};
 use tc_base::Point;
 
-/// Makes the one commit by which the root of the bucket at a place names the chain that begins with a number, and keeps that. The commit carries
-/// the edit that `E` names, under its number.
+/// Makes the one commit by which the root of the bucket at a place names the chain that begins with a number,
+/// and keeps that. The commit carries the edit that `E` names, under its number.
 pub fn rename<L: Law, E: EditName<L::Entry>>(
     room: &mut NumberRoom,
     mirror: &mut Mirror,
@@ -29,19 +29,26 @@ pub fn rename<L: Law, E: EditName<L::Entry>>(
     requires store { IsSeatOf store.now writer.old.place }
     requires shape { HasPoolAndRoots store.now.shape.words store.now.shape.blocks store.now.shape.roots }
     requires place { place < BUCKETS }
-    requires kept { IsKept mirror.old store.now.shape (sheet_of writer.old.place).cells (root_of (seen_by writer.old.place)) }
+    requires kept { IsKept mirror.old store.now.shape (sheet_of writer.old.place).cells
+        (root_of (seen_by writer.old.place)) }
     requires chain { (own : BucketAt mirror.old (BUCKET_ROOTS + place)) × (blocks : List ℕ)
-        × HoldsChain mirror.old store.now.shape (sheet_of writer.old.place).cells own.kept.mask.size own.bucket number blocks
+        × HoldsChain mirror.old store.now.shape (sheet_of writer.old.place).cells own.kept.mask.size
+        own.bucket number blocks
         × AreOwn mirror.old (root_of (seen_by writer.old.place)) (BUCKET_ROOTS + place) blocks }
     requires lawful { (blocks : List ℕ) → Spells mirror.old.next.items number blocks → L.keeps
-        (seen_by writer.old.place ++ commit_of store.now.shape (sheet_of writer.old.place).cells (BUCKET_ROOTS + place) blocks edit (Some edit) E.edit ∷ [])
+        (seen_by writer.old.place
+        ++ commit_of store.now.shape (sheet_of writer.old.place).cells (BUCKET_ROOTS + place) blocks edit
+        (Some edit) E.edit ∷ [])
         (base_of (sheet_of writer.old.place)) }
     ensures store { IsSeatOf store.now writer.new.place }
     ensures seen { (blocks : List ℕ) → Spells mirror.old.next.items number blocks → seen_by writer.new.place
-        ≡ seen_by writer.old.place ++ commit_of store.now.shape (sheet_of writer.old.place).cells (BUCKET_ROOTS + place) blocks edit (Some edit) E.edit ∷ [] }
+        ≡ seen_by writer.old.place
+        ++ commit_of store.now.shape (sheet_of writer.old.place).cells (BUCKET_ROOTS + place) blocks edit
+        (Some edit) E.edit ∷ [] }
     ensures sheet { sheet_of writer.new.place ≡ sheet_of writer.old.place }
     ensures renamed { IsRenamed mirror.old mirror.new place number }
-    ensures kept { IsKept mirror.new store.now.shape (sheet_of writer.new.place).cells (root_of (seen_by writer.new.place)) }
+    ensures kept { IsKept mirror.new store.now.shape (sheet_of writer.new.place).cells
+        (root_of (seen_by writer.new.place)) }
 {
     name_chain::<L, E>(
         room,

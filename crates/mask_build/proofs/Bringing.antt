@@ -1,4 +1,5 @@
--- Filters laid into given blocks, one more at a time: their blocks are different ones. The ages of those that an edit brings rise.
+-- Filters laid into given blocks, one more at a time: their blocks are different ones. The ages of those that
+-- an edit brings rise.
 use Rattle.std.proofs.Common.{◌≡◌, ◌∙◌, ℕ, zero, suc, ◌+◌, ◌<◌, ◌≤◌, ◌||◌, Bool, true, false, eqb, List, [], ◌∷◌, ◌++◌, length, map, take, get_or, slice_get, Option, Some, refl, sym, ap, subst, arith, eqb-true}
 use Rattle.std.specs.List.{list_any, IsDistinct}
 use Rattle.std.proofs.lemmas.Bool.Decides.{Decides-eqb}

@@ -1,4 +1,5 @@
--- The commits that name a whole mask: each is the one that its chain makes, and what the roots name after all of them.
+-- The commits that name a whole mask: each is the one that its chain makes, and what the roots name after all
+-- of them.
 use Rattle.std.proofs.Common.{◌≡◌, ◌≢◌, ◌∙◌, ◌⊎◌, inl, inr, ℕ, zero, suc, ◌+◌, ◌<◌, ◌≤◌, true, false, eqb, List, [], ◌∷◌, ◌++◌, length, map, get_or, take, None, refl, sym, ap, subst, arith, append_assoc, length-append}
 use mathlib.Core.List.{append-nil}
 use Rattle.std.specs.List.{range_with_len}

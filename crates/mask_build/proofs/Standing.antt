@@ -1,4 +1,5 @@
--- As the roots of a whole mask come to name what was laid for it, the mask stands at its slot, and what is kept of all others stays.
+-- As the roots of a whole mask come to name what was laid for it, the mask stands at its slot, and what is
+-- kept of all others stays.
 use Rattle.std.proofs.Common.{◌≡◌, ◌≢◌, ◌∙◌, ◌⊎◌, inl, inr, ℕ, zero, suc, ◌+◌, ◌<◌, ◌≤◌, true, false, eqb, List, [], ◌∷◌, ◌++◌, length, map, set, get_or, slice_get, Option, Some, None, refl, sym, ap, subst, arith, get_or-set_other, get_or-set_same}
 use Rattle.std.proofs.lemmas.Bool.Decides.{eqb_tells}
 use Rattle.store_history.specs.declared.history.Link.{Link}

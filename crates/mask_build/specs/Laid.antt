@@ -34,15 +34,20 @@ laid_blocks xs = map (λ x. x.block) xs
 abbrev pub blocks_in : ℕ → ℕ → List Laid → List ℕ
 blocks_in size bucket xs = map (λ p. p.block) (placed_in size bucket (places xs))
 
--- THESE WERE LAID FOR THE MASK, in this order, and no others: the chain that is kept for each bucket has those of the bucket, the latest
--- first, with their ages
-pub record IsLaid (mirror : Mirror) (shape : Shape) (cells : List ℕ) (mask : StoredMask) (xs : List Laid) : Type 0 where
+-- THESE WERE LAID FOR THE MASK, in this order, and no others: the chain that is kept for each bucket has
+-- those of the bucket, the latest first, with their ages
+pub record IsLaid (mirror : Mirror) (shape : Shape) (cells : List ℕ) (mask : StoredMask)
+    (xs : List Laid) : Type 0 where
   pub chain : (bucket : ℕ) → bucket < mask.size
-      → HoldsChain mirror shape cells mask.size bucket (slice_index mirror.first.items (bucket_at mask bucket)) (blocks_in mask.size bucket xs)
-  pub kept : (bucket : ℕ) → bucket < mask.size → map (kept_in mirror) (blocks_in mask.size bucket xs) ≡ dated_in mask.size bucket (dates xs)
+      → HoldsChain mirror shape cells mask.size bucket
+      (slice_index mirror.first.items (bucket_at mask bucket)) (blocks_in mask.size bucket xs)
+  pub kept : (bucket : ℕ) → bucket < mask.size → map (kept_in mirror) (blocks_in mask.size bucket xs)
+      ≡ dated_in mask.size bucket (dates xs)
 
--- they were laid into blocks that no chain has had since the base, and so is a block for the mask's record, which is another one
-pub record IsReady {E : Type 0} (mirror : Mirror) (shape : Shape) (cells : List ℕ) (mask : StoredMask) (base : ℕ) (h : List (Commit E)) (block : ℕ) (xs : List Laid) : Type 0 where
+-- they were laid into blocks that no chain has had since the base, and so is a block for the mask's record,
+-- which is another one
+pub record IsReady {E : Type 0} (mirror : Mirror) (shape : Shape) (cells : List ℕ) (mask : StoredMask)
+    (base : ℕ) (h : List (Commit E)) (block : ℕ) (xs : List Laid) : Type 0 where
   pub laid : IsLaid mirror shape cells mask xs
   pub free : (b : ℕ) → IsAmong b (laid_blocks xs) → IsUnnamed base h b
   pub low : block < POOL_BLOCKS

@@ -12,16 +12,21 @@ ghost use Rattle.mask_build.specs.Laid.{IsLaid};
 use block_codec::StoredMask;
 use mask_mirror::{Mirror, place_of};
 
-/// Keeps that no bucket of a mask has a filter. No mask that stands has one of its rows, so nothing changes for those.
+/// Keeps that no bucket of a mask has a filter. No mask that stands has one of its rows, so nothing changes
+/// for those.
 pub fn clear_buckets(mirror: &mut Mirror, mask: &StoredMask)
     requires mask { IsStorableMask mask.now }
     requires rows { AreFreeRows mirror.old mask.now.rows }
-    requires kept { (shape : Shape) × (cells : List ℕ) × (roots : ℕ → Named) × IsKept mirror.old shape cells roots }
+    requires kept { (shape : Shape) × (cells : List ℕ) × (roots : ℕ → Named)
+        × IsKept mirror.old shape cells roots }
     ensures masks { mirror.new.slots.items ≡ mirror.old.slots.items }
-    ensures dates { (mirror.new.filters.items ≡ mirror.old.filters.items) × (mirror.new.ages.items ≡ mirror.old.ages.items) }
+    ensures dates { (mirror.new.filters.items ≡ mirror.old.filters.items)
+        × (mirror.new.ages.items ≡ mirror.old.ages.items) }
     ensures laid { (shape : Shape) (cells : List ℕ) → IsLaid mirror.new shape cells mask.now [] }
-    ensures kept { (shape : Shape) (cells : List ℕ) (roots : ℕ → Named) → IsKept mirror.old shape cells roots → IsKept mirror.new shape cells roots }
-    ensures lists { (slot last : ℕ) (fs : List StoredFilter) → HasFilters mirror.old slot last fs → HasFilters mirror.new slot last fs }
+    ensures kept { (shape : Shape) (cells : List ℕ) (roots : ℕ → Named) → IsKept mirror.old shape cells roots
+        → IsKept mirror.new shape cells roots }
+    ensures lists { (slot last : ℕ) (fs : List StoredFilter) → HasFilters mirror.old slot last fs
+        → HasFilters mirror.new slot last fs }
 {
     for bucket in 0..mask.size {
         mirror.begin(place_of(mask, bucket), 0);

@@ -21,8 +21,8 @@ use pin_store::{Store, Writer};
 use store_history::Law;
 use tc_base::Point;
 
-/// Lays one more filter for a mask that no root names yet: fills a block, which no root names, and keeps it in front of the chain of the
-/// filter's bucket. No commit is made, and nothing changes for masks that stand.
+/// Lays one more filter for a mask that no root names yet: fills a block, which no root names, and keeps it
+/// in front of the chain of the filter's bucket. No commit is made, and nothing changes for masks that stand.
 pub fn lay<L: Law>(
     mirror: &mut Mirror,
     writer: &mut Writer<L>,
@@ -39,18 +39,24 @@ pub fn lay<L: Law>(
     requires block { block < POOL_BLOCKS }
     requires storable { IsStorableFilter filter.now }
     requires free { IsUnnamed (base_of (sheet_of writer.old.place)) (seen_by writer.old.place) block }
-    requires kept { IsKept mirror.old store.now.shape (sheet_of writer.old.place).cells (root_of (seen_by writer.old.place)) }
+    requires kept { IsKept mirror.old store.now.shape (sheet_of writer.old.place).cells
+        (root_of (seen_by writer.old.place)) }
     ensures store { IsSeatOf store.now writer.new.place }
     ensures seen { seen_by writer.new.place ≡ seen_by writer.old.place }
     ensures sheet { IsSameButCells (sheet_of writer.old.place) (sheet_of writer.new.place) }
     ensures others { (other : ℕ) → other ≢ block → other < store.now.shape.blocks
-        → block_words store.now.shape (sheet_of writer.new.place).cells other ≡ block_words store.now.shape (sheet_of writer.old.place).cells other }
+        → block_words store.now.shape (sheet_of writer.new.place).cells other
+        ≡ block_words store.now.shape (sheet_of writer.old.place).cells other }
     ensures masks { mirror.new.slots.items ≡ mirror.old.slots.items }
     ensures dated { (c : ℕ) → c ≢ block → kept_in mirror.new c ≡ kept_in mirror.old c }
-    ensures laid { (xs : List Laid) → (IsAmong block (laid_blocks xs) → ⊥) → IsLaid mirror.old store.now.shape (sheet_of writer.old.place).cells mask.now xs
-        → IsLaid mirror.new store.now.shape (sheet_of writer.new.place).cells mask.now (xs ++ record { block = block; filter = filter.now; age = age } ∷ []) }
-    ensures kept { IsKept mirror.new store.now.shape (sheet_of writer.new.place).cells (root_of (seen_by writer.new.place)) }
-    ensures lists { (slot last : ℕ) (fs : List StoredFilter) → HasFilters mirror.old slot last fs → HasFilters mirror.new slot last fs }
+    ensures laid { (xs : List Laid) → (IsAmong block (laid_blocks xs) → ⊥)
+        → IsLaid mirror.old store.now.shape (sheet_of writer.old.place).cells mask.now xs
+        → IsLaid mirror.new store.now.shape (sheet_of writer.new.place).cells mask.now
+        (xs ++ record { block = block; filter = filter.now; age = age } ∷ []) }
+    ensures kept { IsKept mirror.new store.now.shape (sheet_of writer.new.place).cells
+        (root_of (seen_by writer.new.place)) }
+    ensures lists { (slot last : ℕ) (fs : List StoredFilter) → HasFilters mirror.old slot last fs
+        → HasFilters mirror.new slot last fs }
 {
     let place = place_for(mask, &filter.key);
     let number = mirror.first[place as usize];
@@ -66,7 +72,8 @@ fn age_at(edit: Point, place: usize) -> u64
     u64::from(edit) * (1 << 32) + place as u64
 }
 
-/// Lays the filters that an edit brings, in order, into given blocks, for a mask whose buckets have no filter yet.
+/// Lays the filters that an edit brings, in order, into given blocks, for a mask whose buckets have no filter
+/// yet.
 pub fn lay_all<L: Law>(
     mirror: &mut Mirror,
     writer: &mut Writer<L>,
@@ -83,17 +90,22 @@ pub fn lay_all<L: Law>(
     requires storable { All IsStorableFilter filters.now }
     requires many { length filters.now ≤ length blocks.now }
     requires given { AreGiven (base_of (sheet_of writer.old.place)) (seen_by writer.old.place) blocks.now }
-    requires kept { IsKept mirror.old store.now.shape (sheet_of writer.old.place).cells (root_of (seen_by writer.old.place)) }
+    requires kept { IsKept mirror.old store.now.shape (sheet_of writer.old.place).cells
+        (root_of (seen_by writer.old.place)) }
     requires empty { IsLaid mirror.old store.now.shape (sheet_of writer.old.place).cells mask.now [] }
     ensures store { IsSeatOf store.now writer.new.place }
     ensures seen { seen_by writer.new.place ≡ seen_by writer.old.place }
     ensures sheet { IsSameButCells (sheet_of writer.old.place) (sheet_of writer.new.place) }
     ensures others { (other : ℕ) → (IsAmong other blocks.now → ⊥) → other < store.now.shape.blocks
-        → block_words store.now.shape (sheet_of writer.new.place).cells other ≡ block_words store.now.shape (sheet_of writer.old.place).cells other }
+        → block_words store.now.shape (sheet_of writer.new.place).cells other
+        ≡ block_words store.now.shape (sheet_of writer.old.place).cells other }
     ensures masks { mirror.new.slots.items ≡ mirror.old.slots.items }
-    ensures laid { IsLaid mirror.new store.now.shape (sheet_of writer.new.place).cells mask.now (laid_in blocks.now (dated_by edit 0 filters.now)) }
-    ensures kept { IsKept mirror.new store.now.shape (sheet_of writer.new.place).cells (root_of (seen_by writer.new.place)) }
-    ensures lists { (slot last : ℕ) (fs : List StoredFilter) → HasFilters mirror.old slot last fs → HasFilters mirror.new slot last fs }
+    ensures laid { IsLaid mirror.new store.now.shape (sheet_of writer.new.place).cells mask.now
+        (laid_in blocks.now (dated_by edit 0 filters.now)) }
+    ensures kept { IsKept mirror.new store.now.shape (sheet_of writer.new.place).cells
+        (root_of (seen_by writer.new.place)) }
+    ensures lists { (slot last : ℕ) (fs : List StoredFilter) → HasFilters mirror.old slot last fs
+        → HasFilters mirror.new slot last fs }
 {
     for place in 0..filters.len() {
         let age = age_at(edit, place);

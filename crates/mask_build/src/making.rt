@@ -1,6 +1,7 @@
 //! A mask made from nothing.
 ghost use Rattle.block_codec.specs.declared.places.TheConstants.{MASK_SLOTS};
-ghost use Rattle.std.specs.Prelude.{◌≡◌, ◌≢◌, ℕ, ◌+◌, ◌<◌, ◌≤◌, ◌++◌, List, length, take, slice_index, slice_set, Some, All};
+ghost use Rattle.std.specs.Prelude.{◌≡◌, ◌≢◌, ℕ, ◌+◌, ◌<◌, ◌≤◌, ◌++◌, List, length, take, slice_index};
+ghost use Rattle.std.specs.Prelude.{slice_set, Some, All};
 ghost use Rattle.store_history.specs.History.{root_of};
 ghost use Rattle.pin_store.specs.Layout.{block_words};
 ghost use Rattle.pin_store.specs.Sheets.{base_of, IsSameButCells};
@@ -25,11 +26,11 @@ use pin_store::{Store, Writer};
 use store_history::{EditName, Law};
 use tc_base::Point;
 
-/// Makes a mask with some filters at a slot: fills the first given blocks with the filters, in order, and the one behind them with the mask's
-/// record, and makes the commits that name them, as `raise` does.
+/// Makes a mask with some filters at a slot: fills the first given blocks with the filters, in order, and the
+/// one behind them with the mask's record, and makes the commits that name them, as `raise` does.
 ///
-/// A mask that stood at the slot before stands no longer. No mask that stands has one of the new one's rows. The law must hold of all commits
-/// with each first part of these.
+/// A mask that stood at the slot before stands no longer. No mask that stands has one of the new one's rows.
+/// The law must hold of all commits with each first part of these.
 pub fn make_mask<L: Law, E: EditName<L::Entry>>(
     room: &mut NumberRoom,
     mirror: &mut Mirror,
@@ -49,21 +50,31 @@ pub fn make_mask<L: Law, E: EditName<L::Entry>>(
     requires storable { All IsStorableFilter filters.now }
     requires many { length blocks.now ≡ length filters.now + 1 }
     requires given { AreGiven (base_of (sheet_of writer.old.place)) (seen_by writer.old.place) blocks.now }
-    requires kept { IsKept mirror.old store.now.shape (sheet_of writer.old.place).cells (root_of (seen_by writer.old.place)) }
+    requires kept { IsKept mirror.old store.now.shape (sheet_of writer.old.place).cells
+        (root_of (seen_by writer.old.place)) }
     requires lawful { (n : ℕ) → L.keeps
-        (seen_by writer.old.place ++ take n (raise_commits slot mask.now (slice_index blocks.now (length filters.now)) (placed blocks.now filters.now) edit))
+        (seen_by writer.old.place
+        ++ take n
+        (raise_commits slot mask.now (slice_index blocks.now (length filters.now))
+        (placed blocks.now filters.now) edit))
         (base_of (sheet_of writer.old.place)) }
     ensures store { IsSeatOf store.now writer.new.place }
     ensures seen { seen_by writer.new.place
-        ≡ seen_by writer.old.place ++ raise_commits slot mask.now (slice_index blocks.now (length filters.now)) (placed blocks.now filters.now) edit }
+        ≡ seen_by writer.old.place
+        ++ raise_commits slot mask.now (slice_index blocks.now (length filters.now))
+        (placed blocks.now filters.now) edit }
     ensures sheet { IsSameButCells (sheet_of writer.old.place) (sheet_of writer.new.place) }
     ensures others { (other : ℕ) → (IsAmong other blocks.now → ⊥) → other < store.now.shape.blocks
-        → block_words store.now.shape (sheet_of writer.new.place).cells other ≡ block_words store.now.shape (sheet_of writer.old.place).cells other }
-    ensures kept { IsKept mirror.new store.now.shape (sheet_of writer.new.place).cells (root_of (seen_by writer.new.place)) }
+        → block_words store.now.shape (sheet_of writer.new.place).cells other
+        ≡ block_words store.now.shape (sheet_of writer.old.place).cells other }
+    ensures kept { IsKept mirror.new store.now.shape (sheet_of writer.new.place).cells
+        (root_of (seen_by writer.new.place)) }
     ensures masks { mirror.new.slots.items
-        ≡ slice_set mirror.old.slots.items slot (Some (record { block = slice_index blocks.now (length filters.now); mask = mask.now })) }
+        ≡ slice_set mirror.old.slots.items slot
+        (Some (record { block = slice_index blocks.now (length filters.now); mask = mask.now })) }
     ensures list { HasFilters mirror.new slot edit filters.now }
-    ensures lists { (other last : ℕ) (fs : List StoredFilter) → other ≢ slot → HasFilters mirror.old other last fs → HasFilters mirror.new other last fs }
+    ensures lists { (other last : ℕ) (fs : List StoredFilter) → other ≢ slot
+        → HasFilters mirror.old other last fs → HasFilters mirror.new other last fs }
 {
     clear_buckets(mirror, mask);
     lay_all(mirror, writer, store, mask, blocks, filters, edit);

@@ -17,7 +17,8 @@ use pin_store::{Store, Writer};
 use store_history::{EditName, Law};
 use tc_base::Point;
 
-// Makes the commits by which the roots of a mask's buckets name the chains that are kept for them, one after the other.
+// Makes the commits by which the roots of a mask's buckets name the chains that are kept for them, one after
+// the other.
 pub(crate) fn name_buckets<L: Law, E: EditName<L::Entry>>(
     room: &mut NumberRoom,
     mirror: &Mirror,
@@ -29,11 +30,16 @@ pub(crate) fn name_buckets<L: Law, E: EditName<L::Entry>>(
     requires store { IsSeatOf store.now writer.old.place }
     requires shape { HasPoolAndRoots store.now.shape.words store.now.shape.blocks store.now.shape.roots }
     requires mask { IsStorableMask mask.now }
-    requires lawful { (xs : List Laid) × IsLaid mirror.now store.now.shape (sheet_of writer.old.place).cells mask.now xs
-        × ((count : ℕ) → count ≤ mask.now.size → L.keeps (seen_by writer.old.place ++ bucket_commits mask.now (places xs) stamp count) (base_of (sheet_of writer.old.place))) }
+    requires lawful { (xs : List Laid)
+        × IsLaid mirror.now store.now.shape (sheet_of writer.old.place).cells mask.now xs
+        × ((count : ℕ) → count ≤ mask.now.size
+        → L.keeps (seen_by writer.old.place ++ bucket_commits mask.now (places xs) stamp count)
+        (base_of (sheet_of writer.old.place))) }
     ensures store { IsSeatOf store.now writer.new.place }
-    ensures seen { (xs : List Laid) → IsLaid mirror.now store.now.shape (sheet_of writer.old.place).cells mask.now xs
-        → seen_by writer.new.place ≡ seen_by writer.old.place ++ bucket_commits mask.now (places xs) stamp mask.now.size }
+    ensures seen { (xs : List Laid)
+        → IsLaid mirror.now store.now.shape (sheet_of writer.old.place).cells mask.now xs
+        → seen_by writer.new.place ≡ seen_by writer.old.place
+        ++ bucket_commits mask.now (places xs) stamp mask.now.size }
     ensures sheet { sheet_of writer.new.place ≡ sheet_of writer.old.place }
 {
     for bucket in 0..mask.size {
@@ -56,10 +62,13 @@ pub(crate) fn name_mask<L: Law, E: EditName<L::Entry>>(
     requires shape { HasPoolAndRoots store.now.shape.words store.now.shape.blocks store.now.shape.roots }
     requires slot { slot < MASK_SLOTS }
     requires block { block < POOL_BLOCKS }
-    requires lawful { (mask : StoredMask) × IsMaskBlock (block_words store.now.shape (sheet_of writer.old.place).cells block) (mask, None)
-        × L.keeps (seen_by writer.old.place ++ mask_commit slot mask block stamp ∷ []) (base_of (sheet_of writer.old.place)) }
+    requires lawful { (mask : StoredMask)
+        × IsMaskBlock (block_words store.now.shape (sheet_of writer.old.place).cells block) (mask, None)
+        × L.keeps (seen_by writer.old.place ++ mask_commit slot mask block stamp ∷ [])
+        (base_of (sheet_of writer.old.place)) }
     ensures store { IsSeatOf store.now writer.new.place }
-    ensures seen { (mask : StoredMask) → IsMaskBlock (block_words store.now.shape (sheet_of writer.old.place).cells block) (mask, None)
+    ensures seen { (mask : StoredMask)
+        → IsMaskBlock (block_words store.now.shape (sheet_of writer.old.place).cells block) (mask, None)
         → seen_by writer.new.place ≡ seen_by writer.old.place ++ mask_commit slot mask block stamp ∷ [] }
     ensures sheet { sheet_of writer.new.place ≡ sheet_of writer.old.place }
 {

@@ -21,11 +21,11 @@ use pin_store::{Store, Writer};
 use store_history::{EditName, Law};
 use tc_base::Point;
 
-/// Makes a mask stand at a slot whose filters were laid: fills a block with its record, and makes the commits that name it all, the roots of
-/// its buckets first, and then the slot's. They carry no number.
+/// Makes a mask stand at a slot whose filters were laid: fills a block with its record, and makes the commits
+/// that name it all, the roots of its buckets first, and then the slot's. They carry no number.
 ///
-/// A mask that stood at the slot before stands no longer. No mask that stands has one of the new one's rows. The law must hold of all commits
-/// with each first part of these.
+/// A mask that stood at the slot before stands no longer. No mask that stands has one of the new one's rows.
+/// The law must hold of all commits with each first part of these.
 pub fn raise<L: Law, E: EditName<L::Entry>>(
     room: &mut NumberRoom,
     mirror: &mut Mirror,
@@ -41,22 +41,34 @@ pub fn raise<L: Law, E: EditName<L::Entry>>(
     requires slot { slot < MASK_SLOTS }
     requires mask { IsStorableMask mask }
     requires rows { AreFreeRows mirror.old mask.rows }
-    requires kept { IsKept mirror.old store.now.shape (sheet_of writer.old.place).cells (root_of (seen_by writer.old.place)) }
+    requires kept { IsKept mirror.old store.now.shape (sheet_of writer.old.place).cells
+        (root_of (seen_by writer.old.place)) }
     requires lawful { (xs : List Laid)
-        × IsReady mirror.old store.now.shape (sheet_of writer.old.place).cells mask (base_of (sheet_of writer.old.place)) (seen_by writer.old.place) block xs
-        × ((n : ℕ) → L.keeps (seen_by writer.old.place ++ take n (raise_commits slot mask block (places xs) stamp)) (base_of (sheet_of writer.old.place))) }
+        × IsReady mirror.old store.now.shape (sheet_of writer.old.place).cells mask
+        (base_of (sheet_of writer.old.place)) (seen_by writer.old.place) block xs
+        × ((n : ℕ)
+        → L.keeps (seen_by writer.old.place ++ take n (raise_commits slot mask block (places xs) stamp))
+        (base_of (sheet_of writer.old.place))) }
     ensures store { IsSeatOf store.now writer.new.place }
     ensures seen { (xs : List Laid)
-        → IsReady mirror.old store.now.shape (sheet_of writer.old.place).cells mask (base_of (sheet_of writer.old.place)) (seen_by writer.old.place) block xs
-        → seen_by writer.new.place ≡ seen_by writer.old.place ++ raise_commits slot mask block (places xs) stamp }
+        → IsReady mirror.old store.now.shape (sheet_of writer.old.place).cells mask
+        (base_of (sheet_of writer.old.place)) (seen_by writer.old.place) block xs
+        → seen_by writer.new.place ≡ seen_by writer.old.place
+        ++ raise_commits slot mask block (places xs) stamp }
     ensures sheet { IsSameButCells (sheet_of writer.old.place) (sheet_of writer.new.place) }
     ensures others { (other : ℕ) → other ≢ block → other < store.now.shape.blocks
-        → block_words store.now.shape (sheet_of writer.new.place).cells other ≡ block_words store.now.shape (sheet_of writer.old.place).cells other }
-    ensures kept { IsKept mirror.new store.now.shape (sheet_of writer.new.place).cells (root_of (seen_by writer.new.place)) }
-    ensures masks { mirror.new.slots.items ≡ slice_set mirror.old.slots.items slot (Some (record { block = block; mask = mask })) }
-    ensures list { (last : ℕ) (xs : List Laid) → IsLaid mirror.old store.now.shape (sheet_of writer.old.place).cells mask xs → Rises 0 (age_of (last + 1) 0) (dates xs)
+        → block_words store.now.shape (sheet_of writer.new.place).cells other
+        ≡ block_words store.now.shape (sheet_of writer.old.place).cells other }
+    ensures kept { IsKept mirror.new store.now.shape (sheet_of writer.new.place).cells
+        (root_of (seen_by writer.new.place)) }
+    ensures masks { mirror.new.slots.items
+        ≡ slice_set mirror.old.slots.items slot (Some (record { block = block; mask = mask })) }
+    ensures list { (last : ℕ) (xs : List Laid)
+        → IsLaid mirror.old store.now.shape (sheet_of writer.old.place).cells mask xs
+        → Rises 0 (age_of (last + 1) 0) (dates xs)
         → HasFilters mirror.new slot last (filters_of xs) }
-    ensures lists { (other last : ℕ) (fs : List StoredFilter) → other ≢ slot → HasFilters mirror.old other last fs → HasFilters mirror.new other last fs }
+    ensures lists { (other last : ℕ) (fs : List StoredFilter) → other ≢ slot
+        → HasFilters mirror.old other last fs → HasFilters mirror.new other last fs }
 {
     let mut words = [0; 40];
     write_mask(&mask, None, &mut words);

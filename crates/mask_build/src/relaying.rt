@@ -19,8 +19,8 @@ use mask_mirror::{Mirror, kept_filter};
 use pin_store::{Store, Writer};
 use store_history::Law;
 
-/// Lays the filters of some blocks once more, in order and with their ages, into given blocks, for a mask whose buckets have no filter yet.
-/// The old blocks stay as they are.
+/// Lays the filters of some blocks once more, in order and with their ages, into given blocks, for a mask
+/// whose buckets have no filter yet. The old blocks stay as they are.
 pub fn lay_copies<L: Law>(
     mirror: &mut Mirror,
     writer: &mut Writer<L>,
@@ -37,18 +37,23 @@ pub fn lay_copies<L: Law>(
     requires apart { (b : ℕ) → IsAmong b from.now → IsAmong b blocks.now → ⊥ }
     requires many { length from.now ≤ length blocks.now }
     requires given { AreGiven (base_of (sheet_of writer.old.place)) (seen_by writer.old.place) blocks.now }
-    requires kept { IsKept mirror.old store.now.shape (sheet_of writer.old.place).cells (root_of (seen_by writer.old.place)) }
+    requires kept { IsKept mirror.old store.now.shape (sheet_of writer.old.place).cells
+        (root_of (seen_by writer.old.place)) }
     requires empty { IsLaid mirror.old store.now.shape (sheet_of writer.old.place).cells mask.now [] }
     ensures store { IsSeatOf store.now writer.new.place }
     ensures seen { seen_by writer.new.place ≡ seen_by writer.old.place }
     ensures sheet { IsSameButCells (sheet_of writer.old.place) (sheet_of writer.new.place) }
     ensures others { (other : ℕ) → (IsAmong other blocks.now → ⊥) → other < store.now.shape.blocks
-        → block_words store.now.shape (sheet_of writer.new.place).cells other ≡ block_words store.now.shape (sheet_of writer.old.place).cells other }
+        → block_words store.now.shape (sheet_of writer.new.place).cells other
+        ≡ block_words store.now.shape (sheet_of writer.old.place).cells other }
     ensures masks { mirror.new.slots.items ≡ mirror.old.slots.items }
     ensures laid { (dated : List Dated) → map (kept_in mirror.old) from.now ≡ map kept_as dated
-        → IsLaid mirror.new store.now.shape (sheet_of writer.new.place).cells mask.now (laid_in blocks.now dated) }
-    ensures kept { IsKept mirror.new store.now.shape (sheet_of writer.new.place).cells (root_of (seen_by writer.new.place)) }
-    ensures lists { (slot last : ℕ) (fs : List StoredFilter) → HasFilters mirror.old slot last fs → HasFilters mirror.new slot last fs }
+        → IsLaid mirror.new store.now.shape (sheet_of writer.new.place).cells mask.now
+        (laid_in blocks.now dated) }
+    ensures kept { IsKept mirror.new store.now.shape (sheet_of writer.new.place).cells
+        (root_of (seen_by writer.new.place)) }
+    ensures lists { (slot last : ℕ) (fs : List StoredFilter) → HasFilters mirror.old slot last fs
+        → HasFilters mirror.new slot last fs }
 {
     for place in 0..from.len() {
         let old = from[place];

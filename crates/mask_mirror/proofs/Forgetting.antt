@@ -1,4 +1,5 @@
--- The blocks of all buckets of a mask are different, so the pool has as many; and what is kept of other masks stays as one is forgotten.
+-- The blocks of all buckets of a mask are different, so the pool has as many; and what is kept of other masks
+-- stays as one is forgotten.
 use Rattle.std.proofs.Common.{◌≡◌, ◌∙◌, ℕ, zero, suc, ◌+◌, ◌<◌, ◌≤◌, Bool, true, false, eqb, ◌||◌, List, [], ◌∷◌, ◌++◌, length, map, set, get_or, slice_get, Option, Some, None, refl, sym, ap, subst, arith, append_assoc, eqb-true, eq-eqb, get_or-set_other, get_or-set_same}
 use mathlib.Core.List.{append-nil}
 use Rattle.std.specs.List.{list_any, IsDistinct, AllByRecursion, range_with_len}

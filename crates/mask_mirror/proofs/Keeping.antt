@@ -1,4 +1,5 @@
--- What is kept goes on to be what the roots name: as a block that no root names is filled, and as a bucket's root is given another chain.
+-- What is kept goes on to be what the roots name: as a block that no root names is filled, and as a bucket's
+-- root is given another chain.
 use Rattle.std.proofs.Common.{◌≡◌, ◌≢◌, ◌∙◌, ◌⊎◌, inl, inr, ℕ, zero, suc, ◌+◌, ◌/◌, ◌<◌, ◌≤◌, Bool, true, false, eqb, List, [], ◌∷◌, ◌++◌, length, set, get_or, slice_get, Option, Some, None, refl, sym, ap, subst, arith, eqb-true, get_or-set_other, get_or-set_same}
 use Rattle.std.proofs.lemmas.Bool.{eqb-false}
 use Rattle.std.proofs.lemmas.Bool.Decides.{nat_tests}

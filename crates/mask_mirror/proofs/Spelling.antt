@@ -59,7 +59,8 @@ pub none_at_zero : (next : List ℕ) (number : ℕ) (bs : List ℕ) → Spells n
 none_at_zero next number bs s e = same_blocks next number 0 bs [] e s refl
 
 -- ---- a step along the chain
--- what is ahead while the chain is followed: `done` are the blocks so far, behind those that were there before
+-- what is ahead while the chain is followed: `done` are the blocks so far, behind those that were there
+-- before
 pub record IsAhead (next : List ℕ) (start number : ℕ) (before done : List ℕ) : Type 0 where
   pub rest : List ℕ
   pub ahead : Spells next number rest

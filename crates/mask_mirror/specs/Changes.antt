@@ -8,11 +8,13 @@ use Rattle.mask_mirror.specs.declared.mirror.Mirror.{Mirror}
 -- a block was filled, and what is kept of it was written
 pub record IsFilled (mirror mirror2 : Mirror) (shape : Shape) (old new : List ℕ) (b : ℕ) : Type 0 where
   pub wide : POOL_BLOCKS ≤ shape.blocks
-  pub others : (other : ℕ) → other ≢ b → other < shape.blocks → block_words shape new other ≡ block_words shape old other
+  pub others : (other : ℕ) → other ≢ b → other < shape.blocks
+      → block_words shape new other ≡ block_words shape old other
   pub slots : mirror2.slots.items ≡ mirror.slots.items
   pub first : mirror2.first.items ≡ mirror.first.items
   pub next : (c : ℕ) → c ≢ b → slice_index mirror2.next.items c ≡ slice_index mirror.next.items c
-  pub filters : (c : ℕ) → c ≢ b → slice_index_or mirror2.filters.items c None ≡ slice_index_or mirror.filters.items c None
+  pub filters : (c : ℕ) → c ≢ b → slice_index_or mirror2.filters.items c None
+      ≡ slice_index_or mirror.filters.items c None
   pub ages : (c : ℕ) → c ≢ b → slice_index mirror2.ages.items c ≡ slice_index mirror.ages.items c
 
 -- the chain of the bucket at a place begins with another number

@@ -20,4 +20,5 @@ pub record AreGiven {E : Type 0} (base : ℕ) (h : List (Commit E)) (blocks : Li
 pub record AreFreeRows (mirror : Mirror) (rows : List ℕ) : Type 0 where
   pub different : IsDistinct eqb rows
   pub pool : All (λ row. row < ROWS) rows
-  pub free : (slot row : ℕ) (kept : KeptMask) → Stands mirror slot kept → IsAmong row kept.mask.rows → IsAmong row rows → ⊥
+  pub free : (slot row : ℕ) (kept : KeptMask) → Stands mirror slot kept → IsAmong row kept.mask.rows
+      → IsAmong row rows → ⊥

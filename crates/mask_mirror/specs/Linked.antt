@@ -25,12 +25,16 @@ placed (b ∷ bs) (f ∷ fs) = record { block = b; filter = f } ∷ placed bs fs
 -- those of a bucket, of so many, the latest first
 abbrev pub placed_in : ℕ → ℕ → List Placed → List Placed
 placed_in size bucket [] = []
-placed_in size bucket (p ∷ ps) = placed_in size bucket ps ++ (if bucket_for size p.filter.key.words == bucket then p ∷ [] else [])
+placed_in size bucket (p ∷ ps) = placed_in size bucket ps ++ (if bucket_for size p.filter.key.words == bucket
+    then p ∷ [] else [])
 
 -- their blocks, each linked to the next, in front of a chain
 abbrev pub linked : List Placed → List Link → List Link
 linked [] chain = chain
-linked (p ∷ ps) chain = record { block = p.block; words = block (filter_words p.filter) (first_block (linked ps chain)) } ∷ linked ps chain
+linked (p ∷ ps) chain = record {
+  block = p.block;
+  words = block (filter_words p.filter) (first_block (linked ps chain));
+} ∷ linked ps chain
 
 module _ {E : Type 0} where
   -- a bucket's root comes to name those filters of a mask that are in the bucket
@@ -55,7 +59,8 @@ module _ {E : Type 0} where
 
   -- A WHOLE MASK AT A SLOT: the roots of all its buckets, the empty ones too, and then the mask's
   abbrev pub raise_commits : ℕ → StoredMask → ℕ → List Placed → ℕ → List (Commit E)
-  raise_commits slot mask b ps stamp = bucket_commits mask ps stamp mask.size ++ mask_commit slot mask b stamp ∷ []
+  raise_commits slot mask b ps stamp = bucket_commits mask ps stamp mask.size ++ mask_commit slot mask b stamp
+      ∷ []
 
 -- the same mask with another number of buckets, in these rows
 abbrev pub resized : StoredMask → ℕ → List ℕ → StoredMask

@@ -37,7 +37,8 @@ pub fn place_in(mirror: &Mirror, slot: u32, key: &Key<14>) -> u32
     requires slot { slot < MASK_SLOTS }
     requires stands { (kept : KeptMask) × Stands mirror.now slot kept }
     requires storable { (kept : KeptMask) → Stands mirror.now slot kept → IsStorableMask kept.mask }
-    ensures place { (kept : KeptMask) → Stands mirror.now slot kept → result ≡ bucket_at kept.mask (bucket_for kept.mask.size key.now.words) }
+    ensures place { (kept : KeptMask) → Stands mirror.now slot kept
+        → result ≡ bucket_at kept.mask (bucket_for kept.mask.size key.now.words) }
     ensures small { result < BUCKETS }
 {
     match &mirror.slots[slot as usize] {

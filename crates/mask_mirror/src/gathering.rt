@@ -23,7 +23,8 @@ pub(crate) fn block_in(number: u32) -> Option<u32>
 pub fn gather(chain: &mut NumberRoom, next: &[u32], start: u32)
     requires long { length next.now ≡ POOL_BLOCKS }
     requires spelled { (blocks : List ℕ) × Spells next.now start blocks }
-    requires few { (blocks : List ℕ) → Spells next.now start blocks → length chain.old + length blocks ≤ POOL_BLOCKS + 1 }
+    requires few { (blocks : List ℕ) → Spells next.now start blocks
+        → length chain.old + length blocks ≤ POOL_BLOCKS + 1 }
     ensures { (blocks : List ℕ) → Spells next.now start blocks → chain.new ≡ chain.old ++ blocks }
 {
     let mut number = start;
@@ -37,8 +38,10 @@ pub fn gather(chain: &mut NumberRoom, next: &[u32], start: u32)
 // Puts the blocks of all buckets of a mask that stands behind the one block that is there.
 fn gather_buckets(left: &mut NumberRoom, mirror: &Mirror, kept: &KeptMask)
     requires one { length left.old ≡ 1 }
-    requires kept { (slot : ℕ) × (shape : Shape) × (cells : List ℕ) × (roots : ℕ → Named) × Stands mirror.now slot kept.now × IsKept mirror.now shape cells roots }
-    ensures { (slot : ℕ) (shape : Shape) (cells : List ℕ) (roots : ℕ → Named) → Stands mirror.now slot kept.now → IsKept mirror.now shape cells roots
+    requires kept { (slot : ℕ) × (shape : Shape) × (cells : List ℕ) × (roots : ℕ → Named)
+        × Stands mirror.now slot kept.now × IsKept mirror.now shape cells roots }
+    ensures { (slot : ℕ) (shape : Shape) (cells : List ℕ) (roots : ℕ → Named)
+        → Stands mirror.now slot kept.now → IsKept mirror.now shape cells roots
         → left.new ≡ left.old ++ bucket_blocks roots kept.now.mask kept.now.mask.size }
 {
     for bucket in 0..kept.mask.size {
@@ -52,8 +55,10 @@ pub fn gather_mask(left: &mut NumberRoom, rows: &mut NumberRoom, mirror: &Mirror
     requires empty { (left.old ≡ []) × (rows.old ≡ []) }
     requires slot { slot < MASK_SLOTS }
     requires stands { (kept : KeptMask) × Stands mirror.now slot kept }
-    requires kept { (shape : Shape) × (cells : List ℕ) × (roots : ℕ → Named) × IsKept mirror.now shape cells roots }
-    ensures blocks { (kept : KeptMask) (shape : Shape) (cells : List ℕ) (roots : ℕ → Named) → Stands mirror.now slot kept → IsKept mirror.now shape cells roots
+    requires kept { (shape : Shape) × (cells : List ℕ) × (roots : ℕ → Named)
+        × IsKept mirror.now shape cells roots }
+    ensures blocks { (kept : KeptMask) (shape : Shape) (cells : List ℕ) (roots : ℕ → Named)
+        → Stands mirror.now slot kept → IsKept mirror.now shape cells roots
         → left.new ≡ kept.block ∷ bucket_blocks roots kept.mask kept.mask.size }
     ensures rows { (kept : KeptMask) → Stands mirror.now slot kept → rows.new ≡ kept.mask.rows }
 {

@@ -13,8 +13,8 @@ use pin_store::{Store, Writer};
 use store_history::{EditName, Law};
 use tc_base::Point;
 
-/// Makes the one commit by which a root names the chain that begins with a number. The commit carries the edit that `E` names, if there is a number
-/// for it.
+/// Makes the one commit by which a root names the chain that begins with a number. The commit carries the
+/// edit that `E` names, if there is a number for it.
 pub fn name_chain<L: Law, E: EditName<L::Entry>>(
     room: &mut NumberRoom,
     mirror: &Mirror,
@@ -28,13 +28,16 @@ pub fn name_chain<L: Law, E: EditName<L::Entry>>(
     requires store { IsSeatOf store.now writer.old.place }
     requires shape { HasPool store.now.shape.words store.now.shape.blocks }
     requires root { root < store.now.shape.roots }
-    requires chain { (size bucket : ℕ) × (blocks : List ℕ) × HoldsChain mirror.now store.now.shape (sheet_of writer.old.place).cells size bucket number blocks }
+    requires chain { (size bucket : ℕ) × (blocks : List ℕ)
+        × HoldsChain mirror.now store.now.shape (sheet_of writer.old.place).cells size bucket number blocks }
     requires lawful { (blocks : List ℕ) → Spells mirror.now.next.items number blocks → L.keeps
-        (seen_by writer.old.place ++ commit_of store.now.shape (sheet_of writer.old.place).cells root blocks stamp edit E.edit ∷ [])
+        (seen_by writer.old.place
+        ++ commit_of store.now.shape (sheet_of writer.old.place).cells root blocks stamp edit E.edit ∷ [])
         (base_of (sheet_of writer.old.place)) }
     ensures store { IsSeatOf store.now writer.new.place }
     ensures seen { (blocks : List ℕ) → Spells mirror.now.next.items number blocks → seen_by writer.new.place
-        ≡ seen_by writer.old.place ++ commit_of store.now.shape (sheet_of writer.old.place).cells root blocks stamp edit E.edit ∷ [] }
+        ≡ seen_by writer.old.place
+        ++ commit_of store.now.shape (sheet_of writer.old.place).cells root blocks stamp edit E.edit ∷ [] }
     ensures sheet { sheet_of writer.new.place ≡ sheet_of writer.old.place }
 {
     room.clear();

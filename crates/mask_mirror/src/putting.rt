@@ -20,8 +20,8 @@ use block_codec::{StoredFilter, write_filter};
 use pin_store::{Store, Writer};
 use store_history::Law;
 
-/// Fills a block, which no root names, with a filter linked to a chain that begins with a number, and keeps that, and the filter's age. No
-/// root is changed, so what is kept stays what the roots name.
+/// Fills a block, which no root names, with a filter linked to a chain that begins with a number, and keeps
+/// that, and the filter's age. No root is changed, so what is kept stays what the roots name.
 pub fn put_in_front<L: Law>(
     mirror: &mut Mirror,
     writer: &mut Writer<L>,
@@ -36,18 +36,25 @@ pub fn put_in_front<L: Law>(
     requires block { block < POOL_BLOCKS }
     requires storable { IsStorableFilter filter.now }
     requires free { IsUnnamed (base_of (sheet_of writer.old.place)) (seen_by writer.old.place) block }
-    requires kept { IsKept mirror.old store.now.shape (sheet_of writer.old.place).cells (root_of (seen_by writer.old.place)) }
+    requires kept { IsKept mirror.old store.now.shape (sheet_of writer.old.place).cells
+        (root_of (seen_by writer.old.place)) }
     ensures store { IsSeatOf store.now writer.new.place }
     ensures seen { seen_by writer.new.place ≡ seen_by writer.old.place }
     ensures sheet { IsSameButCells (sheet_of writer.old.place) (sheet_of writer.new.place) }
-    ensures filled { IsFilled mirror.old mirror.new store.now.shape (sheet_of writer.old.place).cells (sheet_of writer.new.place).cells block }
+    ensures filled { IsFilled mirror.old mirror.new store.now.shape (sheet_of writer.old.place).cells
+        (sheet_of writer.new.place).cells block }
     ensures dated { kept_in mirror.new block ≡ (age, Some filter.now) }
-    ensures lists { (slot last : ℕ) (fs : List StoredFilter) → HasFilters mirror.old slot last fs → HasFilters mirror.new slot last fs }
-    ensures words { IsFilterBlock (block_words store.now.shape (sheet_of writer.new.place).cells block) (filter.now, block_in number) }
-    ensures kept { IsKept mirror.new store.now.shape (sheet_of writer.new.place).cells (root_of (seen_by writer.new.place)) }
+    ensures lists { (slot last : ℕ) (fs : List StoredFilter) → HasFilters mirror.old slot last fs
+        → HasFilters mirror.new slot last fs }
+    ensures words { IsFilterBlock (block_words store.now.shape (sheet_of writer.new.place).cells block)
+        (filter.now, block_in number) }
+    ensures kept { IsKept mirror.new store.now.shape (sheet_of writer.new.place).cells
+        (root_of (seen_by writer.new.place)) }
     ensures chain { (size : ℕ) (blocks : List ℕ) → ((at c : ℕ) → slice_get blocks at ≡ Some c → c ≢ block)
-        → HoldsChain mirror.old store.now.shape (sheet_of writer.old.place).cells size (bucket_for size filter.now.key.words) number blocks
-        → HoldsChain mirror.new store.now.shape (sheet_of writer.new.place).cells size (bucket_for size filter.now.key.words) (block + 1) (block ∷ blocks) }
+        → HoldsChain mirror.old store.now.shape (sheet_of writer.old.place).cells size
+        (bucket_for size filter.now.key.words) number blocks
+        → HoldsChain mirror.new store.now.shape (sheet_of writer.new.place).cells size
+        (bucket_for size filter.now.key.words) (block + 1) (block ∷ blocks) }
 {
     let mut words = [0; 40];
     write_filter(filter, block_in(number), &mut words);

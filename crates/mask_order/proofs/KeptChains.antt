@@ -1,4 +1,5 @@
--- What is kept of a standing mask: its chains read as the filters of its buckets, all of which fit into blocks.
+-- What is kept of a standing mask: its chains read as the filters of its buckets, all of which fit into
+-- blocks.
 use Rattle.std.proofs.Common.{◌≡◌, ◌∙◌, ℕ, zero, suc, ◌<◌, List, [], ◌∷◌, map, drop, get_or, Option, Some, None, IfSome, sym, ap, subst, arith}
 use Rattle.std.specs.List.{AllByRecursion, All}
 use Rattle.std.proofs.lemmas.Simd.{map-map}

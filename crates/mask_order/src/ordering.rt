@@ -14,9 +14,11 @@ use mask_mirror::{Mirror, NumberRoom};
 
 /// Puts the blocks of all buckets of the mask at a slot into the room, in the order of the mask's filters.
 pub fn in_order(room: &mut NumberRoom, mirror: &Mirror, slot: u32, blocks: &[u32])
-    requires kept { (kept : KeptMask) × (shape : Shape) × (cells : List ℕ) × (roots : ℕ → Named) × Stands mirror.now slot kept × IsKept mirror.now shape cells roots
+    requires kept { (kept : KeptMask) × (shape : Shape) × (cells : List ℕ) × (roots : ℕ → Named)
+        × Stands mirror.now slot kept × IsKept mirror.now shape cells roots
         × (blocks.now ≡ bucket_blocks roots kept.mask kept.mask.size) }
-    ensures order { (last : ℕ) (fs : List StoredFilter) (has : HasFilters mirror.now slot last fs) → map (kept_in mirror.now) room.new ≡ map kept_as has.dated }
+    ensures order { (last : ℕ) (fs : List StoredFilter) (has : HasFilters mirror.now slot last fs)
+        → map (kept_in mirror.now) room.new ≡ map kept_as has.dated }
     ensures permutation { IsPermutation blocks.now room.new }
     ensures pool { All (λ b. b < POOL_BLOCKS) room.new }
 {

@@ -20,7 +20,8 @@ pub one_of : (a b most : ℕ) → most ≡ max a b → (most ≡ a) ⊎ (most �
 one_of a b most is = dite (dec_le a b) (λ low. inr (omega arith)) (λ high. inl (omega arith))
 
 module _ {E : Type 0} where
-  -- the record was loaded where the slot stood at p, with the stamp t1, and then the bucket, with the stamp t2
+  -- the record was loaded where the slot stood at p, with the stamp t1, and then the bucket, with the stamp
+  -- t2
   pub looked_up : (stands : List (Commit E) → ℕ → ℕ → Type 0) (words : ℕ → List ℕ) (fs : ℕ → List StoredFilter) (h : List (Commit E)) (n p slot serial : ℕ) (key : List ℕ) (mask : StoredMask) (found : Bool) (actions : List ActionName) (t1 t2 point loads i : ℕ)
       → n ≤ p → i ≡ bucket_for mask.size (each_and key mask.mask.words)
       → read_first mask_of_words (root_of (take p h) (mask_root slot)).chain ≡ Some mask → (root_of (take p h) (mask_root slot)).stamp ≡ t1

@@ -51,7 +51,8 @@ fn load_mask<L: Law, M: Ledger>(
     (mask_in(&words), stamp)
 }
 
-// Whether a filter in the chain of a root has the key, with its actions, and the root's stamp. A block that reads as no filter ends the search.
+// Whether a filter in the chain of a root has the key, with its actions, and the root's stamp. A block that
+// reads as no filter ends the search.
 fn search<L: Law, M: Ledger>(
     reader: &mut Reader<L>,
     store: &Store<L>,
@@ -67,11 +68,13 @@ fn search<L: Law, M: Ledger>(
     ensures same { IsSameReader reader.old.place reader.new.place }
     ensures longer { IsPrefix (seen_by reader.old.place) (seen_by reader.new.place) }
     ensures lawful { L.keeps (seen_by reader.new.place) (floor_start reader.new.place) }
-    ensures found { (there : List StoredFilter) → read_all filter_in (root_of (seen_by reader.new.place) root).chain ≡ Some there
+    ensures found { (there : List StoredFilter)
+        → read_all filter_in (root_of (seen_by reader.new.place) root).chain ≡ Some there
         → IsAnswer there key.now.words result.0 into.new }
     ensures stamp { result.1 ≡ (root_of (seen_by reader.new.place) root).stamp }
     ensures few { loads_of reader.new.place
-        ≤ loads_of reader.old.place + 1 + block_words * length (root_of (seen_by reader.new.place) root).chain }
+        ≤ loads_of reader.old.place + 1 + block_words * length
+        (root_of (seen_by reader.new.place) root).chain }
     ensures steps { steps.new + loads_of reader.old.place ≡ steps.old + loads_of reader.new.place }
 {
     let (mut walk, stamp) = Walk::along(reader, store, root, steps);
@@ -108,12 +111,12 @@ fn words_of(key: &Key<14>) -> &[u64]
     &key.words
 }
 
-/// Whether the mask at a slot has a filter whose key is that of the packet under the mask, with its actions in `into`, and the point of the
-/// answer: the greatest of the stamps that were loaded.
+/// Whether the mask at a slot has a filter whose key is that of the packet under the mask, with its actions
+/// in `into`, and the point of the answer: the greatest of the stamps that were loaded.
 ///
-/// Where the slot stood for a mask at a time that the reader had seen, and not before its floor, the answer is that of a search of the mask's
-/// filters, in each state from the point up to a later time at which the slot still stood. The reader's seat counts the loads, and `steps`
-/// counts the same.
+/// Where the slot stood for a mask at a time that the reader had seen, and not before its floor, the answer
+/// is that of a search of the mask's filters, in each state from the point up to a later time at which the
+/// slot still stood. The reader's seat counts the loads, and `steps` counts the same.
 pub fn lookup<L: MaskLaw, M: Ledger>(
     reader: &mut Reader<L>,
     store: &Store<L>,
@@ -130,10 +133,13 @@ pub fn lookup<L: MaskLaw, M: Ledger>(
     ensures same { IsSameReader reader.old.place reader.new.place }
     ensures longer { IsPrefix (seen_by reader.old.place) (seen_by reader.new.place) }
     ensures lawful { L.keeps (seen_by reader.new.place) (floor_start reader.new.place) }
-    ensures stamps { IsLoadedPoint (seen_by reader.old.place) (seen_by reader.new.place) slot key.now.words result.0 result.1 }
+    ensures stamps { IsLoadedPoint (seen_by reader.old.place)
+        (seen_by reader.new.place) slot key.now.words result.0 result.1 }
     ensures steps { steps.new + loads_of reader.old.place ≡ steps.old + loads_of reader.new.place }
-    ensures found { (n serial : ℕ) → floor_start reader.old.place ≤ n → n ≤ length (seen_by reader.old.place) → L.stands (take n (seen_by reader.old.place)) slot serial
-        → LookedUp L.stands (λ k. L.words (seen_by reader.new.place) k serial) (λ k. L.filters (seen_by reader.new.place) k serial)
+    ensures found { (n serial : ℕ) → floor_start reader.old.place ≤ n → n ≤ length (seen_by reader.old.place)
+        → L.stands (take n (seen_by reader.old.place)) slot serial
+        → LookedUp L.stands (λ k. L.words (seen_by reader.new.place) k serial)
+        (λ k. L.filters (seen_by reader.new.place) k serial)
         (seen_by reader.new.place) n slot serial key.now.words result.0 into.new result.1
         (loads_of reader.new.place - loads_of reader.old.place) }
 {

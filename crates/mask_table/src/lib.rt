@@ -1,29 +1,32 @@
 //! The masks of a shared store: how a reader looks a key up while one writer changes what it reads.
 //!
-//! A mask is a hash table of buckets. Its root, at the mask's slot, names one block, the mask's record: its serial, its words, how many
-//! buckets there are, and the rows that have their roots. A bucket's root names the chain of the bucket's filters, the latest first. So a look-up
-//! is two roots and the blocks of one bucket, whatever the number of filters; `lookup`'s clause bounds the loads.
+//! A mask is a hash table of buckets. Its root, at the mask's slot, names one block, the mask's record: its
+//! serial, its words, how many buckets there are, and the rows that have their roots. A bucket's root names
+//! the chain of the bucket's filters, the latest first. So a look-up is two roots and the blocks of one
+//! bucket, whatever the number of filters; `lookup`'s clause bounds the loads.
 //!
 //! # Why the point is the greatest of the stamps
 //!
-//! Each root says from which number of edits on its chain stands as it is. The record is right from its own stamp on and the bucket from
-//! its, so from the greater of the two on both are right at once, and the answer is that of one state. The last stamp alone wouldn't do:
-//! the bucket may be old and the record new. That both are right up to a time at which the mask still stood is what `MaskLaw` says:
-//! the writer commits nothing more to what has left.
+//! Each root says from which number of edits on its chain stands as it is. The record is right from its own
+//! stamp on and the bucket from its, so from the greater of the two on both are right at once, and the answer
+//! is that of one state. The last stamp alone wouldn't do: the bucket may be old and the record new. That
+//! both are right up to a time at which the mask still stood is what `MaskLaw` says: the writer commits
+//! nothing more to what has left.
 //!
 //! # Why a bucket is told with the record's stamp
 //!
-//! The record is loaded at one time, and the bucket later. In between the mask may get a new record with other rows, or leave. The
-//! law gives for the later load a time at which the slot still stood with a record of the same stamp and size. So what was read of the record is
-//! true then too.
+//! The record is loaded at one time, and the bucket later. In between the mask may get a new record with
+//! other rows, or leave. The law gives for the later load a time at which the slot still stood with a record
+//! of the same stamp and size. So what was read of the record is true then too.
 //!
 //! # Who may call what
 //!
-//! `lookup` is a reader's, made by the one thread that has it, inside the store. It takes no memory, and waits for nobody. Whoever states
-//! the store's law implements `MaskLaw` for it; this crate says nothing of how edits become commits.
+//! `lookup` is a reader's, made by the one thread that has it, inside the store. It takes no memory, and
+//! waits for nobody. Whoever states the store's law implements `MaskLaw` for it; this crate says nothing of
+//! how edits become commits.
 //!
-//! Not promised: that two look-ups of one walk have rising points. The layer that walks raises them: a look-up's clause gives its answer for
-//! each higher point as well.
+//! Not promised: that two look-ups of one walk have rising points. The layer that walks raises them: a
+//! look-up's clause gives its answer for each higher point as well.
 #![tactic(auto)]
 
 mod finding;

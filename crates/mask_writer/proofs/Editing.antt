@@ -17,7 +17,8 @@ use Rattle.mask_writer.specs.Standing.{order_at, Holds}
 use Rattle.mask_writer.proofs.Telling.{joined_known, joined_from, without_from, without_known, exchanged_from, exchanged_known, key_is}
 use Rattle.mask_writer.proofs.Showing.{stands_kept, order_is, holds_shown}
 
--- what becomes of the arrays and of the orders as the mask at a slot is edited, and its order comes to be another
+-- what becomes of the arrays and of the orders as the mask at a slot is edited, and its order comes to be
+-- another
 pub record IsEdit (mirror mirror2 : Mirror) (orders orders2 : List (Option Order)) (slot : ℕ) (after : Option Order) : Type 0 where
   pub small : slot < 8192
   pub told : IsTold mirror orders

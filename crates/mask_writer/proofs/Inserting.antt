@@ -1,4 +1,5 @@
--- A filter in front of a bucket's chain: the chain may be named, and the commit that names it is that of an insertion.
+-- A filter in front of a bucket's chain: the chain may be named, and the commit that names it is that of an
+-- insertion.
 use Rattle.std.proofs.Common.{◌≡◌, ◌≢◌, ◌∙◌, ℕ, zero, suc, ◌+◌, ◌<◌, Bool, if◌then◌else◌, List, [], ◌∷◌, ◌++◌, map, get_or, slice_get, Option, Some, None, refl, sym, ap, subst, arith, get_or-set_same, eq-eqb}
 use Rattle.std.proofs.lemmas.Bool.{ne_eqb}
 use Rattle.std.proofs.lemmas.List.{map-append}

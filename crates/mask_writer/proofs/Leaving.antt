@@ -1,4 +1,5 @@
--- The blocks of a mask that gets another number of buckets: each has a filter that may be stored, and none is given.
+-- The blocks of a mask that gets another number of buckets: each has a filter that may be stored, and none is
+-- given.
 use Rattle.std.proofs.Common.{◌≡◌, ℕ, zero, suc, ◌<◌, ◌≤◌, List, [], ◌∷◌, length, get_or, slice_get, Option, Some, subst, arith}
 use Rattle.std.specs.List.{All}
 use Rattle.std.specs.List.Sorted.{IsPermutation}

@@ -1,4 +1,5 @@
--- The masks that a writer keeps in its arrays, and as which they are seen: what is said of the one holds of the other.
+-- The masks that a writer keeps in its arrays, and as which they are seen: what is said of the one holds of
+-- the other.
 use Rattle.std.proofs.Common.{◌≡◌, ◌≢◌, ◌∙◌, ℕ, zero, suc, ◌+◌, ◌<◌, ◌≤◌, List, [], ◌∷◌, length, map, set, get_or, Option, Some, None, refl, sym, ap, subst, arith, get_or-set_other}
 use Rattle.std.proofs.lemmas.Simd.{map-map}
 use Rattle.std.proofs.lemmas.List.{length-map}

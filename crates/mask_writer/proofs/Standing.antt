@@ -1,5 +1,5 @@
--- What follows from the words for what stands at a writer: a slot has one mask and one list of filters, and what
--- roots name is read as these.
+-- What follows from the words for what stands at a writer: a slot has one mask and one list of filters, and
+-- what roots name is read as these.
 use Rattle.std.proofs.Common.{◌≡◌, ◌∙◌, ℕ, zero, suc, ◌<◌, ◌≤◌, List, [], ◌∷◌, length, map, drop, slice_get, get_or, Some, refl, sym, ap, subst, arith}
 use Rattle.std.specs.List.{All}
 use Rattle.std.proofs.lemmas.List.{length-map}

@@ -1,5 +1,5 @@
--- What stands at other slots is seen as before: the commits of an edit name the roots of no other mask, and these
--- tell its chains.
+-- What stands at other slots is seen as before: the commits of an edit name the roots of no other mask, and
+-- these tell its chains.
 use Rattle.std.proofs.Common.{◌≡◌, ◌≢◌, ◌∙◌, ℕ, ◌<◌, List, [], ◌∷◌, ◌++◌, map, set, get_or, Option, Some, None, refl, sym, ap, subst, arith, get_or-set_other}
 use Rattle.std.specs.List.{range_with_len}
 use Rattle.std.proofs.lemmas.List.FromFn.{fill_by_all, get_or-map-range_with_len, length-map-range_with_len}

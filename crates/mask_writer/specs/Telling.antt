@@ -1,5 +1,6 @@
 -- What becomes of the order of a mask's filters as an edit is made (this project's own).
-use Rattle.std.specs.Prelude.{ℕ, Bool, true, not, ◌&&◌, ltb, ◌==◌, List, [], ◌∷◌, ◌++◌, Option, Some, None, option_map, bytes_eq, if◌then◌else◌}
+use Rattle.std.specs.Prelude.{ℕ, Bool, true, not, ◌&&◌, ltb, ◌==◌, List, [], ◌∷◌, ◌++◌, Option, Some, None}
+use Rattle.std.specs.Prelude.{option_map, bytes_eq, if◌then◌else◌}
 use Rattle.block_codec.specs.declared.filter.StoredFilter.{StoredFilter}
 use Rattle.mask_writer.specs.Masks.{Order}
 

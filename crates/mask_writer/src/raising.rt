@@ -1,7 +1,8 @@
 //! Masks that come to stand.
 ghost use Rattle.block_codec.specs.declared.places.TheConstants.{MASK_SLOTS};
 ghost use Rattle.block_codec.specs.Shapes.{HasPoolAndRoots};
-ghost use Rattle.std.specs.Prelude.{◌≡◌, ◌≢◌, ℕ, ◌+◌, ◌<◌, ◌≤◌, ◌++◌, ◌∷◌, List, [], length, take, slice_index, slice_set, Some, All};
+ghost use Rattle.std.specs.Prelude.{◌≡◌, ◌≢◌, ℕ, ◌+◌, ◌<◌, ◌≤◌, ◌++◌, ◌∷◌, List, [], length, take};
+ghost use Rattle.std.specs.Prelude.{slice_index, slice_set, Some, All};
 ghost use Rattle.store_history.specs.History.{root_of};
 ghost use Rattle.pin_store.specs.Layout.{block_words};
 ghost use Rattle.pin_store.specs.Sheets.{base_of, IsSameButCells};

@@ -22,11 +22,23 @@ pub record PlainTable : Type 0 where
   pub masks : List ℕ
 
 abbrev pub plain : StoredTable → PlainTable
-plain table = record { serial = table.serial; chain = table.chain; pref = table.pref; protocol = table.protocol; masks = map (λ (mask : MaskName). mask.serial) table.masks }
+plain table = record {
+  serial = table.serial;
+  chain = table.chain;
+  pref = table.pref;
+  protocol = table.protocol;
+  masks = map (λ (mask : MaskName). mask.serial) table.masks;
+}
 
 -- a table as a walk is told it
 abbrev pub told_of : StoredTable → TableHead
-told_of table = record { serial = table.serial; chain = table.chain; pref = table.pref; protocol = table.protocol; masks = table.masks }
+told_of table = record {
+  serial = table.serial;
+  chain = table.chain;
+  pref = table.pref;
+  protocol = table.protocol;
+  masks = table.masks;
+}
 
 -- ---- roots
 abbrev pub hook_number : Hook → ℕ
@@ -45,9 +57,11 @@ pub record TellsHead (heads : ℕ → List PlainTable) (named : Named) (e : ℕ)
   pub early : named.stamp ≤ e
   pub are : (k : ℕ) → named.stamp ≤ k → k ≤ e → map plain tables ≡ heads k
 
--- WHAT A VISIT OF A HEAD TELLS: the tables that the root names at the end of these commits, with the slots of their masks, and they are the
--- hook's after each number of edits from the point up to all that these commits carry
-pub record HeadTold {E : Type 0} (heads : ℕ → List PlainTable) (h : List (Commit E)) (hook : Hook) (told : List TableHead) (point : ℕ) : Type 0 where
+-- WHAT A VISIT OF A HEAD TELLS: the tables that the root names at the end of these commits, with the slots of
+-- their masks, and they are the hook's after each number of edits from the point up to all that these commits
+-- carry
+pub record HeadTold {E : Type 0} (heads : ℕ → List PlainTable) (h : List (Commit E)) (hook : Hook)
+    (told : List TableHead) (point : ℕ) : Type 0 where
   pub tables : List StoredTable
   pub read : read_all table_in (root_of h (head_root hook)).chain ≡ Some tables
   pub told_are : told ≡ map told_of tables

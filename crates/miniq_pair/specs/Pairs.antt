@@ -21,9 +21,13 @@ other_place place = 1 - place
 abbrev pub table_links : ℕ → List StoredTable → List Link
 table_links first [] = []
 table_links first (table ∷ []) = record { block = first; words = block (table_words table) None } ∷ []
-table_links first (table ∷ next ∷ tables) = record { block = first; words = block (table_words table) (Some (first + 1)) } ∷ table_links (first + 1) (next ∷ tables)
+table_links first (table ∷ next ∷ tables) = record {
+  block = first;
+  words = block (table_words table) (Some (first + 1));
+} ∷ table_links (first + 1) (next ∷ tables)
 
--- THE ONE COMMIT OF A SWAP: the hook's root names the tables at that place, with the number of the edit as stamp, and carries the edit
+-- THE ONE COMMIT OF A SWAP: the hook's root names the tables at that place, with the number of the edit as
+-- stamp, and carries the edit
 abbrev pub swap_commit : {E : Type 0} → Hook → ℕ → List StoredTable → ℕ → E → Commit E
 swap_commit hook place tables number edit = record {
   root = head_root hook;

@@ -38,18 +38,24 @@ pub(crate) fn fill_tables<L: Law>(
     tables: &[StoredTable],
 )
     requires store { IsSeatOf store.now writer.old.place }
-    requires shape { (store.now.shape.words ≡ BLOCK_WORDS) × (first + length tables.now ≤ store.now.shape.blocks) }
+    requires shape { (store.now.shape.words ≡ BLOCK_WORDS)
+        × (first + length tables.now ≤ store.now.shape.blocks) }
     requires few { length tables.now ≤ TABLES }
     requires storable { All IsStorableTable tables.now }
-    requires free { (place : ℕ) → place < length tables.now → IsUnnamed (base_of (sheet_of writer.old.place)) (seen_by writer.old.place) (first + place) }
+    requires free { (place : ℕ) → place < length tables.now
+        → IsUnnamed (base_of (sheet_of writer.old.place)) (seen_by writer.old.place) (first + place) }
     ensures store { IsSeatOf store.now writer.new.place }
     ensures seen { seen_by writer.new.place ≡ seen_by writer.old.place }
     ensures sheet { IsSameButCells (sheet_of writer.old.place) (sheet_of writer.new.place) }
     ensures words { (place : ℕ) (table : StoredTable) → slice_get tables.now place ≡ Some table
-        → block_words store.now.shape (sheet_of writer.new.place).cells (first + place) ≡ block (table_words table) (link_at first place (length tables.now)) }
-    ensures few { (place : ℕ) (table : StoredTable) → slice_get tables.now place ≡ Some table → length table.masks ≤ 16 }
-    ensures others { (other : ℕ) → ((place : ℕ) → place < length tables.now → other ≢ first + place) → other < store.now.shape.blocks
-        → block_words store.now.shape (sheet_of writer.new.place).cells other ≡ block_words store.now.shape (sheet_of writer.old.place).cells other }
+        → block_words store.now.shape (sheet_of writer.new.place).cells (first + place)
+        ≡ block (table_words table) (link_at first place (length tables.now)) }
+    ensures few { (place : ℕ) (table : StoredTable) → slice_get tables.now place ≡ Some table
+        → length table.masks ≤ 16 }
+    ensures others { (other : ℕ) → ((place : ℕ) → place < length tables.now → other ≢ first + place)
+        → other < store.now.shape.blocks
+        → block_words store.now.shape (sheet_of writer.new.place).cells other
+        ≡ block_words store.now.shape (sheet_of writer.old.place).cells other }
 {
     let count = tables.len() as u32;
     for (place, table) in tables.iter().enumerate() {

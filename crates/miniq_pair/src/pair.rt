@@ -9,8 +9,8 @@ use pin_store::{Store, Writer};
 use store_history::{EditName, Law};
 use tc_base::{Hook, Point};
 
-/// The two places of a hook's tables in the store, each of 256 blocks, of which one is active: the hook's root names its tables. The
-/// writer keeps one for each hook.
+/// The two places of a hook's tables in the store, each of 256 blocks, of which one is active: the hook's
+/// root names its tables. The writer keeps one for each hook.
 #[derive(Clone, Copy, Debug)]
 pub struct HeadPair {
     hook: Hook,
@@ -41,10 +41,11 @@ impl HeadPair {
         self.active
     }
 
-    /// Puts tables into the place that isn't active, makes the one commit that names them, and makes that place the active one. The
-    /// commit carries the edit that `E` names, under its number.
+    /// Puts tables into the place that isn't active, makes the one commit that names them, and makes that
+    /// place the active one. The commit carries the edit that `E` names, under its number.
     ///
-    /// No block of the idle place may be in a chain that was named since the base, and the law must hold of all commits with this one.
+    /// No block of the idle place may be in a chain that was named since the base, and the law must hold of
+    /// all commits with this one.
     pub fn swap<L: Law, E: EditName<L::Entry>>(
         &mut self,
         writer: &mut Writer<L>,
@@ -53,17 +54,26 @@ impl HeadPair {
         edit: Point,
     )
         requires store { IsSeatOf store.now writer.old.place }
-        requires shape { (store.now.shape.words ≡ BLOCK_WORDS) × (BLOCKS ≤ store.now.shape.blocks) × (3 ≤ store.now.shape.roots) }
+        requires shape { (store.now.shape.words ≡ BLOCK_WORDS) × (BLOCKS ≤ store.now.shape.blocks)
+            × (3 ≤ store.now.shape.roots) }
         requires few { length tables.now ≤ TABLES }
         requires storable { All IsStorableTable tables.now }
         requires idle { (at : ℕ) → at < TABLES
-            → IsUnnamed (base_of (sheet_of writer.old.place)) (seen_by writer.old.place) (first_block_of self.old.hook (other_place self.old.active) + at) }
-        requires lawful { L.keeps (seen_by writer.old.place ++ swap_commit self.old.hook (other_place self.old.active) tables.now edit E.edit ∷ []) (base_of (sheet_of writer.old.place)) }
+            → IsUnnamed (base_of (sheet_of writer.old.place)) (seen_by writer.old.place)
+            (first_block_of self.old.hook (other_place self.old.active) + at) }
+        requires lawful { L.keeps (seen_by writer.old.place
+            ++ swap_commit self.old.hook (other_place self.old.active) tables.now edit E.edit ∷ [])
+            (base_of (sheet_of writer.old.place)) }
         ensures store { IsSeatOf store.now writer.new.place }
-        ensures seen { seen_by writer.new.place ≡ seen_by writer.old.place ++ swap_commit self.old.hook (other_place self.old.active) tables.now edit E.edit ∷ [] }
+        ensures seen { seen_by writer.new.place ≡ seen_by writer.old.place
+            ++ swap_commit self.old.hook (other_place self.old.active) tables.now edit E.edit ∷ [] }
         ensures sheet { IsSameButCells (sheet_of writer.old.place) (sheet_of writer.new.place) }
-        ensures others { (other : ℕ) → ((at : ℕ) → at < TABLES → other ≢ first_block_of self.old.hook (other_place self.old.active) + at) → other < store.now.shape.blocks
-            → block_words store.now.shape (sheet_of writer.new.place).cells other ≡ block_words store.now.shape (sheet_of writer.old.place).cells other }
+        ensures others { (other : ℕ)
+            → ((at : ℕ) → at < TABLES
+            → other ≢ first_block_of self.old.hook (other_place self.old.active) + at)
+            → other < store.now.shape.blocks
+            → block_words store.now.shape (sheet_of writer.new.place).cells other
+            ≡ block_words store.now.shape (sheet_of writer.old.place).cells other }
         ensures active { self.new.active ≡ other_place self.old.active }
         ensures hook { self.new.hook ≡ self.old.hook }
     {

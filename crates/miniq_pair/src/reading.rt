@@ -39,10 +39,12 @@ fn push_table(into: &mut HeadRoom, table: &StoredTable)
     }
 }
 
-/// Puts the tables of a hook into the room, in their order, with the slots of their masks, and answers the point from which on they are the hook's.
+/// Puts the tables of a hook into the room, in their order, with the slots of their masks, and answers the
+/// point from which on they are the hook's.
 ///
-/// They are the tables that the hook's root names at the end of what the reader has then seen, and the point is that root's
-/// stamp. Each table costs the loads of a block, and the root one; the reader's seat counts them, and `steps` counts the same.
+/// They are the tables that the hook's root names at the end of what the reader has then seen, and the point
+/// is that root's stamp. Each table costs the loads of a block, and the root one; the reader's seat counts
+/// them, and `steps` counts the same.
 pub fn head<L: HeadLaw, M: Ledger>(
     reader: &mut Reader<L>,
     store: &Store<L>,
@@ -58,9 +60,11 @@ pub fn head<L: HeadLaw, M: Ledger>(
     ensures longer { IsPrefix (seen_by reader.old.place) (seen_by reader.new.place) }
     ensures lawful { L.keeps (seen_by reader.new.place) (floor_start reader.new.place) }
     ensures stamp { result ≡ (root_of (seen_by reader.new.place) (head_root hook)).stamp }
-    ensures loads { loads_of reader.new.place ≡ loads_of reader.old.place + 1 + block_words * length into.new.tables }
+    ensures loads { loads_of reader.new.place
+        ≡ loads_of reader.old.place + 1 + block_words * length into.new.tables }
     ensures steps { steps.new + loads_of reader.old.place ≡ steps.old + loads_of reader.new.place }
-    ensures told { HeadTold (λ k. L.heads (seen_by reader.new.place) k hook) (seen_by reader.new.place) hook into.new.tables result }
+    ensures told { HeadTold (λ k. L.heads (seen_by reader.new.place) k hook)
+        (seen_by reader.new.place) hook into.new.tables result }
 {
     into.clear();
     let (mut walk, stamp) = Walk::along(reader, store, HEAD_ROOTS + hook_number(hook), steps);

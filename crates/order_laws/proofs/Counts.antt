@@ -1,5 +1,5 @@
--- Numbers that are read off all rows don't depend on the order: how many tables and masks there are, how often an action is named,
--- the lowest pref and the lowest free handle.
+-- Numbers that are read off all rows don't depend on the order: how many tables and masks there are, how
+-- often an action is named, the lowest pref and the lowest free handle.
 use Rattle.std.proofs.Common.{◌≡◌, ℕ, ◌==◌, Bool, true, false, cond, ◌||◌, List, [], ◌∷◌, length, map, refl, sym, ◌∙◌, ap, suc, subst, eqb-true, eq-eqb, ◌+◌, ◌++◌, arith, zero, Option, Some, None}
 use Rattle.std.specs.List.{list_any, count_by}
 use Rattle.std.specs.Prelude.{filter}

@@ -1,5 +1,5 @@
--- Facts of each row and of each two rows hold in another order too. The first row that passes a test may be another one there, but
--- what is read of it is the same, where two rows that pass have the same of it.
+-- Facts of each row and of each two rows hold in another order too. The first row that passes a test may be
+-- another one there, but what is read of it is the same, where two rows that pass have the same of it.
 use Rattle.std.proofs.Common.{List, sym, ◌≡◌, ℕ, Bool, true, false, ◌==◌, ◌&&◌, not, cond, Option, Some, refl, ◌∙◌, ap, eqb-true}
 use Rattle.filter_state.specs.States.{Row}
 use Rattle.filter_state.specs.Sound.{Each, EachPair, GoTogether}

@@ -4,7 +4,8 @@
 -- own most (MAXIMUM_SNAPLEN). Which fault comes first is this project's own: from left to right, and in a
 -- record its captured length before its bytes.
 use Rattle.pcap_io.specs.declared.layout.TheConstants.{PACKET_MAX}
-use Rattle.std.specs.Prelude.{◌≡◌, ◌≢◌, ◌⊎◌, ℕ, ◌+◌, ◌<◌, ◌≤◌, Bool, true, List, [], ◌∷◌, Some, None, length, take, drop, All}
+use Rattle.std.specs.Prelude.{◌≡◌, ◌≢◌, ◌⊎◌, ℕ, ◌+◌, ◌<◌, ◌≤◌, Bool, true, List, [], ◌∷◌, Some, None, length}
+use Rattle.std.specs.Prelude.{take, drop, All}
 use Rattle.pcap_io.specs.declared.capture.Packet.{Packet}
 use Rattle.pcap_io.specs.declared.capture.Capture.{Capture}
 use Rattle.pcap_io.specs.declared.fault.CaptureFault.{CaptureFault}
@@ -46,7 +47,9 @@ pub record IsCapture (bytes : List ℕ) (capture : Capture) : Type 0 where
 -- is above 262,144, or fewer bytes are left than it says
 abbrev pub PacketFails : Bool → List ℕ → ℕ → CaptureFault → Type 0
 PacketFails big bytes at (faults.CutRecord offset) = (offset ≡ at) × (at < length bytes)
-    × ((length bytes < at + 16) ⊎ ((number_in big 4 (drop (at + 8) bytes) ≤ PACKET_MAX) × (length bytes < at + 16 + number_in big 4 (drop (at + 8) bytes))))
+    × ((length bytes < at + 16)
+    ⊎ ((number_in big 4 (drop (at + 8) bytes) ≤ PACKET_MAX)
+    × (length bytes < at + 16 + number_in big 4 (drop (at + 8) bytes))))
 PacketFails big bytes at (faults.TooLong offset len) = (offset ≡ at) × (at + 16 ≤ length bytes)
     × (len ≡ number_in big 4 (drop (at + 8) bytes)) × (PACKET_MAX < len)
 PacketFails big bytes at fault = ⊥
@@ -71,10 +74,13 @@ FaultBehind big bytes fault = FailsBehind big bytes fault
 abbrev pub HasFault : List ℕ → CaptureFault → Type 0
 HasFault bytes (faults.CutHeader offset) = (length bytes < 24) × (offset ≡ length bytes)
 HasFault bytes faults.BadMagic = (24 ≤ length bytes) × (kind_of (number_in true 4 bytes) ≡ None)
-HasFault bytes faults.BadVersion = (24 ≤ length bytes) × (kind : Kind) × (kind_of (number_in true 4 bytes) ≡ Some kind)
+HasFault bytes faults.BadVersion = (24 ≤ length bytes) × (kind : Kind)
+    × (kind_of (number_in true 4 bytes) ≡ Some kind)
     × ((number_in kind.big 2 (drop 4 bytes) ≢ 2) ⊎ (number_in kind.big 2 (drop 6 bytes) ≢ 4))
-HasFault bytes faults.NotEthernet = (24 ≤ length bytes) × (kind : Kind) × (kind_of (number_in true 4 bytes) ≡ Some kind)
-    × (number_in kind.big 2 (drop 4 bytes) ≡ 2) × (number_in kind.big 2 (drop 6 bytes) ≡ 4) × (number_in kind.big 4 (drop 20 bytes) ≢ 1)
+HasFault bytes faults.NotEthernet = (24 ≤ length bytes) × (kind : Kind)
+    × (kind_of (number_in true 4 bytes) ≡ Some kind)
+    × (number_in kind.big 2 (drop 4 bytes) ≡ 2) × (number_in kind.big 2 (drop 6 bytes) ≡ 4)
+    × (number_in kind.big 4 (drop 20 bytes) ≢ 1)
 HasFault bytes faults.NoMemory = Unit {0}
 HasFault bytes fault = (kind : Kind) × IsHeader bytes kind.big kind.nanos × FailsBehind kind.big bytes fault
 

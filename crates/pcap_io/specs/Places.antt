@@ -7,12 +7,22 @@ use Rattle.pcap_io.specs.declared.packets.Place.{Place}
 -- the packet that a view lends
 abbrev pub packet_of : PacketView → Packet
 packet_of view =
-    record { seconds = view.seconds; fraction = view.fraction; original = view.original; bytes = view.bytes.now }
+    record {
+      seconds = view.seconds;
+      fraction = view.fraction;
+      original = view.original;
+      bytes = view.bytes.now;
+    }
 
 -- the packet at a place of the buffer
 abbrev pub packet_in : List ℕ → Place → Packet
 packet_in content place =
-    record { seconds = place.seconds; fraction = place.fraction; original = place.original; bytes = take place.length (drop place.start content) }
+    record {
+      seconds = place.seconds;
+      fraction = place.fraction;
+      original = place.original;
+      bytes = take place.length (drop place.start content);
+    }
 
 -- the place lies within the buffer
 abbrev pub IsWithin : List ℕ → Place → Type 0

@@ -16,17 +16,23 @@ magic_of false = 0xa1b2c3d4
 -- magic word, version 2 and 4, two reserved words, snap length, link type
 abbrev pub header_bytes : Bool → Bool → List ℕ
 header_bytes big nanos =
-    bytes_in big 4 (magic_of nanos) ++ (bytes_in big 2 2 ++ (bytes_in big 2 4 ++ (bytes_in big 4 0 ++ (bytes_in big 4 0 ++ (bytes_in big 4 SNAP_LENGTH ++ bytes_in big 4 1)))))
+    bytes_in big 4 (magic_of nanos)
+    ++ (bytes_in big 2 2
+    ++ (bytes_in big 2 4
+    ++ (bytes_in big 4 0 ++ (bytes_in big 4 0 ++ (bytes_in big 4 SNAP_LENGTH ++ bytes_in big 4 1)))))
 
 -- the four numbers before a packet's bytes: seconds, fraction, captured length, original length
 abbrev pub record_bytes : Bool → Packet → List ℕ
 record_bytes big p =
-    bytes_in big 4 p.seconds ++ (bytes_in big 4 p.fraction ++ (bytes_in big 4 (length p.bytes) ++ bytes_in big 4 p.original))
+    bytes_in big 4 p.seconds
+    ++ (bytes_in big 4 p.fraction ++ (bytes_in big 4 (length p.bytes) ++ bytes_in big 4 p.original))
 
 -- the four numbers, and then the bytes
 abbrev pub packet_bytes : Bool → Packet → List ℕ
 packet_bytes big p =
-    bytes_in big 4 p.seconds ++ (bytes_in big 4 p.fraction ++ (bytes_in big 4 (length p.bytes) ++ (bytes_in big 4 p.original ++ p.bytes)))
+    bytes_in big 4 p.seconds
+    ++ (bytes_in big 4 p.fraction
+    ++ (bytes_in big 4 (length p.bytes) ++ (bytes_in big 4 p.original ++ p.bytes)))
 
 -- the bytes that are written for a capture
 abbrev pub capture_bytes : Capture → List ℕ

@@ -7,6 +7,7 @@ ghost use Rattle.pcap_io.specs.declared.fault.CaptureFault.{CaptureFault};
 /// most. An empty function that carries this law.
 pub fn one_reading()
     ensures capture { (bytes : List ℕ) (c d : Capture) → IsCapture bytes c → IsCapture bytes d → c ≡ d }
-    ensures no_fault { (bytes : List ℕ) (c : Capture) (fault : CaptureFault) → IsCapture bytes c → IsFault bytes fault → ⊥ }
+    ensures no_fault { (bytes : List ℕ) (c : Capture) (fault : CaptureFault) → IsCapture bytes c
+        → IsFault bytes fault → ⊥ }
     ensures one_fault { (bytes : List ℕ) (f g : CaptureFault) → IsFault bytes f → IsFault bytes g → f ≡ g }
 {}

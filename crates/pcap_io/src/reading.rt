@@ -1,8 +1,10 @@
-ghost use Rattle.std.specs.Prelude.{◌≡◌, ◌+◌, ◌<◌, ◌≤◌, ℕ, length, drop, Bool, true, IfOk, IfErr, MatchResult};
+ghost use Rattle.std.specs.Prelude.{◌≡◌, ◌+◌, ◌<◌, ◌≤◌, ℕ, length, drop, Bool, true, IfOk, IfErr};
+ghost use Rattle.std.specs.Prelude.{MatchResult};
 ghost use Rattle.std.specs.Option.{option_map};
 ghost use Rattle.pcap_io.specs.Layout.{number_in, kind_of};
 ghost use Rattle.pcap_io.specs.Places.{packet_of};
-ghost use Rattle.pcap_io.specs.Captures.{IsCapture, IsHeader, IsPacketAt, StandFrom, PacketFault, FaultBehind, HasFault, AreShort};
+ghost use Rattle.pcap_io.specs.Captures.{IsCapture, IsHeader, IsPacketAt, StandFrom, PacketFault};
+ghost use Rattle.pcap_io.specs.Captures.{FaultBehind, HasFault, AreShort};
 
 use crate::layout::{HEADER, PACKET_MAX, RECORD};
 use crate::{Capture, CaptureFault, PacketView, Packets};
@@ -40,7 +42,8 @@ fn u32_at(big: bool, bytes: &[u8], at: usize) -> u32
 #[tactic(auto, unfolding(crate::specs::Layout::kind_of))]
 fn kind_at_front(bytes: &[u8]) -> Option<(bool, bool)>
     requires { 4 ≤ length bytes.now }
-    ensures { option_map (λ (p : Bool × Bool). record { big = p.0; nanos = p.1 }) result ≡ kind_of (number_in true 4 bytes.now) }
+    ensures { option_map (λ (p : Bool × Bool). record { big = p.0; nanos = p.1 }) result
+        ≡ kind_of (number_in true 4 bytes.now) }
 {
     match BigEndian::read_u32(bytes) {
         0xa1b2_c3d4 => Some((true, false)),

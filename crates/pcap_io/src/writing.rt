@@ -78,7 +78,8 @@ fn record_of(big: bool, packet: PacketView<'_>) -> [u8; RECORD]
 fn put_packet(out: &mut Vec<u8>, big: bool, packet: PacketView<'_>) -> Result<(), AllocError>
     requires { length packet.bytes.now ≤ PACKET_MAX }
     ensures bytes { OnOk result (out.new.items ≡ out.old.items ++ packet_bytes big (packet_of packet.entry)) }
-    ensures stands { OnOk result (IsPacketAt big out.new.items (length out.old.items) (packet_of packet.entry)) }
+    ensures stands { OnOk result
+        (IsPacketAt big out.new.items (length out.old.items) (packet_of packet.entry)) }
 {
     out.extend_from_slice(&record_of(big, packet))?;
     out.extend_from_slice(packet.bytes)?;

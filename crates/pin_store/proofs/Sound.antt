@@ -1,4 +1,5 @@
--- What holds of a sheet goes on to hold as blocks are filled, commits are made, epochs begin and pins are loaded.
+-- What holds of a sheet goes on to hold as blocks are filled, commits are made, epochs begin and pins are
+-- loaded.
 use Rattle.std.proofs.Common.{◌≡◌, ℕ, zero, suc, ◌+◌, ◌<◌, ◌≤◌, inl, inr, Bool, true, false, cond, List, [], ◌∷◌, ◌++◌, length, get_or, set, refl, ap, sym, ◌∙◌, subst, arith, length-append, length-set, get_or-set_other, get_or-set_same, le_refl, le_trans, zero-le}
 use mathlib.Core.Logic.{dite}
 use native.Mathlib.Decide.{ℕ_discrete}

@@ -1,4 +1,5 @@
--- What the contracts say of a store and of the seats of its writer, its readers and its receipts (this project's own).
+-- What the contracts say of a store and of the seats of its writer, its readers and its receipts (this
+-- project's own).
 use Rattle.std.specs.Prelude.{◌≡◌, ◌≢◌, ℕ, ◌%◌, List, [], Option, Some, None}
 use Rattle.atomic_table.specs.declared.shared.Seat.{Seat}
 use Rattle.atomic_table.specs.Seated.{TableId}

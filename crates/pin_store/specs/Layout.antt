@@ -1,12 +1,14 @@
--- Where the words of a store stand, and what they say (this project's own).
--- The words of the blocks come first, one block behind the other, then a word for each root, the epoch, and a pin for each reader.
-use Rattle.std.specs.Prelude.{◌≡◌, ℕ, zero, suc, ◌+◌, ◌*◌, ◌<◌, List, [], ◌∷◌, ◌++◌, length, map, take, drop, Option, Some, None}
+-- Where the words of a store stand, and what they say (this project's own). The words of the blocks come
+-- first, one block behind the other, then a word for each root, the epoch, and a pin for each reader.
+use Rattle.std.specs.Prelude.{◌≡◌, ℕ, zero, suc, ◌+◌, ◌*◌, ◌<◌, List, [], ◌∷◌, ◌++◌, length, map, take, drop}
+use Rattle.std.specs.Prelude.{Option, Some, None}
 use Rattle.store_history.specs.declared.history.Link.{Link}
 use Rattle.store_history.specs.declared.history.Commit.{Commit}
 use Rattle.store_history.specs.History.{numbered_edit}
 use Rattle.pin_store.specs.declared.shape.Shape.{Shape}
 
--- how many words the blocks have; word i of block b is word b * words + i of the store, and root r is word cell_count + r
+-- how many words the blocks have; word i of block b is word b * words + i of the store, and root r is word
+-- cell_count + r
 abbrev pub cell_count : Shape → ℕ
 cell_count s = s.blocks * s.words
 

@@ -1,7 +1,8 @@
--- The writer's notes of the readers' pins (this project's own).
--- A pin is odd exactly while its reader is inside, and it only rises. So an odd pin that stays the same says that the reader never
--- left, and a pin that is even, or another than before, says that the reader was outside in between.
-use Rattle.std.specs.Prelude.{◌≡◌, ◌≢◌, ℕ, ◌+◌, ◌≤◌, ◌<◌, ◌%◌, ◌==◌, ◌&&◌, ◌⊎◌, List, [], ◌∷◌, length, slice_index_or, min, Option, Some, None, Bool, true, false, if◌then◌else◌}
+-- The writer's notes of the readers' pins (this project's own). A pin is odd exactly while its reader is
+-- inside, and it only rises. So an odd pin that stays the same says that the reader never left, and a pin
+-- that is even, or another than before, says that the reader was outside in between.
+use Rattle.std.specs.Prelude.{◌≡◌, ◌≢◌, ℕ, ◌+◌, ◌≤◌, ◌<◌, ◌%◌, ◌==◌, ◌&&◌, ◌⊎◌, List, [], ◌∷◌, length}
+use Rattle.std.specs.Prelude.{slice_index_or, min, Option, Some, None, Bool, true, false, if◌then◌else◌}
 use Rattle.pin_store.specs.declared.view.Floor.{Floor}
 use Rattle.pin_store.specs.declared.note.Note.{Note}
 use Rattle.pin_store.specs.declared.note.Note.TheVariants.{Unknown, Seen, Clear}
@@ -18,7 +19,8 @@ all_clear (n ∷ ns) = is_clear n && all_clear ns
 -- the note after an odd pin was loaded; the count stands still at 2 ^ 64 - 1
 abbrev pub noted_odd : Note → ℕ → Note
 noted_odd Unknown pin = Seen pin 1
-noted_odd (Seen seen times) pin = if seen == pin then Seen seen (min (times + 1) 18446744073709551615) else Clear
+noted_odd (Seen seen times) pin = if seen == pin then Seen seen (min (times + 1) 18446744073709551615)
+    else Clear
 noted_odd Clear pin = Clear
 
 -- the note after a pin was loaded

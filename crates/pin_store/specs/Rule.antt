@@ -1,5 +1,7 @@
--- The store rule: what holds of the shared words and of what all seats know, between any two steps (this project's own).
-use Rattle.std.specs.Prelude.{◌≡◌, ℕ, ◌+◌, ◌*◌, ◌^◌, ◌<◌, ◌≤◌, ◌%◌, List, [], length, take, slice_index, Option, Some, None, true, All}
+-- The store rule: what holds of the shared words and of what all seats know, between any two steps (this
+-- project's own).
+use Rattle.std.specs.Prelude.{◌≡◌, ℕ, ◌+◌, ◌*◌, ◌^◌, ◌<◌, ◌≤◌, ◌%◌, List, [], length, take, slice_index}
+use Rattle.std.specs.Prelude.{Option, Some, None, true, All}
 use mathlib.Core.Option.{some}
 use mathlib.Core.List.{IsPrefix}
 use lib.ListN.{get_elem?}
@@ -28,7 +30,8 @@ pub record IsSoundFloor (sheet : Sheet) (f : Floor) : Type 0 where
   pub start_is : f.start ≡ start_of sheet f.epoch
 
 -- pin, floor and note of the reader with the number i + 1; a reader that is not made yet is outside
-pub record IsSoundReader (shape : Shape) (words : List ℕ) (sheet : Sheet) (i pin : ℕ) (floor : Option Floor) : Type 0 where
+pub record IsSoundReader (shape : Shape) (words : List ℕ) (sheet : Sheet) (i pin : ℕ)
+    (floor : Option Floor) : Type 0 where
   pub word : slice_index words (pin_at shape i) ≡ pin
   pub even : pin % 2 ≡ 0 → floor ≡ None
   pub floored : (f : Floor) → floor ≡ Some f → IsSoundFloor sheet f
@@ -36,9 +39,10 @@ pub record IsSoundReader (shape : Shape) (words : List ℕ) (sheet : Sheet) (i p
   pub unmade : sheet.made ≤ i → (pin ≡ 0) × (floor ≡ None)
 
 module _ {E : Type 0} where
-  -- what one seat knows is so: it has seen a beginning of the commits, the writer has seen all and knows the sheet,
-  -- and a reader knows its own pin and floor
-  pub record Knows (h : List (Commit E)) (writer : ℕ) (sheet : Sheet) (pin : ℕ → ℕ) (floor : ℕ → Option Floor) (owner : ℕ → ℕ)
+  -- what one seat knows is so: it has seen a beginning of the commits, the writer has seen all and knows the
+  -- sheet, and a reader knows its own pin and floor
+  pub record Knows (h : List (Commit E)) (writer : ℕ) (sheet : Sheet) (pin : ℕ → ℕ) (floor : ℕ → Option Floor)
+      (owner : ℕ → ℕ)
       (readers seat : ℕ) (v : View E) : Type 0 where
     pub sees : IsPrefix v.seen h
     pub keeps : All (λ seen. IsPrefix seen h) v.kept
@@ -47,9 +51,10 @@ module _ {E : Type 0} where
     pub reads : (i : ℕ) → v.number ≡ i + 1
         → (i < sheet.made) × (i < readers) × (owner i ≡ seat) × (v.pin ≡ pin i) × (v.floor ≡ floor i)
 
-  -- what holds of the words, the commits and the sheet, whatever the seats know: roots and epoch are as the commits
-  -- and the sheet say, and what is named since the base stands
-  pub record IsLaidOut (keeps : List (Commit E) → ℕ → Type 0) (shape : Shape) (words : List ℕ) (h : List (Commit E)) (sheet : Sheet) : Type 0 where
+  -- what holds of the words, the commits and the sheet, whatever the seats know: roots and epoch are as the
+  -- commits and the sheet say, and what is named since the base stands
+  pub record IsLaidOut (keeps : List (Commit E) → ℕ → Type 0) (shape : Shape) (words : List ℕ)
+      (h : List (Commit E)) (sheet : Sheet) : Type 0 where
     pub few : shape.blocks < 2 ^ 31
     pub wide : length words ≡ word_count shape
     pub cells : sheet.cells ≡ take (cell_count shape) words
@@ -60,8 +65,10 @@ module _ {E : Type 0} where
     pub lawful : keeps h (base_of sheet)
     pub sound : IsSoundSheet shape sheet (length h)
 
-  -- the store rule: there are a history, a sheet of the writer's, and a pin and a floor of each reader with all of the above
-  pub record IsKept (keeps : List (Commit E) → ℕ → Type 0) (shape : Shape) (s : State (Unit {0}) (View E)) : Type 0 where
+  -- the store rule: there are a history, a sheet of the writer's, and a pin and a floor of each reader with
+  -- all of the above
+  pub record IsKept (keeps : List (Commit E) → ℕ → Type 0) (shape : Shape)
+      (s : State (Unit {0}) (View E)) : Type 0 where
     pub history : List (Commit E)
     pub writer : ℕ
     pub sheet : Sheet
@@ -70,7 +77,8 @@ module _ {E : Type 0} where
     pub owner : ℕ → ℕ
     pub laid : IsLaidOut keeps shape s.words history sheet
     pub each_reader : (i : ℕ) → i < shape.readers → IsSoundReader shape s.words sheet i (pin i) (floor i)
-    pub each_seat : (seat : ℕ) (v : View E) → get_elem? s.views seat ≡ some v → Knows history writer sheet pin floor owner shape.readers seat v
+    pub each_seat : (seat : ℕ) (v : View E) → get_elem? s.views seat ≡ some v
+        → Knows history writer sheet pin floor owner shape.readers seat v
 
   -- the view of the writer of a new store, of which this many readers were made
   abbrev pub made_view : Shape → ℕ → View E

@@ -1,5 +1,7 @@
--- What the writer knows beside the commits: the words of the blocks, the epochs with their starts, and the notes (this project's own).
-use Rattle.std.specs.Prelude.{◌≡◌, ℕ, ◌+◌, ◌≤◌, [], ◌∷◌, ◌++◌, length, slice_index, slice_index_or, slice_set, replicate, true, false, if◌then◌else◌}
+-- What the writer knows beside the commits: the words of the blocks, the epochs with their starts, and the
+-- notes (this project's own).
+use Rattle.std.specs.Prelude.{◌≡◌, ℕ, ◌+◌, ◌≤◌, [], ◌∷◌, ◌++◌, length, slice_index, slice_index_or, slice_set}
+use Rattle.std.specs.Prelude.{replicate, true, false, if◌then◌else◌}
 use Rattle.pin_store.specs.declared.shape.Shape.{Shape}
 use Rattle.pin_store.specs.declared.note.Note.{Note}
 use Rattle.pin_store.specs.declared.note.Note.TheVariants.{Unknown}
@@ -32,7 +34,11 @@ opening_sheet shape = record {
 
 -- the sheet after a new epoch began, at this many commits
 abbrev pub bumped : Sheet → ℕ → Sheet
-bumped d commits = record d { epoch = d.epoch + 1; starts = d.starts ++ commits ∷ []; notes = replicate (length d.notes) Unknown }
+bumped d commits = record d {
+  epoch = d.epoch + 1;
+  starts = d.starts ++ commits ∷ [];
+  notes = replicate (length d.notes) Unknown;
+}
 
 -- the sheet after the pin of the reader with the number i + 1 was loaded
 -- where that was the last note to be cleared, the present epoch is the quiet one

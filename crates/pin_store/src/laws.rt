@@ -1,5 +1,6 @@
 //! The theorems of the store, as laws over every state that a store can be in.
-ghost use Rattle.std.specs.Prelude.{◌≡◌, ◌≢◌, ℕ, ◌+◌, ◌*◌, ◌%◌, ◌^◌, ◌<◌, ◌≤◌, List, [], ◌∷◌, ◌++◌, slice_get, replicate, Some, true, false};
+ghost use Rattle.std.specs.Prelude.{◌≡◌, ◌≢◌, ℕ, ◌+◌, ◌*◌, ◌%◌, ◌^◌, ◌<◌, ◌≤◌, List, [], ◌∷◌, ◌++◌};
+ghost use Rattle.std.specs.Prelude.{slice_get, replicate, Some, true, false};
 ghost use mathlib.Core.Option.{some};
 ghost use lib.ListN.{get_elem?};
 ghost use Rattle.atomic_table.specs.Table.{State, Me, Splits, Joins, opening};
@@ -12,23 +13,27 @@ ghost use Rattle.pin_store.specs.declared.view.Floor.{Floor};
 ghost use Rattle.pin_store.specs.Layout.{cell_count, epoch_at, pin_at, word_count, block_words};
 ghost use Rattle.pin_store.specs.Sheets.{base_of};
 ghost use Rattle.pin_store.specs.Rule.{IsKept, opening_view};
-ghost use Rattle.pin_store.specs.Kinds.{Fills, Commits, LoadsRoot, LoadsWord, Raises, LoadsEpoch, Bumps, LoadsPin, Meets, receipt_view, reader_view, counted_view, joined_view, spent_view, KeepsAtStore, KeepsAtLoad};
+ghost use Rattle.pin_store.specs.Kinds.{Fills, Commits, LoadsRoot, LoadsWord, Raises, LoadsEpoch, Bumps};
+ghost use Rattle.pin_store.specs.Kinds.{LoadsPin, Meets, receipt_view, reader_view, counted_view};
+ghost use Rattle.pin_store.specs.Kinds.{joined_view, spent_view, KeepsAtStore, KeepsAtLoad};
 ghost use Rattle.pin_store.specs.Calls.{IsUnnamed};
 
 use store_history::Law;
 
-/// The rule holds of a new store, and each kind of step keeps it, in whatever state the step meets the store. So it holds between any two
-/// steps of any threads, in every order.
+/// The rule holds of a new store, and each kind of step keeps it, in whatever state the step meets the store.
+/// So it holds between any two steps of any threads, in every order.
 ///
-/// Each clause is one kind of step: what the seat that makes it must know, and that the rule holds afterwards. A seat is cut in two for a
-/// receipt and for the next reader, which are two clauses.
+/// Each clause is one kind of step: what the seat that makes it must know, and that the rule holds
+/// afterwards. A seat is cut in two for a receipt and for the next reader, which are two clauses.
 pub fn steps_keep_the_rule<L: Law>()
     ensures new_store { (shape : Shape) → 0 < shape.words → word_count shape < 2 ^ 31
         → IsKept L.keeps shape (opening (replicate (word_count shape) 0) [] (opening_view shape)) }
     ensures fill { (shape : Shape) (slots seat : ℕ) (me : Me (Unit {0}) (View L.Entry)) (block i word : ℕ)
-        → me.0.writes ≡ true → block < shape.blocks → i < shape.words → IsUnnamed (base_of me.0.sheet) me.0.seen block
+        → me.0.writes ≡ true → block < shape.blocks → i < shape.words
+        → IsUnnamed (base_of me.0.sheet) me.0.seen block
         → KeepsAtStore L.keeps shape Fills slots seat me (block * shape.words + i) word }
-    ensures commit { (shape : Shape) (slots seat : ℕ) (me : Me (Unit {0}) (View L.Entry)) (c : Commit L.Entry) (word : ℕ)
+    ensures commit { (shape : Shape) (slots seat : ℕ) (me : Me (Unit {0}) (View L.Entry)) (c : Commit L.Entry)
+        (word : ℕ)
         → me.0.writes ≡ true → c.root < shape.roots → word ≡ word_of c.named
         → ((place : ℕ) (l : Link) → slice_get c.named.chain place ≡ Some l
         → (l.block < shape.blocks) × (l.words ≡ block_words shape me.0.sheet.cells l.block))
@@ -43,7 +48,8 @@ pub fn steps_keep_the_rule<L: Law>()
     ensures split_receipt { (shape : Shape) (seat : ℕ) (v : View L.Entry)
         → Splits (IsKept L.keeps shape) seat v v (receipt_view v) }
     ensures split_reader { (shape : Shape) (seat : ℕ) (v : View L.Entry)
-        → v.writes ≡ true → v.sheet.made < shape.readers → Splits (IsKept L.keeps shape) seat v (counted_view v) (reader_view v) }
+        → v.writes ≡ true → v.sheet.made < shape.readers
+        → Splits (IsKept L.keeps shape) seat v (counted_view v) (reader_view v) }
     ensures join { (shape : Shape) (seat : ℕ) (v : View L.Entry) (other : ℕ) (w : View L.Entry)
         → Joins (IsKept L.keeps shape) seat v other w (joined_view v w) spent_view }
     ensures meet { (shape : Shape) (slots seat : ℕ) (me : Me (Unit {0}) (View L.Entry)) (at : ℕ)
@@ -65,11 +71,13 @@ pub fn steps_keep_the_rule<L: Law>()
         → KeepsAtLoad L.keeps shape LoadsPin slots seat me (pin_at shape i) }
 {}
 
-/// A block that may be filled is in no chain that a reader inside may load: none that was named since the reader's floor, as far as the
-/// reader has seen.
+/// A block that may be filled is in no chain that a reader inside may load: none that was named since the
+/// reader's floor, as far as the reader has seen.
 pub fn filled_blocks_are_free<L: Law>()
-    ensures { (shape : Shape) (s : State (Unit {0}) (View L.Entry)) (kept : IsKept L.keeps shape s) (block : ℕ)
+    ensures { (shape : Shape) (s : State (Unit {0}) (View L.Entry)) (kept : IsKept L.keeps shape s)
+        (block : ℕ)
         → IsUnnamed (base_of kept.sheet) kept.history block
-        → (seat i : ℕ) (v : View L.Entry) (f : Floor) → get_elem? s.views seat ≡ some v → v.number ≡ i + 1 → v.floor ≡ Some f
+        → (seat i : ℕ) (v : View L.Entry) (f : Floor) → get_elem? s.views seat ≡ some v → v.number ≡ i + 1
+        → v.floor ≡ Some f
         → IsUnnamed f.start v.seen block }
 {}

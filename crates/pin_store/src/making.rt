@@ -19,7 +19,8 @@ use tc_base::NoMemory;
 
 /// A new store with its writer and its readers. All words are 0, and there are no commits.
 ///
-/// It has at least one root, one reader and one word a block, and fewer than 2^31 words in all. No other call takes memory.
+/// It has at least one root, one reader and one word a block, and fewer than 2^31 words in all. No other call
+/// takes memory.
 pub fn make_store<L: Law>(
     alloc: Global,
     shape: Shape,
@@ -28,9 +29,11 @@ pub fn make_store<L: Law>(
     requires some { (0 < shape.words) × (0 < shape.roots) × (0 < shape.readers) }
     ensures shape { IfOk result (λ made. made.0.shape ≡ shape) }
     ensures writer { IfOk result (λ made. IsSeatOf made.0 made.1.place × (seen_by made.1.place ≡ [])) }
-    ensures sheet { IfOk result (λ made. sheet_of made.1.place ≡ record (opening_sheet shape) { made = shape.readers }) }
+    ensures sheet { IfOk result (λ made. sheet_of made.1.place
+        ≡ record (opening_sheet shape) { made = shape.readers }) }
     ensures readers { IfOk result (λ made. All (λ r. IsNewReader made.0 r.place) made.2.left.items) }
-    ensures numbers { IfOk result (λ made. map (λ r. number_of r.place) made.2.left.items ≡ numbers_to shape.readers) }
+    ensures numbers { IfOk result (λ made. map (λ r. number_of r.place) made.2.left.items
+        ≡ numbers_to shape.readers) }
 {
     let count = shape.epoch_at() + 1 + shape.readers as usize;
     let zeros = vec![in alloc; 0u64; count]?;

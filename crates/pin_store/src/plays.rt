@@ -1,5 +1,6 @@
 //! What each kind of step tells of the seat that makes it.
-ghost use Rattle.pin_store.specs.Kinds.{Fills, Commits, LoadsRoot, LoadsWord, Raises, LoadsEpoch, Bumps, LoadsPin, Meets};
+ghost use Rattle.pin_store.specs.Kinds.{Fills, Commits, LoadsRoot, LoadsWord, Raises, LoadsEpoch, Bumps};
+ghost use Rattle.pin_store.specs.Kinds.{LoadsPin, Meets};
 
 use crate::view::View;
 use atomic_table::{Join, Play, Split};

@@ -12,8 +12,8 @@ use store_history::Law;
 
 /// One of a store's readers. It may be sent to any thread, and is used by one at a time.
 ///
-/// Contracts see its seat: what it has seen, its number, its pin, how many words of roots and of blocks it has loaded, and its floor,
-/// which it has exactly while it is inside.
+/// Contracts see its seat: what it has seen, its number, its pin, how many words of roots and of blocks it
+/// has loaded, and its floor, which it has exactly while it is inside.
 #[derive(Drop)]
 pub struct Reader<L: Law> {
     pub place: Place<L>,
@@ -31,7 +31,8 @@ impl<L: Law> Reader<L> {
     ghost use Rattle.store_history.specs.declared.history.Link.{Link};
     ghost use Rattle.store_history.specs.History.{root_of, first_block, IsNamed, IsLinked};
     ghost use Rattle.pin_store.specs.Layout.{IsInShape};
-    ghost use Rattle.pin_store.specs.Calls.{seen_by, number_of, pin_of, floor_of, floor_start, loads_of, IsOutside, IsInside, IsSeatOf, IsSameReader, IsSameButLoads};
+    ghost use Rattle.pin_store.specs.Calls.{seen_by, number_of, pin_of, floor_of, floor_start, loads_of};
+    ghost use Rattle.pin_store.specs.Calls.{IsOutside, IsInside, IsSeatOf, IsSameReader, IsSameButLoads};
 
     // A reader that was never inside.
     pub(crate) fn new(place: Place<L>, number: u32) -> Reader<L>
@@ -54,17 +55,19 @@ impl<L: Law> Reader<L> {
         self.number
     }
 
-    /// Goes inside. What roots name from now on stands until `leave`. The reader has then seen every commit that there was as its
-    /// epoch began.
+    /// Goes inside. What roots name from now on stands until `leave`. The reader has then seen every commit
+    /// that there was as its epoch began.
     ///
-    /// These are two steps, the pin's and the load of the epoch. A reader that entered 2^62 times can't enter again.
+    /// These are two steps, the pin's and the load of the epoch. A reader that entered 2^62 times can't enter
+    /// again.
     pub fn enter(&mut self, store: &Store<L>)
         requires store { IsSeatOf store.now self.old.place }
         requires outside { IsOutside self.old.place }
         requires few { pin_of self.old.place < 2 ^ 63 }
         ensures store { IsSeatOf store.now self.new.place }
         ensures inside { IsInside self.new.place }
-        ensures pin { (number_of self.new.place ≡ number_of self.old.place) × (pin_of self.new.place ≡ pin_of self.old.place + 1) }
+        ensures pin { (number_of self.new.place ≡ number_of self.old.place)
+            × (pin_of self.new.place ≡ pin_of self.old.place + 1) }
         ensures longer { IsPrefix (seen_by self.old.place) (seen_by self.new.place) }
         ensures recent { floor_start self.new.place ≤ length (seen_by self.new.place) }
         ensures loads { loads_of self.new.place ≡ loads_of self.old.place }
@@ -78,13 +81,15 @@ impl<L: Law> Reader<L> {
         store.words.shared.load::<LoadEpoch>(place, epoch_at);
     }
 
-    /// Goes outside. The reader holds no chain any more, and blocks that it could have read may be filled again.
+    /// Goes outside. The reader holds no chain any more, and blocks that it could have read may be filled
+    /// again.
     pub fn leave(&mut self, store: &Store<L>)
         requires store { IsSeatOf store.now self.old.place }
         requires inside { IsInside self.old.place }
         ensures store { IsSeatOf store.now self.new.place }
         ensures outside { IsOutside self.new.place }
-        ensures pin { (number_of self.new.place ≡ number_of self.old.place) × (pin_of self.new.place ≡ pin_of self.old.place + 1) }
+        ensures pin { (number_of self.new.place ≡ number_of self.old.place)
+            × (pin_of self.new.place ≡ pin_of self.old.place + 1) }
         ensures seen { seen_by self.new.place ≡ seen_by self.old.place }
         ensures floor { floor_of self.new.place ≡ None }
         ensures loads { loads_of self.new.place ≡ loads_of self.old.place }
@@ -96,8 +101,8 @@ impl<L: Law> Reader<L> {
         *pin = raised;
     }
 
-    /// What the root names at the end of what the reader has then seen. The law holds of these commits, with the start of the reader's
-    /// floor as its base. Counts one load.
+    /// What the root names at the end of what the reader has then seen. The law holds of these commits, with
+    /// the start of the reader's floor as its base. Counts one load.
     pub fn load_root<M: Ledger>(
         &mut self,
         store: &Store<L>,
@@ -115,7 +120,8 @@ impl<L: Law> Reader<L> {
         ensures first { result.first ≡ first_block (root_of (seen_by self.new.place) root).chain }
         ensures stamp { result.stamp ≡ (root_of (seen_by self.new.place) root).stamp }
         ensures linked { IsLinked store.now.shape.words (root_of (seen_by self.new.place) root).chain }
-        ensures sized { (l : Link) → IsNamed (floor_start self.new.place) (seen_by self.new.place) l → IsInShape store.now.shape l }
+        ensures sized { (l : Link) → IsNamed (floor_start self.new.place) (seen_by self.new.place) l
+            → IsInShape store.now.shape l }
         ensures loads { loads_of self.new.place ≡ loads_of self.old.place + 1 }
         ensures steps { steps.new ≡ steps.old + 1 }
     {
@@ -125,8 +131,8 @@ impl<L: Law> Reader<L> {
         RootWord::of_word(word)
     }
 
-    /// A word of a block that is in some chain which was named since the reader's floor, as far as the reader has seen. It is the word
-    /// of that chain, and of every such chain that has the block. Counts one load.
+    /// A word of a block that is in some chain which was named since the reader's floor, as far as the reader
+    /// has seen. It is the word of that chain, and of every such chain that has the block. Counts one load.
     pub fn load_word<M: Ledger>(
         &mut self,
         store: &Store<L>,
@@ -137,10 +143,12 @@ impl<L: Law> Reader<L> {
         requires store { IsSeatOf store.now self.old.place }
         requires within { (block < store.now.shape.blocks) × (word < store.now.shape.words) }
         requires inside { IsInside self.old.place }
-        requires told { (l : Link) × IsNamed (floor_start self.old.place) (seen_by self.old.place) l × (l.block ≡ block) }
+        requires told { (l : Link) × IsNamed (floor_start self.old.place) (seen_by self.old.place) l
+            × (l.block ≡ block) }
         ensures store { IsSeatOf store.now self.new.place }
         ensures same { IsSameButLoads self.old.place self.new.place }
-        ensures word { (l : Link) → IsNamed (floor_start self.old.place) (seen_by self.old.place) l → l.block ≡ block
+        ensures word { (l : Link) → IsNamed (floor_start self.old.place) (seen_by self.old.place) l
+            → l.block ≡ block
             → result ≡ slice_index l.words word }
         ensures loads { loads_of self.new.place ≡ loads_of self.old.place + 1 }
         ensures steps { steps.new ≡ steps.old + 1 }
@@ -150,7 +158,8 @@ impl<L: Law> Reader<L> {
         store.words.shared.load::<LoadWord>(&mut self.place, at)
     }
 
-    /// The reader has then seen all that the receipt has seen, and loses nothing of what it had seen. It may be inside or outside.
+    /// The reader has then seen all that the receipt has seen, and loses nothing of what it had seen. It may
+    /// be inside or outside.
     pub fn learn(&mut self, store: &Store<L>, receipt: Receipt<L>)
         requires store { IsSeatOf store.now self.old.place }
         requires receipt { IsSeatOf store.now receipt.place }

@@ -1,4 +1,5 @@
-//! What a root's word says: the first block's number plus 1, or 0, in the low half, and the stamp in the high half.
+//! What a root's word says: the first block's number plus 1, or 0, in the low half, and the stamp in the high
+//! half.
 ghost use Rattle.std.specs.Prelude.{◌≡◌, ◌+◌, ◌*◌, ◌/◌, ◌%◌, ◌^◌, ◌<◌, ◌≤◌};
 ghost use Rattle.pin_store.specs.Layout.{first_of, block_in};
 

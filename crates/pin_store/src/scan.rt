@@ -10,7 +10,8 @@ use crate::note::Note;
 pub enum Scan {
     /// No reader is inside that entered before the present epoch began.
     Quiet,
-    /// The least reader that may have been inside since before the present epoch, with the odd pin that this scan loaded.
+    /// The least reader that may have been inside since before the present epoch, with the odd pin that this
+    /// scan loaded.
     Pinned { reader: u32, pin: u64 },
 }
 

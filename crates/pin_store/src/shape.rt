@@ -4,8 +4,8 @@ ghost use Rattle.pin_store.specs.Layout.{cell_count, epoch_at, pin_at, word_coun
 
 /// The numbers of a store's parts. Blocks, words and roots are numbered from 0, readers from 1.
 ///
-/// The store is a row of `blocks * words + roots + 1 + readers` words of 64 bits: the blocks, one behind the other, then the roots, the
-/// epoch, and a pin for each reader.
+/// The store is a row of `blocks * words + roots + 1 + readers` words of 64 bits: the blocks, one behind the
+/// other, then the roots, the epoch, and a pin for each reader.
 #[derive(Clone, Copy, Debug, PartialEq, Eq)]
 pub struct Shape {
     pub blocks: u32,

@@ -4,8 +4,8 @@ ghost use Rattle.std.specs.Prelude.{◌≡◌, ◌+◌, ◌<◌};
 use std::marker::Model;
 use std::sync::ledger::{Blank, Book, Ledger, Share};
 
-/// How many loads were made with it, in the ledger `M`. It exists for bounds in contracts: it takes no bytes, and counting does
-/// nothing when the program runs.
+/// How many loads were made with it, in the ledger `M`. It exists for bounds in contracts: it takes no bytes,
+/// and counting does nothing when the program runs.
 #[derive(Drop)]
 pub struct Steps<M: Ledger> {
     book: Book<M>,

@@ -60,7 +60,8 @@ fn load_as<M: Ledger>(
     reader: &mut Reader<Anything>,
     blank: Blank,
 ) -> (RootWord, Option<u64>)
-    requires store { IsSeatOf store.now reader.old.place × (2 < store.now.shape.roots) × (0 < store.now.shape.words) }
+    requires store { IsSeatOf store.now reader.old.place × (2 < store.now.shape.roots)
+        × (0 < store.now.shape.words) }
     requires inside { IsInside reader.old.place }
     requires blank { (blank.name ≡ M.name) × (blank.parts ≡ M.parts) × (0 < M.parts) }
     ensures store { IsSeatOf store.now reader.new.place }

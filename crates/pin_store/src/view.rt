@@ -27,7 +27,8 @@ pub struct Sheet {
     pub made: u64,
 }
 
-/// What one seat knows. All kinds of seat have this one view, so that cutting a view in two and joining two are plain functions.
+/// What one seat knows. All kinds of seat have this one view, so that cutting a view in two and joining two
+/// are plain functions.
 pub struct View<E> {
     pub shape: Shape,
     /// The commits that it has seen, a beginning of all.

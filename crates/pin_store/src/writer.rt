@@ -16,8 +16,8 @@ use tc_base::Point;
 
 /// The writer of a store. There is one; it may be sent to any thread, and is used by one at a time.
 ///
-/// Contracts see its seat: it has seen all commits, and knows the words of all blocks, the epochs with their starts, and a note for each
-/// reader.
+/// Contracts see its seat: it has seen all commits, and knows the words of all blocks, the epochs with their
+/// starts, and a note for each reader.
 #[derive(Drop)]
 pub struct Writer<L: Law> {
     pub place: Place<L>,
@@ -30,12 +30,14 @@ pub struct Writer<L: Law> {
 }
 
 impl<L: Law> Writer<L> {
-    ghost use Rattle.std.specs.Prelude.{◌≢◌, ℕ, ◌+◌, ◌*◌, ◌^◌, ◌<◌, ◌≤◌, [], ◌∷◌, ◌++◌, slice_set, slice_index, All};
+    ghost use Rattle.std.specs.Prelude.{◌≢◌, ℕ, ◌+◌, ◌*◌, ◌^◌, ◌<◌, ◌≤◌, [], ◌∷◌, ◌++◌, slice_set};
+    ghost use Rattle.std.specs.Prelude.{slice_index, All};
     ghost use mathlib.Core.List.{IsPrefix};
     ghost use Rattle.store_history.specs.History.{IsLinked};
     ghost use Rattle.pin_store.specs.Layout.{block_words, links_of, commit_of};
     ghost use Rattle.pin_store.specs.Notes.{NotedFrom};
-    ghost use Rattle.pin_store.specs.Sheets.{base_of, note_at, scanned, bumped, IsSameButCells, IsSameButNotes, QuietAfter};
+    ghost use Rattle.pin_store.specs.Sheets.{base_of, note_at, scanned, bumped, IsSameButCells};
+    ghost use Rattle.pin_store.specs.Sheets.{IsSameButNotes, QuietAfter};
     ghost use Rattle.pin_store.specs.Calls.{seen_by, sheet_of, IsSeatOf, IsUnnamed};
     ghost use Rattle.pin_store.specs.Found.{FoundIn};
 
@@ -62,7 +64,8 @@ impl<L: Law> Writer<L> {
         ensures store { IsSeatOf store.now self.new.place }
         ensures seen { seen_by self.new.place ≡ seen_by self.old.place }
         ensures sheet { IsSameButCells (sheet_of self.old.place) (sheet_of self.new.place) }
-        ensures cells { (sheet_of self.new.place).cells ≡ slice_set (sheet_of self.old.place).cells (block * store.now.shape.words + at) word }
+        ensures cells { (sheet_of self.new.place).cells
+            ≡ slice_set (sheet_of self.old.place).cells (block * store.now.shape.words + at) word }
     {
         let cell = store.shape.word_at(block, at);
         store
@@ -71,7 +74,8 @@ impl<L: Law> Writer<L> {
             .store::<Fill>(&mut self.place, cell, word);
     }
 
-    /// Gives a block these words. No chain may have the block that was named since the base, so no reader inside can read it.
+    /// Gives a block these words. No chain may have the block that was named since the base, so no reader
+    /// inside can read it.
     pub fn fill(&mut self, store: &Store<L>, block: u32, words: &[u64])
         requires store { IsSeatOf store.now self.old.place }
         requires within { block < store.now.shape.blocks }
@@ -103,9 +107,14 @@ impl<L: Law> Writer<L> {
         requires root { root < store.now.shape.roots }
         requires within { All (λ b. b < store.now.shape.blocks) chain.now }
         requires own { C.commit.root ≡ root }
-        requires named { C.commit.named ≡ record { chain = links_of store.now.shape (sheet_of self.old.place).cells chain.now; stamp = stamp } }
+        requires named { C.commit.named
+            ≡ record {
+              chain = links_of store.now.shape (sheet_of self.old.place).cells chain.now;
+              stamp = stamp;
+            } }
         requires linked { IsLinked store.now.shape.words C.commit.named.chain }
-        requires lawful { L.keeps (seen_by self.old.place ++ C.commit ∷ []) (base_of (sheet_of self.old.place)) }
+        requires lawful { L.keeps (seen_by self.old.place ++ C.commit ∷ [])
+            (base_of (sheet_of self.old.place)) }
         ensures store { IsSeatOf store.now self.new.place }
         ensures seen { seen_by self.new.place ≡ seen_by self.old.place ++ C.commit ∷ [] }
         ensures sheet { sheet_of self.new.place ≡ sheet_of self.old.place }
@@ -118,10 +127,11 @@ impl<L: Law> Writer<L> {
             .store::<Make<C>>(&mut self.place, at, word);
     }
 
-    /// Makes one commit: the root names the chain of these blocks, with the words that they have, and the stamp. With a number in `edit`,
-    /// the commit carries the edit that `E` names, under this number.
+    /// Makes one commit: the root names the chain of these blocks, with the words that they have, and the
+    /// stamp. With a number in `edit`, the commit carries the edit that `E` names, under this number.
     ///
-    /// The last word of each block must link to the next one, and the law must hold of all commits with this one.
+    /// The last word of each block must link to the next one, and the law must hold of all commits with this
+    /// one.
     pub fn commit<E: EditName<L::Entry>>(
         &mut self,
         store: &Store<L>,
@@ -133,13 +143,18 @@ impl<L: Law> Writer<L> {
         requires store { IsSeatOf store.now self.old.place }
         requires root { root < store.now.shape.roots }
         requires within { All (λ b. b < store.now.shape.blocks) chain.now }
-        requires linked { IsLinked store.now.shape.words (links_of store.now.shape (sheet_of self.old.place).cells chain.now) }
+        requires linked { IsLinked store.now.shape.words
+            (links_of store.now.shape (sheet_of self.old.place).cells chain.now) }
         requires lawful { L.keeps
-            (seen_by self.old.place ++ commit_of store.now.shape (sheet_of self.old.place).cells root chain.now stamp edit E.edit ∷ [])
+            (seen_by self.old.place
+            ++ commit_of store.now.shape (sheet_of self.old.place).cells root chain.now stamp edit E.edit
+            ∷ [])
             (base_of (sheet_of self.old.place)) }
         ensures store { IsSeatOf store.now self.new.place }
         ensures seen { seen_by self.new.place
-            ≡ seen_by self.old.place ++ commit_of store.now.shape (sheet_of self.old.place).cells root chain.now stamp edit E.edit ∷ [] }
+            ≡ seen_by self.old.place
+            ++ commit_of store.now.shape (sheet_of self.old.place).cells root chain.now stamp edit E.edit
+            ∷ [] }
         ensures sheet { sheet_of self.new.place ≡ sheet_of self.old.place }
     {
         self.put::<Brand>(store, root, chain, stamp, edit);
@@ -151,7 +166,8 @@ impl<L: Law> Writer<L> {
         requires few { (sheet_of self.old.place).epoch < 2 ^ 62 }
         ensures store { IsSeatOf store.now self.new.place }
         ensures seen { seen_by self.new.place ≡ seen_by self.old.place }
-        ensures sheet { sheet_of self.new.place ≡ bumped (sheet_of self.old.place) (length (seen_by self.old.place)) }
+        ensures sheet { sheet_of self.new.place
+            ≡ bumped (sheet_of self.old.place) (length (seen_by self.old.place)) }
         ensures epoch { result ≡ (sheet_of self.new.place).epoch }
         ensures base { base_of (sheet_of self.new.place) ≡ base_of (sheet_of self.old.place) }
     {
@@ -184,7 +200,8 @@ impl<L: Law> Writer<L> {
 
     /// Loads the pin of each reader whose note isn't clear, once each, and notes it.
     ///
-    /// Quiet comes exactly where all notes are clear after this call. Then the present epoch is the quiet one, and the base is its start.
+    /// Quiet comes exactly where all notes are clear after this call. Then the present epoch is the quiet
+    /// one, and the base is its start.
     pub fn scan(&mut self, store: &Store<L>) -> Scan
         requires store { IsSeatOf store.now self.old.place }
         ensures store { IsSeatOf store.now self.new.place }
@@ -217,12 +234,14 @@ impl<L: Law> Writer<L> {
         }
     }
 
-    /// Tells the writer that what the reader has seen is a beginning of all commits, and leaves both as they are.
+    /// Tells the writer that what the reader has seen is a beginning of all commits, and leaves both as they
+    /// are.
     pub fn meet(&mut self, store: &Store<L>, reader: &mut Reader<L>)
         requires store { IsSeatOf store.now self.old.place }
         requires reader { IsSeatOf store.now reader.old.place }
         ensures store { IsSeatOf store.now self.new.place }
-        ensures same { (seen_by self.new.place ≡ seen_by self.old.place) × (sheet_of self.new.place ≡ sheet_of self.old.place) }
+        ensures same { (seen_by self.new.place ≡ seen_by self.old.place)
+            × (sheet_of self.new.place ≡ sheet_of self.old.place) }
         ensures reader { IsSeatOf store.now reader.new.place × (reader.new.place.me ≡ reader.old.place.me) }
         ensures met { IsPrefix (seen_by reader.old.place) (seen_by self.old.place) }
     {

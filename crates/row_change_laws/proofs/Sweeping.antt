@@ -1,4 +1,5 @@
--- Tables stay whole where a filter is taken out, since a mask or a table in which nothing is left goes with it.
+-- Tables stay whole where a filter is taken out, since a mask or a table in which nothing is left goes with
+-- it.
 use Rattle.std.proofs.Common.{◌≡◌, ℕ, zero, suc, Bool, true, false, cond, ◌⊎◌, inl, inr, List, [], ◌∷◌, refl, sym, ap, subst}
 use Rattle.std.proofs.lemmas.Bool.{false≢true}
 use Rattle.tc_base.specs.declared.hook.Hook.{Hook}

@@ -1,4 +1,5 @@
--- The first number that isn't used, where as many are looked at as are used: it is the lowest that isn't used.
+-- The first number that isn't used, where as many are looked at as are used: it is the lowest that isn't
+-- used.
 use Rattle.std.proofs.Common.{◌≡◌, ℕ, zero, suc, ◌+◌, ◌<◌, ◌≤◌, ◌==◌, Bool, true, false, cond, List, length, refl, sym, ◌∙◌, ap, arith, eqb-true}
 use Rattle.std.specs.List.{list_any}
 use Rattle.std.proofs.lemmas.Bool.{false≢true}

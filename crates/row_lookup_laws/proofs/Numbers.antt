@@ -1,4 +1,5 @@
--- How many different numbers a list of lists has, where each inner list has one number and no two have the same.
+-- How many different numbers a list of lists has, where each inner list has one number and no two have the
+-- same.
 use Rattle.std.proofs.Common.{◌≡◌, ℕ, suc, ◌==◌, Bool, true, false, cond, ◌||◌, List, [], ◌∷◌, ◌++◌, length, refl, sym, ◌∙◌, ap, eqb-true, eq-eqb}
 use Rattle.std.specs.List.{list_any, flat_map}
 use Rattle.std.proofs.lemmas.Bool.{false_from_ne_true}

@@ -1,4 +1,5 @@
--- The lists hold the rows in the order in which they are shown, and rows in another order of their masks are shown alike.
+-- The lists hold the rows in the order in which they are shown, and rows in another order of their masks are
+-- shown alike.
 use Rattle.std.proofs.Common.{◌≡◌, ◌∙◌, ℕ, ◌<◌, Bool, true, false, List, [], ◌∷◌, ◌++◌, refl, sym, ap, arith}
 use Rattle.std.specs.Prelude.{map, nat_lt}
 use Rattle.std.specs.List.{flat_map}

@@ -1,5 +1,5 @@
--- The order of the filters of a state (this project's own): ingress first, then by chain, pref and mask, and those of one mask as they
--- were accepted.
+-- The order of the filters of a state (this project's own): ingress first, then by chain, pref and mask, and
+-- those of one mask as they were accepted.
 use Rattle.std.specs.Prelude.{ℕ, ◌==◌, ◌&&◌, ◌||◌, nat_lt, Bool, true, false}
 use Rattle.tc_base.specs.declared.hook.Hook.{Hook}
 use Rattle.tc_base.specs.declared.hook.Hook.TheVariants as hooks

@@ -34,7 +34,8 @@ packets_in rounds = sum_by (λ (round : RoundRecord). length round.outcomes) rou
 abbrev pub passed_in : List RoundRecord → ℕ
 passed_in rounds = sum_by (λ (round : RoundRecord). passed_count round.outcomes) rounds
 
--- what the rounds came to: an event that is no accepted edit is a refused line, and a packet that didn't pass was dropped
+-- what the rounds came to: an event that is no accepted edit is a refused line, and a packet that didn't pass
+-- was dropped
 abbrev pub summary_of : List RoundRecord → Summary
 summary_of rounds = record {
   edits = edits_in rounds;

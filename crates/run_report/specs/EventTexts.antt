@@ -42,7 +42,8 @@ done_text dones.ActionGone = codes "action gone"
 -- ---- an event
 -- `edit K control C line L `
 unfoldable pub edit_place : ℕ → ℕ → ℕ → List ℕ
-edit_place edits control line = counted (codes "edit ") edits ++ counted (codes " control ") control ++ counted (codes " line ") line ++ codes " "
+edit_place edits control line = counted (codes "edit ") edits ++ counted (codes " control ") control
+    ++ counted (codes " line ") line ++ codes " "
 
 abbrev pub edit_line : ℕ → ℕ → ℕ → Done → List ℕ
 edit_line edits control line done = edit_place edits control line ++ done_text done ++ codes "\n"
@@ -50,13 +51,15 @@ edit_line edits control line done = edit_place edits control line ++ done_text d
 -- an event before which so many edits were accepted: an accepted edit counts itself, a refused line doesn't
 abbrev pub kind_line : ℕ → ℕ → ℕ → EventKind → List ℕ
 kind_line before control line (kinds.Accepted done) = edit_line (before + 1) control line done
-kind_line before control line (kinds.Refused refusal) = refused_line before control line (refusal_words refusal)
+kind_line before control line (kinds.Refused refusal) =
+    refused_line before control line (refusal_words refusal)
 kind_line before control line (kinds.Syntax word) = refused_line before control line (syntax_words word)
 
 abbrev pub event_line : ℕ → Event → List ℕ
 event_line before event = kind_line before event.control event.line event.kind
 
--- a line for each event of a round before which so many edits were accepted: the event at a place stands behind these edits and
--- the accepted ones of the events before it
+-- a line for each event of a round before which so many edits were accepted: the event at a place stands
+-- behind these edits and the accepted ones of the events before it
 abbrev pub event_lines : ℕ → List Event → List (List ℕ)
-event_lines before events = map (λ (placed : ℕ × Event). event_line (before + accepted_count (take placed.0 events)) placed.1) (enumerate_from 0 events)
+event_lines before events = map (λ (placed : ℕ × Event). event_line
+    (before + accepted_count (take placed.0 events)) placed.1) (enumerate_from 0 events)

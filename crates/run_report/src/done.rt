@@ -2,7 +2,8 @@
 ghost use Rattle.std.specs.Prelude.{◌≡◌, ◌++◌, codes, OnOk};
 ghost use Rattle.std.specs.List.{flat_map};
 ghost use Rattle.batch_walk.specs.Texts.{counted};
-ghost use Rattle.run_report.specs.EventTexts.{serials_text, filter_name, filter_text, action_made_text, done_text};
+ghost use Rattle.run_report.specs.EventTexts.{serials_text, filter_name, filter_text, action_made_text};
+ghost use Rattle.run_report.specs.EventTexts.{done_text};
 
 use crate::pieces::push_text;
 use batch_walk::push_count;
@@ -11,7 +12,8 @@ use line_texts::{push_handle, push_number};
 use std::alloc::AllocError;
 
 fn push_other_serials(out: &mut Vec<u8>, serials: &[u32]) -> Result<(), AllocError>
-    ensures { OnOk result (out.new.items ≡ out.old.items ++ flat_map (λ serial. counted (codes ",") serial) serials.now) }
+    ensures { OnOk result (out.new.items
+        ≡ out.old.items ++ flat_map (λ serial. counted (codes ",") serial) serials.now) }
 {
     for serial in serials {
         push_count(out, ",", u64::from(*serial))?;

@@ -59,7 +59,8 @@ fn accepted(event: &Event) -> u32
     u32::from(matches!(event.kind, EventKind::Accepted(_)))
 }
 
-/// Puts a line for each event of a round before which so many edits were accepted, and answers how many were accepted then.
+/// Puts a line for each event of a round before which so many edits were accepted, and answers how many were
+/// accepted then.
 pub(crate) fn push_events(out: &mut Vec<u8>, before: u32, events: &[Event]) -> Result<u32, NoMemory>
     requires { before + length events.now < 2 ^ 32 }
     ensures text { OnOk result (out.new.items ≡ out.old.items ++ joined (event_lines before events.now)) }

@@ -1,24 +1,27 @@
 //! What happened in a run, and the report that tells it.
 //!
-//! A run goes in rounds. In each round controls apply the lines of batches while workers walk the packets of a capture. A
-//! `RunRecord` is what the run came to, as plain data: for each round what became of each command line, in the order in which
-//! edits were accepted and lines refused, and how each packet's walk ended, with the worker that walked it and the point of each
-//! visit; and for each action that was ever made how often it ran. Whoever runs a job makes one, and whether it is lawful is said
-//! above this crate. The lists in it are types that contracts see as lists, so that a record is plain data in a clause.
+//! A run goes in rounds. In each round controls apply the lines of batches while workers walk the packets of
+//! a capture. A `RunRecord` is what the run came to, as plain data: for each round what became of each
+//! command line, in the order in which edits were accepted and lines refused, and how each packet's walk
+//! ended, with the worker that walked it and the point of each visit; and for each action that was ever made
+//! how often it ran. Whoever runs a job makes one, and whether it is lawful is said above this crate. The
+//! lists in it are types that contracts see as lists, so that a record is plain data in a clause.
 //!
-//! `report` gives the text of a record, which is defined as a list of lines, `report_lines` in `specs/Reports.antt`. An event's
-//! line has the number of edits that were accepted before it, with the edit itself where it was accepted: so these numbers tell the
-//! state to which an edit was applied, and a point names a state by the same number. A frame's line has its length, and not its
-//! bytes. The last line is `end`, by which a report that was cut off is known.
+//! `report` gives the text of a record, which is defined as a list of lines, `report_lines` in
+//! `specs/Reports.antt`. An event's line has the number of edits that were accepted before it, with the edit
+//! itself where it was accepted: so these numbers tell the state to which an edit was applied, and a point
+//! names a state by the same number. A frame's line has its length, and not its bytes. The last line is
+//! `end`, by which a report that was cut off is known.
 //!
-//! All lines grow in one buffer, one piece after the other, and its memory is all that is taken. The line of an event and that of a packet
-//! can also be had alone, from what they show (`push_event_line`, `push_packet_line`), for whoever compares a report line by line.
+//! All lines grow in one buffer, one piece after the other, and its memory is all that is taken. The line of
+//! an event and that of a packet can also be had alone, from what they show (`push_event_line`,
+//! `push_packet_line`), for whoever compares a report line by line.
 //!
-//! A round has as many outcomes as packets, so `Outcomes` keeps their frames, points and executions in three buffers that all share, and
-//! lends an outcome by its place. Contracts see the list of outcomes.
+//! A round has as many outcomes as packets, so `Outcomes` keeps their frames, points and executions in three
+//! buffers that all share, and lends an outcome by its place. Contracts see the list of outcomes.
 //!
-//! Records are plain data, which may go to any thread. `report` keeps nothing, and may be called by any thread that may read the
-//! record.
+//! Records are plain data, which may go to any thread. `report` keeps nothing, and may be called by any
+//! thread that may read the record.
 //!
 //! Not promised: that memory suffices, that a record is one of a run that happened, and how long a report is.
 #![tactic(auto)]

@@ -52,8 +52,8 @@ struct Row {
     executed: Span,
 }
 
-/// The outcomes of a round's packets, in the order of the capture. The frames of all of them lie in one buffer, and so do the points and
-/// the executions: one packet more takes no memory of its own.
+/// The outcomes of a round's packets, in the order of the capture. The frames of all of them lie in one
+/// buffer, and so do the points and the executions: one packet more takes no memory of its own.
 #[derive(Drop, Debug)]
 pub struct Outcomes {
     rows: Vec<Row>,
@@ -72,7 +72,8 @@ impl Model for Outcomes {
 
     ghost view = { λ o. outcomes_in o.bytes.items o.points.items o.executed.items o.rows.items };
 
-    ghost invariant = { λ o. Each (IsRowOf (length o.bytes.items) (length o.points.items) (length o.executed.items)) o.rows.items };
+    ghost invariant = { λ o. Each
+        (IsRowOf (length o.bytes.items) (length o.points.items) (length o.executed.items)) o.rows.items };
 }
 
 // The part of a list that a span names.

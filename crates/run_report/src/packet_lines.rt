@@ -3,7 +3,8 @@ ghost use Rattle.std.specs.Prelude.{◌≡◌, ◌++◌, codes, OnOk};
 ghost use Rattle.std.specs.List.{flat_map};
 ghost use Rattle.batch_walk.specs.Texts.{joined, counted};
 ghost use Rattle.run_report.specs.Kept.{outcome_seen};
-ghost use Rattle.run_report.specs.PacketTexts.{packet_name, points_text, shown_packet, packet_line, packet_lines};
+ghost use Rattle.run_report.specs.PacketTexts.{packet_name, points_text, shown_packet, packet_line};
+ghost use Rattle.run_report.specs.PacketTexts.{packet_lines};
 
 use crate::outcomes::{OutcomeView, Outcomes};
 use crate::pieces::push_text;
@@ -22,7 +23,8 @@ fn push_packet_name(out: &mut Vec<u8>, number: u64, worker: u32) -> Result<(), A
 }
 
 fn push_each_point(out: &mut Vec<u8>, points: &[Point]) -> Result<(), AllocError>
-    ensures { OnOk result (out.new.items ≡ out.old.items ++ flat_map (λ point. counted (codes " ") point) points.now) }
+    ensures { OnOk result (out.new.items
+        ≡ out.old.items ++ flat_map (λ point. counted (codes " ") point) points.now) }
 {
     for point in points {
         push_count(out, " ", u64::from(*point))?;
@@ -38,8 +40,9 @@ fn push_points(out: &mut Vec<u8>, points: &[Point]) -> Result<(), AllocError>
     push_each_point(out, points)
 }
 
-/// Puts the line of a packet by what it shows: its number in the capture, from 1, the worker that walked it, its verdict, its frame's length
-/// in bytes and its metadata as the walk left them, and the point of each visit in order.
+/// Puts the line of a packet by what it shows: its number in the capture, from 1, the worker that walked it,
+/// its verdict, its frame's length in bytes and its metadata as the walk left them, and the point of each
+/// visit in order.
 ///
 /// `AllocError`: memory was refused.
 pub fn push_packet_line(
@@ -51,7 +54,8 @@ pub fn push_packet_line(
     meta: Meta,
     points: &[Point],
 ) -> Result<(), AllocError>
-    ensures { OnOk result (out.new.items ≡ out.old.items ++ shown_packet number worker verdict length meta points.now) }
+    ensures { OnOk result (out.new.items
+        ≡ out.old.items ++ shown_packet number worker verdict length meta points.now) }
 {
     push_packet_name(out, number, worker)?;
     push_end(out, verdict, length, meta)?;

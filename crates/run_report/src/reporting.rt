@@ -17,7 +17,8 @@ use capture_walk::Count;
 use std::alloc::{AllocError, Global};
 use tc_base::NoMemory;
 
-// Puts the lines of a round before which so many edits were accepted, and answers how many were accepted then.
+// Puts the lines of a round before which so many edits were accepted, and answers how many were accepted
+// then.
 fn push_round(
     out: &mut Vec<u8>,
     number: u64,
@@ -25,7 +26,8 @@ fn push_round(
     round: &RoundRecord,
 ) -> Result<u32, NoMemory>
     requires { before + length round.now.events < 2 ^ 32 }
-    ensures text { OnOk result (out.new.items ≡ out.old.items ++ joined (round_lines number before round.now)) }
+    ensures text { OnOk result (out.new.items
+        ≡ out.old.items ++ joined (round_lines number before round.now)) }
     ensures edits { IfOk result (λ edits. edits ≡ before + accepted_count round.now.events) }
 {
     push_numbered_line(out, "round ", number)?;
@@ -64,10 +66,11 @@ fn push_counters(out: &mut Vec<u8>, counters: &[CounterLine]) -> Result<(), Allo
     Ok(())
 }
 
-/// The report of a run: a line that names the form, the lines of each round, a line for each counter, the summary, and `end`.
+/// The report of a run: a line that names the form, the lines of each round, a line for each counter, the
+/// summary, and `end`.
 ///
-/// There are fewer than 2^32 events and fewer than 2^64 packets in all rounds together, as a run has at most 262,144 command lines and
-/// 1,048,576 packets.
+/// There are fewer than 2^32 events and fewer than 2^64 packets in all rounds together, as a run has at most
+/// 262,144 command lines and 1,048,576 packets.
 ///
 /// `NoMemory`: memory was refused.
 pub fn report(alloc: Global, run: &RunRecord) -> Result<Vec<u8>, NoMemory>

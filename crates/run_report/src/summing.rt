@@ -42,9 +42,11 @@ fn add_round(summary: &mut Summary, round: &RoundRecord)
     requires events { summary.old.edits + summary.old.refused + length round.now.events < 2 ^ 64 }
     requires packets { summary.old.passed + summary.old.dropped + length round.now.outcomes < 2 ^ 64 }
     ensures edits { summary.new.edits ≡ summary.old.edits + accepted_count round.now.events }
-    ensures events { summary.new.edits + summary.new.refused ≡ summary.old.edits + summary.old.refused + length round.now.events }
+    ensures events { summary.new.edits + summary.new.refused
+        ≡ summary.old.edits + summary.old.refused + length round.now.events }
     ensures passed { summary.new.passed ≡ summary.old.passed + passed_count round.now.outcomes }
-    ensures packets { summary.new.passed + summary.new.dropped ≡ summary.old.passed + summary.old.dropped + length round.now.outcomes }
+    ensures packets { summary.new.passed + summary.new.dropped
+        ≡ summary.old.passed + summary.old.dropped + length round.now.outcomes }
 {
     let events = round.events.as_slice();
     let accepted = count_accepted(events);

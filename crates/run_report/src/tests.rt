@@ -13,8 +13,8 @@ use std::test::Fail;
 use tc_base::{NoMemory, Numbers};
 use walk_rules::Verdict;
 
-// A batch drops 10.0.0.1. The next round's batch lets 10.0.0.2 pass, and that edit is accepted between the first and the second visit
-// of a packet to 10.0.0.2.
+// A batch drops 10.0.0.1. The next round's batch lets 10.0.0.2 pass, and that edit is accepted between the
+// first and the second visit of a packet to 10.0.0.2.
 const REPORT: &[u8] = b"clsact report 1
 round 1
 edit 1 control 1 line 1 hooked

@@ -1,4 +1,5 @@
--- The rows of a state, apart from the actions that they name: some taken out, one put at the end, one given other actions.
+-- The rows of a state, apart from the actions that they name: some taken out, one put at the end, one given
+-- other actions.
 use Rattle.std.proofs.Common.{◌≡◌, ℕ, ◌<◌, ◌≤◌, ◌==◌, ◌⊎◌, inl, inr, Bool, true, false, cond, if◌then◌else◌, ◌&&◌, List, [], ◌∷◌, ◌++◌, length, map, refl, sym, ◌∙◌, ap, subst, arith, length-append}
 use Rattle.std.specs.Prelude.{filter}
 use Rattle.std.specs.List.{list_any}

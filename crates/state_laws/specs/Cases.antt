@@ -62,4 +62,5 @@ says before edit = said (answered before edit)
 -- the serial, index, references and binds of each live action
 abbrev pub counts_of : List Action → List (List ℕ)
 counts_of [] = []
-counts_of (action ∷ actions) = (action.serial ∷ action.index ∷ action.references ∷ action.binds ∷ []) ∷ counts_of actions
+counts_of (action ∷ actions) = (action.serial ∷ action.index ∷ action.references ∷ action.binds ∷ [])
+    ∷ counts_of actions

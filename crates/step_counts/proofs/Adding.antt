@@ -17,7 +17,8 @@ use Rattle.step_counts.proofs.Views.{sum_set, sum_split, sum_join, sum_alone, se
 wraps : (t k n : ℕ) → n ≡ t % 18446744073709551616 → (n + k) % 18446744073709551616 ≡ (t + k) % 18446744073709551616
 wraps t k n e = omega arith
 
--- where a word grows by k, and with it the part of one seat, each word is the sum of what all seats added to it
+-- where a word grows by k, and with it the part of one seat, each word is the sum of what all seats added to
+-- it
 sums_grow : (word_of : ℕ → ℕ) (added : ℕ → Tally → ℕ) (words : List ℕ) (vs : List Tally) (id : ℕ) (v w : Tally) (c k : ℕ) → get_elem? vs id ≡ some v → c < length words
     → ((s : ℕ) → word_of s ≡ c → added s w ≡ added s v + k) → ((s : ℕ) → word_of s ≢ c → added s w ≡ added s v)
     → AreSums word_of added words vs → AreSums word_of added (set words c ((get_or words c 0 + k) % 18446744073709551616)) (set vs id w)

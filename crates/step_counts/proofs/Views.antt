@@ -1,4 +1,5 @@
--- Facts and sums over the views of all seats, and what becomes of them where a view changes, is cut in two or takes in another.
+-- Facts and sums over the views of all seats, and what becomes of them where a view changes, is cut in two or
+-- takes in another.
 use Rattle.std.proofs.Common.{◌≡◌, ◌≢◌, ℕ, zero, suc, ◌+◌, ◌*◌, ◌<◌, ◌≤◌, ⊎_elim, List, [], ◌∷◌, ◌++◌, length, get_or, set, refl, ap, sym, ◌∙◌, subst, arith}
 use mathlib.Core.Option.{some, some-injective, some-ne-none}
 use lib.ListN.{get_elem?}

@@ -2,7 +2,8 @@
 use Rattle.std.specs.Prelude.{◌≡◌, ℕ, ◌+◌, List, [], ◌∷◌, ◌++◌}
 use Rattle.atomic_table.specs.Seated.{TableId}
 
--- a seat: its making, how many seats were made there, how many shares it holds, and its deeds, which are those of its thread and of all seats that were given back to it
+-- a seat: its making, how many seats were made there, how many shares it holds, and its deeds, which are
+-- those of its thread and of all seats that were given back to it
 pub record Holding (Deed : Type 0) : Type 0 where
   pub making : TableId
   pub seats : ℕ
@@ -26,7 +27,10 @@ module _ {Deed : Type 0} where
 
   -- the seat after another was given back to it, with its shares and its deeds
   abbrev pub with_seat : Holding Deed → Holding Deed → Holding Deed
-  with_seat given seat = record seat { shares = seat.shares + given.shares; deeds = seat.deeds ++ given.deeds }
+  with_seat given seat = record seat {
+    shares = seat.shares + given.shares;
+    deeds = seat.deeds ++ given.deeds;
+  }
 
   -- every other seat was given back
   abbrev pub HoldsAll : Holding Deed → Type 0

@@ -111,7 +111,8 @@ fn cut_seats(
 ) -> Result<ClaimSeats, NoMemory>
     requires making { (origin.table_id ≡ word.now.shared.table_id) × (word.now.shared.table_id.words ≡ 1) }
     requires whole { origin.me ≡ (hand seats seats [], []) }
-    ensures { IfOk result (λ rest. rest ≡ record { making = word.now.shared.table_id; seats = seats; left = seats }) }
+    ensures { IfOk result (λ rest. rest
+        ≡ record { making = word.now.shared.table_id; seats = seats; left = seats }) }
 {
     let mut left = Vec::with_capacity(alloc, seats as usize)?;
     for _made in 0..seats {

@@ -72,15 +72,16 @@ impl Join<Tally> for Merge {
     ghost use Rattle.std.specs.Prelude.{[], ◌+◌, ◌++◌};
     ghost use Rattle.step_counts.specs.Counters.{tally};
 
-    ghost both = { λ into seat. tally into.seats (into.shares + seat.shares) (into.counted ++ seat.counted) (into.measured ++ seat.measured) };
+    ghost both = { λ into seat. tally into.seats (into.shares + seat.shares) (into.counted ++ seat.counted)
+        (into.measured ++ seat.measured) };
 
     ghost spent = { tally 0 0 [] [] };
 }
 
 type Words = Table<(), Tally, u32, Sums, Global>;
 
-/// A packet counter and a byte counter for each action that a run may make. Contracts see them as their making, which their
-/// seats share.
+/// A packet counter and a byte counter for each action that a run may make. Contracts see them as their
+/// making, which their seats share.
 #[derive(Drop)]
 pub struct Counters {
     words: Words,
@@ -119,7 +120,8 @@ impl Counters {
 
     /// The packets and the bytes of a serial, 1 to 16,384.
     ///
-    /// Where every other seat was given back, these are the sums over all executions that were counted, modulo 2^64.
+    /// Where every other seat was given back, these are the sums over all executions that were counted,
+    /// modulo 2^64.
     pub fn totals(&self, seat: &mut CounterSeat, serial: u32) -> (u64, u64)
         requires making { seat.old.making ≡ self.now }
         requires serial { (0 < serial) × (serial ≤ MADE_MAX) }
@@ -153,9 +155,11 @@ fn cut_seats(
     mut origin: Seat<(), Tally>,
     seats: u32,
 ) -> Result<CounterSeats, NoMemory>
-    requires making { (origin.table_id ≡ words.now.shared.table_id) × (words.now.shared.table_id.words ≡ 2 * (MADE_MAX + 1)) }
+    requires making { (origin.table_id ≡ words.now.shared.table_id)
+        × (words.now.shared.table_id.words ≡ 2 * (MADE_MAX + 1)) }
     requires whole { origin.me ≡ (tally seats seats [] [], []) }
-    ensures { IfOk result (λ rest. rest ≡ record { making = words.now.shared.table_id; seats = seats; left = seats }) }
+    ensures { IfOk result (λ rest. rest
+        ≡ record { making = words.now.shared.table_id; seats = seats; left = seats }) }
 {
     let mut left = Vec::with_capacity(alloc, seats as usize)?;
     for _made in 0..seats {

@@ -3,7 +3,8 @@
 use crate::seats::{Held, Knows, Left};
 use std::collections::LinkedList;
 
-/// How many seats were made, how many shares this one holds, and the numbers that it drew. No value of it is made.
+/// How many seats were made, how many shares this one holds, and the numbers that it drew. No value of it is
+/// made.
 pub struct Hand {
     pub seats: u32,
     pub shares: u32,

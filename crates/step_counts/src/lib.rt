@@ -1,19 +1,23 @@
 //! Counters of actions and claims of packets, which many threads change at once without a lock.
 //!
-//! Workers count each execution of an action, and each worker draws the next packet that is its own. Both are single atomic
-//! additions on words that all threads share, so nobody waits and nothing is lost. What a thread then knows of a shared word is
-//! only what it did itself. So each thread has a seat. A seat has no bytes: it exists for contracts alone, and says what its
-//! thread added or drew. Two rules, which every step keeps, tie the seats to the words: each counter is the sum of what all
-//! seats added to it, and the numbers that all seats drew are those below the claim word, each once.
+//! Workers count each execution of an action, and each worker draws the next packet that is its own. Both are
+//! single atomic additions on words that all threads share, so nobody waits and nothing is lost. What a
+//! thread then knows of a shared word is only what it did itself. So each thread has a seat. A seat has no
+//! bytes: it exists for contracts alone, and says what its thread added or drew. Two rules, which every step
+//! keeps, tie the seats to the words: each counter is the sum of what all seats added to it, and the numbers
+//! that all seats drew are those below the claim word, each once.
 //!
-//! A total is a fact about all seats at once. So each seat holds a share, and giving a seat back hands its share and its deeds
-//! to another seat. Whoever holds all shares has all deeds in one list, and only there `totals` and `draw` tell the whole.
+//! A total is a fact about all seats at once. So each seat holds a share, and giving a seat back hands its
+//! share and its deeds to another seat. Whoever holds all shares has all deeds in one list, and only there
+//! `totals` and `draw` tell the whole.
 //!
-//! `Counters` and `Claims` are shared by `&` among any number of threads. A seat belongs to one thread at a time, and may move to
-//! another. Seats of one making are given out by `take`, before the threads start, by whoever owns the rest of them.
+//! `Counters` and `Claims` are shared by `&` among any number of threads. A seat belongs to one thread at a
+//! time, and may move to another. Seats of one making are given out by `take`, before the threads start, by
+//! whoever owns the rest of them.
 //!
-//! Only `make_counters` and `make_claims` take memory. No call waits. Not promised: that memory suffices, in which order threads
-//! get on, and what `totals` answers while other seats are out. Counters wrap at 2^64, which only their sums' bounds can exclude.
+//! Only `make_counters` and `make_claims` take memory. No call waits. Not promised: that memory suffices, in
+//! which order threads get on, and what `totals` answers while other seats are out. Counters wrap at 2^64,
+//! which only their sums' bounds can exclude.
 #![tactic(auto)]
 
 mod claims;

@@ -3,8 +3,8 @@
 use crate::seats::{Held, Knows, Left};
 use std::collections::LinkedList;
 
-/// How many seats were made, how many shares this one holds, the serials whose packet counter it raised, and the serials and
-/// lengths by which it raised a byte counter. No value of it is made.
+/// How many seats were made, how many shares this one holds, the serials whose packet counter it raised, and
+/// the serials and lengths by which it raised a byte counter. No value of it is made.
 pub struct Tally {
     pub seats: u32,
     pub shares: u32,

@@ -70,7 +70,8 @@ fn threads_draw_each_number_once(rt: HostRuntime) -> Result<(), Fail> {
     Ok(())
 }
 
-// Counts 50 executions of the first serial on frames of this length, and 50 of the last on frames of 9,000 bytes.
+// Counts 50 executions of the first serial on frames of this length, and 50 of the last on frames of 9,000
+// bytes.
 fn add_all(counters: &Counters, mut seat: CounterSeat, length: u32) -> CounterSeat
     requires { seat.making ≡ counters.now }
     ensures { result.making ≡ counters.now }

@@ -1,5 +1,6 @@
 -- The commits of a store, and what its roots name after them (this project's own).
-use Rattle.std.specs.Prelude.{◌≡◌, ℕ, ◌+◌, ◌-◌, ◌*◌, ◌^◌, ◌≤◌, ◌==◌, List, [], ◌∷◌, length, take, slice_get, slice_index, Option, Some, None, if◌then◌else◌, filter_map, option_map}
+use Rattle.std.specs.Prelude.{◌≡◌, ℕ, ◌+◌, ◌-◌, ◌*◌, ◌^◌, ◌≤◌, ◌==◌, List, [], ◌∷◌, length, take, slice_get}
+use Rattle.std.specs.Prelude.{slice_index, Option, Some, None, if◌then◌else◌, filter_map, option_map}
 use Rattle.store_history.specs.declared.history.Link.{Link}
 use Rattle.store_history.specs.declared.history.Commit.{Commit}
 use Rattle.store_history.specs.declared.history.Named.{Named}

@@ -1,6 +1,7 @@
 -- What the calls of a shelf and of a sink do to what is held or written, and why they fail.
 -- This project's own. A shelf or a sink that tells nothing of content has None where it would tell.
-use Rattle.std.specs.Prelude.{◌≡◌, ◌≢◌, ℕ, ◌+◌, ◌-◌, ◌^◌, ◌≤◌, min, List, ◌++◌, take, Option, Some, None, IfSome, IsSomeAnd, Result, Ok, Err, IsErrOf}
+use Rattle.std.specs.Prelude.{◌≡◌, ◌≢◌, ℕ, ◌+◌, ◌-◌, ◌^◌, ◌≤◌, min, List, ◌++◌, take, Option, Some, None}
+use Rattle.std.specs.Prelude.{IfSome, IsSomeAnd, Result, Ok, Err, IsErrOf}
 use Rattle.std.specs.Global.{Vec}
 use Rattle.tc_base.specs.declared.outside.Fetch.{Fetch}
 use Rattle.tc_base.specs.declared.outside.Fetch.TheVariants as fetches
@@ -25,7 +26,8 @@ Fetched told name (Err fetches.NoMemory) = Unit {0}
 
 -- what a fetch did to the count of read faults and to the last failed name: at Failed the count rose and
 -- the name is kept, else the last failed name stays, and at Missing the count does too
-pub record FetchCounts (before now : ℕ) (failed_before failed_now : Option (List ℕ)) (name : List ℕ) (result : Result (Vec ℕ) Fetch) : Type 0 where
+pub record FetchCounts (before now : ℕ) (failed_before failed_now : Option (List ℕ)) (name : List ℕ)
+    (result : Result (Vec ℕ) Fetch) : Type 0 where
   pub later : before ≤ now
   pub failed : IsErrOf result fetches.Failed → Rose before now
   pub named : IsErrOf result fetches.Failed → failed_now ≡ Some name

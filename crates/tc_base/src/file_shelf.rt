@@ -67,7 +67,8 @@ fn answer(faults: &mut Faults, name: String, read: io::Result<Vec<u8>>) -> Resul
     ensures failed { faults.new.failed ≡ name_after_fetch faults.old.failed name result }
     ensures write { faults.new.write ≡ faults.old.write }
     ensures never_missing { result ≢ Err Fetch.Missing }
-    ensures memory { IfErr read (λ e. (result ≡ Err Fetch.NoMemory) ↔ (error_kind e ≡ ErrorKind.OutOfMemory)) }
+    ensures memory { IfErr read (λ e. (result ≡ Err Fetch.NoMemory)
+        ↔ (error_kind e ≡ ErrorKind.OutOfMemory)) }
 {
     match read {
         Ok(bytes) => Ok(bytes),

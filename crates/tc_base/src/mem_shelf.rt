@@ -2,7 +2,9 @@ ghost use Rattle.std.specs.Prelude.{◌≡◌, ◌≢◌, ◌↔◌, List, ℕ, 
 ghost use Rattle.std.specs.Option.{option_map};
 ghost use Rattle.tc_base.specs.Counts.{one_more, count_after_fetch, name_after_fetch, count_after_put};
 ghost use Rattle.tc_base.specs.Outside.{Fetched, FetchCounts, OthersStay, Stands, PutCounts};
-ghost use Rattle.tc_base.specs.MemShelf.{held_in, held_of, calls_of, fails_of, read_faults_of, write_faults_of, failed_name_of, fails_next, FetchAnswers, CountsStay};
+ghost use Rattle.tc_base.specs.MemShelf.{held_in, held_of, calls_of, fails_of, read_faults_of};
+ghost use Rattle.tc_base.specs.MemShelf.{write_faults_of, failed_name_of, fails_next, FetchAnswers};
+ghost use Rattle.tc_base.specs.MemShelf.{CountsStay};
 
 use crate::calls::Calls;
 use crate::faults::Faults;
@@ -45,7 +47,8 @@ impl MemShelf {
     /// number. After an error every name holds what it held.
     pub fn insert(&mut self, name: &str, bytes: &[u8]) -> Result<(), NoMemory>
         ensures stands { OnOk result (held_of self.new name.now ≡ Some bytes.now) }
-        ensures others { (other : List ℕ) → other ≢ name.now → held_of self.new other ≡ held_of self.old other }
+        ensures others { (other : List ℕ) → other ≢ name.now
+            → held_of self.new other ≡ held_of self.old other }
         ensures err { OnErr result (held_of self.new ≡ held_of self.old) }
         ensures counts { CountsStay self.old self.new }
     {
@@ -82,7 +85,8 @@ impl Shelf for MemShelf {
         // When each answer comes, and what it does to the counts.
         ensures answer { FetchAnswers (fails_next self.old) (held_of self.old name.now) result }
         ensures read_faults { read_faults_of self.new ≡ count_after_fetch (read_faults_of self.old) result }
-        ensures failed_name { failed_name_of self.new ≡ name_after_fetch (failed_name_of self.old) name.now result }
+        ensures failed_name { failed_name_of self.new
+            ≡ name_after_fetch (failed_name_of self.old) name.now result }
         ensures calls { calls_of self.new ≡ one_more (calls_of self.old) }
         ensures fails { fails_of self.new ≡ fails_of self.old }
     {

@@ -48,7 +48,8 @@ impl Sink for MemSink {
     ghost faults = { faults_of };
 
     fn write_all(&mut self, bytes: &[u8]) -> Result<(), Put>
-        ensures all { OnOk result (Appended (Some (written_of self.old)) (Some (written_of self.new)) bytes.now) }
+        ensures all { OnOk result
+            (Appended (Some (written_of self.old)) (Some (written_of self.new)) bytes.now) }
         ensures up_to { AppendsUpTo (Some (written_of self.old)) (Some (written_of self.new)) bytes.now }
         ensures counts { PutCounts (faults_of self.old) (faults_of self.new) result }
 

@@ -34,7 +34,8 @@ impl<'a, P: Print> StdSink<'a, P> {
 
     /// Hands on all that stands in the buffer.
     pub fn flush(&mut self) -> Result<(), Put>
-        ensures { PutCounts (⟦<StdSink<'a, P> as Sink>⟧.faults self.old) (⟦<StdSink<'a, P> as Sink>⟧.faults self.new) result }
+        ensures { PutCounts (⟦<StdSink<'a, P> as Sink>⟧.faults self.old)
+            (⟦<StdSink<'a, P> as Sink>⟧.faults self.new) result }
     {
         match self.out.flush() {
             Ok(()) => Ok(()),

@@ -33,17 +33,21 @@ is_tagged tag tag_names.Protocol = is_some tag.protocol
 -- the tag with the value of a part
 abbrev pub with_tag : Tag → TagName → List ℕ → Option Tag
 with_tag tag tag_names.Id word = option_map (λ n. record tag { id = Some n }) (number_between 0 4094 word)
-with_tag tag tag_names.Priority word = option_map (λ n. record tag { priority = Some n }) (number_between 0 7 word)
+with_tag tag tag_names.Priority word =
+    option_map (λ n. record tag { priority = Some n }) (number_between 0 7 word)
 with_tag tag tag_names.Protocol word = option_map (λ n. record tag { protocol = Some n }) (tpid_of word)
 
 -- a part of a tag and its value
 abbrev pub tag_setting : Tag → List ℕ → List ℕ → Option Tag
 tag_setting tag name value = set_once is_tagged with_tag tag value (tag_name name)
 
--- a tag without protocol is a customer's (0x8100). A pushed tag without priority has the priority 0; a changed one keeps its own.
+-- a tag without protocol is a customer's (0x8100). A pushed tag without priority has the priority 0; a
+-- changed one keeps its own.
 abbrev pub tag_params : TagVerb → Tag → Params
-tag_params tag_verbs.Push tag = params.Vlan (ops.Push (unwrap_or tag.protocol 0x8100) (unwrap_or tag.id 0) (unwrap_or tag.priority 0)) controls.Pipe
-tag_params tag_verbs.Modify tag = params.Vlan (ops.Modify (unwrap_or tag.protocol 0x8100) (unwrap_or tag.id 0) tag.priority) controls.Pipe
+tag_params tag_verbs.Push tag = params.Vlan
+    (ops.Push (unwrap_or tag.protocol 0x8100) (unwrap_or tag.id 0) (unwrap_or tag.priority 0)) controls.Pipe
+tag_params tag_verbs.Modify tag =
+    params.Vlan (ops.Modify (unwrap_or tag.protocol 0x8100) (unwrap_or tag.id 0) tag.priority) controls.Pipe
 
 -- no mark stood yet
 abbrev pub no_marks : Marks
@@ -58,8 +62,10 @@ is_marked set mark_names.Queue = is_some set.queue
 -- the marks with the value of one
 abbrev pub with_mark : Marks → MarkName → List ℕ → Option Marks
 with_mark set mark_names.Priority word = option_map (λ n. record set { priority = Some n }) (class_of word)
-with_mark set mark_names.Mark word = option_map (λ n. record set { mark = Some n }) (number_between 0 4294967295 word)
-with_mark set mark_names.Queue word = option_map (λ n. record set { queue = Some n }) (number_between 0 65535 word)
+with_mark set mark_names.Mark word =
+    option_map (λ n. record set { mark = Some n }) (number_between 0 4294967295 word)
+with_mark set mark_names.Queue word =
+    option_map (λ n. record set { queue = Some n }) (number_between 0 65535 word)
 
 -- a mark and its value
 abbrev pub mark_setting : Marks → List ℕ → List ℕ → Option Marks

@@ -1,5 +1,6 @@
 -- What stands behind `flower`: the fields of a filter with their masks, and the edit that comes of them.
-use Rattle.std.specs.Prelude.{ℕ, ◌+◌, ◌/◌, ◌%◌, ◌^◌, Bool, true, false, ◌||◌, not, ◌==◌, List, [], ◌∷◌, slice_index_or, slice_set, is_some, position, Option, if◌then◌else◌}
+use Rattle.std.specs.Prelude.{ℕ, ◌+◌, ◌/◌, ◌%◌, ◌^◌, Bool, true, false, ◌||◌, not, ◌==◌, List, [], ◌∷◌}
+use Rattle.std.specs.Prelude.{slice_index_or, slice_set, is_some, position, Option, if◌then◌else◌}
 use Rattle.std.specs.Option.{option_map, unwrap_or}
 use Rattle.flow_fields.specs.Table.{field_at}
 use Rattle.flow_fields.specs.Values.{value_in, with_value}
@@ -44,7 +45,8 @@ has_header fields name = true
 
 -- the word stood before, or may not stand here
 abbrev pub refuses_field : Fields → FieldName → Bool
-refuses_field fields name = slice_index_or fields.given (field_number name) false || not (has_header fields name)
+refuses_field fields name = slice_index_or fields.given (field_number name) false
+    || not (has_header fields name)
 
 -- the name has stood
 abbrev pub named : Fields → FieldName → Fields
@@ -60,12 +62,14 @@ with_field_value fields field (value, mask) = record {
 
 -- a field and the word of its value
 abbrev pub with_one : Fields → FieldName → List ℕ → Option Fields
-with_one fields name word = option_map (with_field_value (named fields name) (field_number name)) (field_value name word)
+with_one fields name word =
+    option_map (with_field_value (named fields name) (field_number name)) (field_value name word)
 
 -- an IPv6 prefix in the two fields of its halves
 abbrev pub with_prefix : Fields → ℕ → Ipv6Word → Fields
 with_prefix fields high word =
-    with_field_value (with_field_value fields high (word.high, ipv6_mask word.length / 2 ^ 64)) (high + 1) (word.low, ipv6_mask word.length % 2 ^ 64)
+    with_field_value (with_field_value fields high (word.high, ipv6_mask word.length / 2 ^ 64)) (high + 1)
+    (word.low, ipv6_mask word.length % 2 ^ 64)
 
 -- an IPv6 address and its word
 abbrev pub with_ipv6 : Fields → FieldName → ℕ → List ℕ → Option Fields
@@ -76,8 +80,10 @@ has_colon word = is_some (position (λ b. b == 58) word)
 
 -- an address with a colon is one of IPv6, and has two fields of its own
 abbrev pub with_field : Fields → FieldName → List ℕ → Option Fields
-with_field fields names.SrcIp word = if has_colon word then with_ipv6 fields names.SrcIp 16 word else with_one fields names.SrcIp word
-with_field fields names.DstIp word = if has_colon word then with_ipv6 fields names.DstIp 18 word else with_one fields names.DstIp word
+with_field fields names.SrcIp word = if has_colon word then with_ipv6 fields names.SrcIp 16 word
+    else with_one fields names.SrcIp word
+with_field fields names.DstIp word = if has_colon word then with_ipv6 fields names.DstIp 18 word
+    else with_one fields names.DstIp word
 with_field fields name word = with_one fields name word
 
 -- the same for a line that has come so far
@@ -85,7 +91,8 @@ abbrev pub head_refuses : Head → FieldName → Bool
 head_refuses head name = refuses_field head.fields name
 
 abbrev pub head_takes : Head → FieldName → List ℕ → Option Head
-head_takes head name word = option_map (λ fields. record head { fields = fields }) (with_field head.fields name word)
+head_takes head name word =
+    option_map (λ fields. record head { fields = fields }) (with_field head.fields name word)
 
 -- a field and its value
 abbrev pub field_setting : Head → List ℕ → List ℕ → Option Head
@@ -93,7 +100,12 @@ field_setting head name value = set_once head_refuses head_takes head value (fie
 
 -- a filter line up to `flower`
 abbrev pub filter_head : Bool → Hook → Options → Head
-filter_head replaces hook options = record { replaces = replaces; hook = hook; options = options; fields = no_fields }
+filter_head replaces hook options = record {
+  replaces = replaces;
+  hook = hook;
+  options = options;
+  fields = no_fields;
+}
 
 -- a line without protocol means all of them, and a chain that isn't given is 0
 abbrev pub filter_line : Head → List ActionLine → FilterLine
@@ -110,4 +122,5 @@ filter_line head actions = record {
 
 -- the edit of a filter line
 abbrev pub filter_edit : Head → List ActionLine → Edit
-filter_edit head actions = if head.replaces then edits.FilterReplace (filter_line head actions) else edits.FilterAdd (filter_line head actions)
+filter_edit head actions = if head.replaces then edits.FilterReplace (filter_line head actions)
+    else edits.FilterAdd (filter_line head actions)

@@ -11,7 +11,8 @@ pub record Begins (words : List (List ℕ)) : Type 0 where
   pub edit : Edit
   pub gives : Gives (words ++ more) edit
 
--- the first bad word: lines begin with the words before it, and none with it as well. One past the last word it says that the line is cut
+-- the first bad word: lines begin with the words before it, and none with it as well. One past the last word
+-- it says that the line is cut
 pub record IsFirstBad (words : List (List ℕ)) (at : ℕ) : Type 0 where
   pub first : 1 ≤ at
   pub within : at ≤ length words + 1

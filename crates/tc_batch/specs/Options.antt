@@ -1,5 +1,6 @@
 -- What may stand between a hook and `flower`, and the edits that come of it.
-use Rattle.std.specs.Prelude.{ℕ, Bool, true, false, ◌&&◌, not, List, Option, Some, None, is_some, if◌then◌else◌}
+use Rattle.std.specs.Prelude.{ℕ, Bool, true, false, ◌&&◌, not, List, Option, Some, None, is_some}
+use Rattle.std.specs.Prelude.{if◌then◌else◌}
 use Rattle.std.specs.Option.{option_map, unwrap_or}
 use Rattle.line_words.specs.Forms.{number_between, protocol_of}
 use Rattle.tc_base.specs.declared.hook.Hook.{Hook}
@@ -39,13 +40,18 @@ is_given options option_names.Handle = is_some options.handle
 
 -- the options with the value of a name
 abbrev pub with_option : Options → OptionName → List ℕ → Option Options
-with_option options option_names.Protocol word = option_map (λ p. record options { protocol = Some p }) (protocol_of word)
-with_option options option_names.Pref word = option_map (λ n. record options { pref = Some n }) (pref_number word)
-with_option options option_names.Chain word = option_map (λ n. record options { chain = Some n }) (chain_number word)
-with_option options option_names.Handle word = option_map (λ n. record options { handle = Some n }) (index_number word)
+with_option options option_names.Protocol word =
+    option_map (λ p. record options { protocol = Some p }) (protocol_of word)
+with_option options option_names.Pref word =
+    option_map (λ n. record options { pref = Some n }) (pref_number word)
+with_option options option_names.Chain word =
+    option_map (λ n. record options { chain = Some n }) (chain_number word)
+with_option options option_names.Handle word =
+    option_map (λ n. record options { handle = Some n }) (index_number word)
 
 -- what a name with its value makes of what is set so far, where the name may stand
-abbrev pub set_once : {S N : Type 0} → (S → N → Bool) → (S → N → List ℕ → Option S) → S → List ℕ → Option N → Option S
+abbrev pub set_once : {S N : Type 0} → (S → N → Bool) → (S → N → List ℕ → Option S) → S → List ℕ → Option N
+    → Option S
 set_once refuses takes s value None = None
 set_once refuses takes s value (Some name) = if refuses s name then None else takes s name value
 
@@ -72,4 +78,5 @@ qdisc_edit qdisc_verbs.Del = edits.HookDel
 
 -- a chain that isn't given is 0
 abbrev pub del_edit : Hook → Options → Edit
-del_edit hook options = edits.FilterDel hook options.protocol (unwrap_or options.chain 0) (unwrap_or options.pref 0) options.handle
+del_edit hook options = edits.FilterDel hook options.protocol (unwrap_or options.chain 0)
+    (unwrap_or options.pref 0) options.handle

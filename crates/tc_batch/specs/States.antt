@@ -75,7 +75,8 @@ state_of draft (stages.FilterDev verb) = State.FilterDev verb
 state_of draft (stages.FilterName verb) = State.FilterName verb
 state_of draft (stages.FilterHook verb) = State.FilterHook verb
 state_of draft (stages.Settings verb) = State.Settings verb draft.head.hook draft.head.options
-state_of draft (stages.SettingValue verb name) = State.SettingValue verb draft.head.hook draft.head.options name
+state_of draft (stages.SettingValue verb name) =
+    State.SettingValue verb draft.head.hook draft.head.options name
 state_of draft stages.Fielding = State.Fielding draft.head
 state_of draft (stages.FieldValue name) = State.FieldValue draft.head name
 state_of draft stages.Listed = State.Listed draft.head draft.actions draft.more

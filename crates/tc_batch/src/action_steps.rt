@@ -1,14 +1,16 @@
 //! The words of an action, one on.
 //!
-//! Each function goes on to the stage after a word, and answers whether a line goes on with it. Where none does, the stage means
-//! nothing.
+//! Each function goes on to the stage after a word, and answers whether a line goes on with it. Where none
+//! does, the stage means nothing.
 ghost use Rattle.std.specs.Prelude.{◌≡◌, IfOk, is_some, None, Some, if◌then◌else◌};
 ghost use Rattle.std.specs.Option.{option_map};
 ghost use Rattle.tc_batch.specs.declared.draft.Draft.{Draft};
 ghost use Rattle.tc_batch.specs.ActionKeywords.{control_word};
 ghost use Rattle.tc_batch.specs.Actions.{tag_params, has_mark, mark_params};
 ghost use Rattle.tc_batch.specs.States.{context_of, state_of};
-ghost use Rattle.tc_batch.specs.Machine.{acted, after_control, on_control, after_whole, after_placed, on_placed, on_tagging, on_marking, after_vlan, on_kind, may_name, on_kinded, on_acting};
+ghost use Rattle.tc_batch.specs.Machine.{acted, after_control, on_control, after_whole, after_placed};
+ghost use Rattle.tc_batch.specs.Machine.{on_placed, on_tagging, on_marking, after_vlan, on_kind, may_name};
+ghost use Rattle.tc_batch.specs.Machine.{on_kinded, on_acting};
 
 use crate::action_keywords::{
     ControlWord, MarkName, Site, TagName, TagVerb, VlanVerb, read_control_word, read_mark_name,
@@ -48,7 +50,8 @@ fn end_action(
 }
 
 fn begin_control(stage: &mut Stage, site: Site, base: Params, control: ControlWord)
-    ensures { (draft : Draft) → state_of draft stage.new ≡ after_control (context_of draft site) base control }
+    ensures { (draft : Draft)
+        → state_of draft stage.new ≡ after_control (context_of draft site) base control }
 {
     let place = match control {
         ControlWord::Plain(control) => Place::Whole(base.with_control(control)),
@@ -59,7 +62,8 @@ fn begin_control(stage: &mut Stage, site: Site, base: Params, control: ControlWo
 }
 
 fn control_after(stage: &mut Stage, site: Site, base: Params, word: &[u8]) -> bool
-    ensures { (draft : Draft) → option_map (state_of draft) (if result then Some stage.new else None) ≡ on_control (context_of draft site) base word.now }
+    ensures { (draft : Draft) → option_map (state_of draft) (if result then Some stage.new else None)
+        ≡ on_control (context_of draft site) base word.now }
 {
     let Some(control) = read_control_word(site, word) else {
         return false;
@@ -76,7 +80,8 @@ fn after_params(
     params: Params,
     word: &[u8],
 ) -> Result<bool, AllocError>
-    ensures { IfOk result (λ goes. option_map (state_of draft.new) (if goes then Some stage.new else None) ≡ after_whole (context_of draft.old site) params word.now) }
+    ensures { IfOk result (λ goes. option_map (state_of draft.new) (if goes then Some stage.new else None)
+        ≡ after_whole (context_of draft.old site) params word.now) }
 {
     match site {
         Site::Filter => {
@@ -95,7 +100,8 @@ fn after_base(
     base: Params,
     word: &[u8],
 ) -> Result<bool, AllocError>
-    ensures { IfOk result (λ goes. option_map (state_of draft.new) (if goes then Some stage.new else None) ≡ after_placed (context_of draft.old site) base word.now (control_word site word.now)) }
+    ensures { IfOk result (λ goes. option_map (state_of draft.new) (if goes then Some stage.new else None)
+        ≡ after_placed (context_of draft.old site) base word.now (control_word site word.now)) }
 {
     match read_control_word(site, word) {
         Some(control) => {
@@ -113,7 +119,8 @@ fn after_placed(
     base: Params,
     word: &[u8],
 ) -> Result<bool, AllocError>
-    ensures { IfOk result (λ goes. option_map (state_of draft.new) (if goes then Some stage.new else None) ≡ on_placed (context_of draft.old site) base word.now) }
+    ensures { IfOk result (λ goes. option_map (state_of draft.new) (if goes then Some stage.new else None)
+        ≡ on_placed (context_of draft.old site) base word.now) }
 {
     if is_text(word, "index") {
         *stage = Stage::Acting(site, Place::FullIndex(base));
@@ -129,7 +136,9 @@ fn end_tag(
     params: (TagVerb, Tag),
     word: &[u8],
 ) -> Result<bool, AllocError>
-    ensures { IfOk result (λ goes. option_map (state_of draft.new) (if goes then Some stage.new else None) ≡ (if is_some params.1.id then on_placed (context_of draft.old site) (tag_params params.0 params.1) word.now else None)) }
+    ensures { IfOk result (λ goes. option_map (state_of draft.new) (if goes then Some stage.new else None)
+        ≡ (if is_some params.1.id
+        then on_placed (context_of draft.old site) (tag_params params.0 params.1) word.now else None)) }
 {
     let (verb, tag) = params;
     if tag.id.is_none() {
@@ -145,7 +154,8 @@ fn after_tag(
     params: (TagVerb, Tag),
     word: &[u8],
 ) -> Result<bool, AllocError>
-    ensures { IfOk result (λ goes. option_map (state_of draft.new) (if goes then Some stage.new else None) ≡ on_tagging (context_of draft.old site) params.0 params.1 word.now) }
+    ensures { IfOk result (λ goes. option_map (state_of draft.new) (if goes then Some stage.new else None)
+        ≡ on_tagging (context_of draft.old site) params.0 params.1 word.now) }
 {
     let (verb, tag) = params;
     match read_tag_name(word) {
@@ -165,7 +175,9 @@ fn end_marks(
     marks: Marks,
     word: &[u8],
 ) -> Result<bool, AllocError>
-    ensures { IfOk result (λ goes. option_map (state_of draft.new) (if goes then Some stage.new else None) ≡ (if has_mark marks then on_placed (context_of draft.old site) (mark_params marks) word.now else None)) }
+    ensures { IfOk result (λ goes. option_map (state_of draft.new) (if goes then Some stage.new else None)
+        ≡ (if has_mark marks then on_placed (context_of draft.old site) (mark_params marks) word.now
+        else None)) }
 {
     if !marks.any() {
         return Ok(false);
@@ -180,7 +192,8 @@ fn after_marks(
     marks: Marks,
     word: &[u8],
 ) -> Result<bool, AllocError>
-    ensures { IfOk result (λ goes. option_map (state_of draft.new) (if goes then Some stage.new else None) ≡ on_marking (context_of draft.old site) marks word.now) }
+    ensures { IfOk result (λ goes. option_map (state_of draft.new) (if goes then Some stage.new else None)
+        ≡ on_marking (context_of draft.old site) marks word.now) }
 {
     match read_mark_name(word) {
         Some(name) if marks.has(name) => Ok(false),
@@ -203,7 +216,8 @@ fn begin_vlan(stage: &mut Stage, site: Site, verb: VlanVerb)
 }
 
 fn after_vlan(stage: &mut Stage, site: Site, word: &[u8]) -> bool
-    ensures { (draft : Draft) → option_map (state_of draft) (if result then Some stage.new else None) ≡ on_kind (context_of draft site) Kind.Vlan word.now }
+    ensures { (draft : Draft) → option_map (state_of draft) (if result then Some stage.new else None)
+        ≡ on_kind (context_of draft site) Kind.Vlan word.now }
 {
     let Some(verb) = read_vlan_verb(word) else {
         return false;
@@ -218,7 +232,8 @@ fn after_skbedit(
     site: Site,
     word: &[u8],
 ) -> Result<bool, AllocError>
-    ensures { IfOk result (λ goes. option_map (state_of draft.new) (if goes then Some stage.new else None) ≡ on_kind (context_of draft.old site) Kind.Skbedit word.now) }
+    ensures { IfOk result (λ goes. option_map (state_of draft.new) (if goes then Some stage.new else None)
+        ≡ on_kind (context_of draft.old site) Kind.Skbedit word.now) }
 {
     after_marks(draft, stage, site, Marks::none(), word)
 }
@@ -230,7 +245,8 @@ fn after_kind(
     kind: Kind,
     word: &[u8],
 ) -> Result<bool, AllocError>
-    ensures { IfOk result (λ goes. option_map (state_of draft.new) (if goes then Some stage.new else None) ≡ on_kind (context_of draft.old site) kind word.now) }
+    ensures { IfOk result (λ goes. option_map (state_of draft.new) (if goes then Some stage.new else None)
+        ≡ on_kind (context_of draft.old site) kind word.now) }
 {
     match kind {
         Kind::Gact => Ok(control_after(stage, site, Params::Gact(Control::Accept), word)),
@@ -241,7 +257,9 @@ fn after_kind(
 
 // Only in a filter an action is named by its kind and index alone.
 fn begin_named(stage: &mut Stage, site: Site, kind: Kind) -> bool
-    ensures { (draft : Draft) → option_map (state_of draft) (if result then Some stage.new else None) ≡ (if may_name (context_of draft site) then Some (state_of draft (Stage.Acting site (Place.NamedIndex kind))) else None) }
+    ensures { (draft : Draft) → option_map (state_of draft) (if result then Some stage.new else None)
+        ≡ (if may_name (context_of draft site)
+        then Some (state_of draft (Stage.Acting site (Place.NamedIndex kind))) else None) }
 {
     match site {
         Site::Filter => {
@@ -260,7 +278,8 @@ fn after_kind_word(
     kind: Kind,
     word: &[u8],
 ) -> Result<bool, AllocError>
-    ensures { IfOk result (λ goes. option_map (state_of draft.new) (if goes then Some stage.new else None) ≡ on_kinded (context_of draft.old site) kind word.now) }
+    ensures { IfOk result (λ goes. option_map (state_of draft.new) (if goes then Some stage.new else None)
+        ≡ on_kinded (context_of draft.old site) kind word.now) }
 {
     if is_text(word, "index") {
         return Ok(begin_named(stage, site, kind));
@@ -269,7 +288,8 @@ fn after_kind_word(
 }
 
 fn after_begun(stage: &mut Stage, site: Site, word: &[u8]) -> bool
-    ensures { (draft : Draft) → option_map (state_of draft) (if result then Some stage.new else None) ≡ on_acting (context_of draft site) Place.Begun word.now }
+    ensures { (draft : Draft) → option_map (state_of draft) (if result then Some stage.new else None)
+        ≡ on_acting (context_of draft site) Place.Begun word.now }
 {
     match read_kind(word) {
         Some(kind) => {
@@ -287,7 +307,8 @@ fn after_tag_name(
     value: (Tag, TagName),
     word: &[u8],
 ) -> bool
-    ensures { (draft : Draft) → option_map (state_of draft) (if result then Some stage.new else None) ≡ on_acting (context_of draft site) (Place.TagValue verb value.0 value.1) word.now }
+    ensures { (draft : Draft) → option_map (state_of draft) (if result then Some stage.new else None)
+        ≡ on_acting (context_of draft site) (Place.TagValue verb value.0 value.1) word.now }
 {
     let (tag, name) = value;
     let Some(tag) = tag.with(name, word) else {
@@ -298,7 +319,8 @@ fn after_tag_name(
 }
 
 fn after_mark_name(stage: &mut Stage, site: Site, marks: Marks, name: MarkName, word: &[u8]) -> bool
-    ensures { (draft : Draft) → option_map (state_of draft) (if result then Some stage.new else None) ≡ on_acting (context_of draft site) (Place.MarkValue marks name) word.now }
+    ensures { (draft : Draft) → option_map (state_of draft) (if result then Some stage.new else None)
+        ≡ on_acting (context_of draft site) (Place.MarkValue marks name) word.now }
 {
     let Some(marks) = marks.with(name, word) else {
         return false;
@@ -308,7 +330,8 @@ fn after_mark_name(stage: &mut Stage, site: Site, marks: Marks, name: MarkName, 
 }
 
 fn after_jump(stage: &mut Stage, site: Site, base: Params, word: &[u8]) -> bool
-    ensures { (draft : Draft) → option_map (state_of draft) (if result then Some stage.new else None) ≡ on_acting (context_of draft site) (Place.JumpNumber base) word.now }
+    ensures { (draft : Draft) → option_map (state_of draft) (if result then Some stage.new else None)
+        ≡ on_acting (context_of draft site) (Place.JumpNumber base) word.now }
 {
     let Some(chain) = read_chain(word) else {
         return false;
@@ -319,7 +342,8 @@ fn after_jump(stage: &mut Stage, site: Site, base: Params, word: &[u8]) -> bool
 }
 
 fn after_goto_word(stage: &mut Stage, site: Site, base: Params, word: &[u8]) -> bool
-    ensures { (draft : Draft) → option_map (state_of draft) (if result then Some stage.new else None) ≡ on_acting (context_of draft site) (Place.GotoChain base) word.now }
+    ensures { (draft : Draft) → option_map (state_of draft) (if result then Some stage.new else None)
+        ≡ on_acting (context_of draft site) (Place.GotoChain base) word.now }
 {
     if !is_text(word, "chain") {
         return false;
@@ -329,7 +353,8 @@ fn after_goto_word(stage: &mut Stage, site: Site, base: Params, word: &[u8]) -> 
 }
 
 fn after_goto(stage: &mut Stage, site: Site, base: Params, word: &[u8]) -> bool
-    ensures { (draft : Draft) → option_map (state_of draft) (if result then Some stage.new else None) ≡ on_acting (context_of draft site) (Place.GotoNumber base) word.now }
+    ensures { (draft : Draft) → option_map (state_of draft) (if result then Some stage.new else None)
+        ≡ on_acting (context_of draft site) (Place.GotoNumber base) word.now }
 {
     let Some(chain) = read_chain(word) else {
         return false;
@@ -346,7 +371,8 @@ fn after_whole(
     params: Params,
     word: &[u8],
 ) -> Result<bool, AllocError>
-    ensures { IfOk result (λ goes. option_map (state_of draft.new) (if goes then Some stage.new else None) ≡ on_acting (context_of draft.old site) (Place.Whole params) word.now) }
+    ensures { IfOk result (λ goes. option_map (state_of draft.new) (if goes then Some stage.new else None)
+        ≡ on_acting (context_of draft.old site) (Place.Whole params) word.now) }
 {
     if is_text(word, "index") {
         *stage = Stage::Acting(site, Place::FullIndex(params));
@@ -362,7 +388,8 @@ fn after_index(
     params: Params,
     word: &[u8],
 ) -> Result<bool, AllocError>
-    ensures { IfOk result (λ goes. option_map (state_of draft.new) (if goes then Some stage.new else None) ≡ on_acting (context_of draft.old site) (Place.FullIndex params) word.now) }
+    ensures { IfOk result (λ goes. option_map (state_of draft.new) (if goes then Some stage.new else None)
+        ≡ on_acting (context_of draft.old site) (Place.FullIndex params) word.now) }
 {
     match read_index(word) {
         Some(index) => {
@@ -380,7 +407,8 @@ fn after_named(
     kind: Kind,
     word: &[u8],
 ) -> Result<bool, AllocError>
-    ensures { IfOk result (λ goes. option_map (state_of draft.new) (if goes then Some stage.new else None) ≡ on_acting (context_of draft.old site) (Place.NamedIndex kind) word.now) }
+    ensures { IfOk result (λ goes. option_map (state_of draft.new) (if goes then Some stage.new else None)
+        ≡ on_acting (context_of draft.old site) (Place.NamedIndex kind) word.now) }
 {
     match read_index(word) {
         Some(index) => {
@@ -399,7 +427,8 @@ pub(crate) fn after_place(
     place: Place,
     word: &[u8],
 ) -> Result<bool, AllocError>
-    ensures { IfOk result (λ goes. option_map (state_of draft.new) (if goes then Some stage.new else None) ≡ on_acting (context_of draft.old site) place word.now) }
+    ensures { IfOk result (λ goes. option_map (state_of draft.new) (if goes then Some stage.new else None)
+        ≡ on_acting (context_of draft.old site) place word.now) }
 {
     match place {
         Place::Begun => Ok(after_begun(stage, site, word)),

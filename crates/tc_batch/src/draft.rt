@@ -19,8 +19,8 @@ pub struct Head {
 
 /// A filter line as far as it was read, with its actions, and how many may still come.
 ///
-/// Each word is put into the draft where it stands, since a draft is too large to be handed on word by word. What a line has
-/// not come to yet means nothing.
+/// Each word is put into the draft where it stands, since a draft is too large to be handed on word by word.
+/// What a line has not come to yet means nothing.
 #[derive(Drop)]
 pub struct Draft {
     pub head: Head,

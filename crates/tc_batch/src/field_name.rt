@@ -6,8 +6,8 @@ use crate::keywords::spelled;
 use flow_fields::field;
 use tc_words::is_text;
 
-/// The fields that a filter line can name. `SrcIp` and `DstIp` stand for addresses of IPv4 and of IPv6, which are fields of
-/// their own in a key.
+/// The fields that a filter line can name. `SrcIp` and `DstIp` stand for addresses of IPv4 and of IPv6, which
+/// are fields of their own in a key.
 #[derive(Clone, Copy, Debug, PartialEq, Eq)]
 pub enum FieldName {
     DstMac,

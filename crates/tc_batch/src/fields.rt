@@ -1,9 +1,12 @@
 //! The fields of a filter line.
-ghost use Rattle.std.specs.Prelude.{◌≡◌, ◌==◌, position, ◌<◌, ◌⊎◌, if◌then◌else◌, Some, None, ◌≤◌, ◌+◌, ◌/◌, ◌%◌, ◌^◌};
+ghost use Rattle.std.specs.Prelude.{◌≡◌, ◌==◌, position, ◌<◌, ◌⊎◌, if◌then◌else◌, Some, None, ◌≤◌, ◌+◌, ◌/◌};
+ghost use Rattle.std.specs.Prelude.{◌%◌, ◌^◌};
 ghost use Rattle.flow_fields.specs.Table.{field_at};
 ghost use Rattle.tc_words.specs.Ipv6Addresses.{ipv6_mask};
 ghost use Rattle.tc_batch.specs.FieldNames.{field_number};
-ghost use Rattle.tc_batch.specs.Fields.{no_fields, protocol_in, has_header, refuses_field, named, with_field_value, with_one, with_prefix, with_ipv6, has_colon, with_field};
+ghost use Rattle.tc_batch.specs.Fields.{no_fields, protocol_in, has_header, refuses_field, named};
+ghost use Rattle.tc_batch.specs.Fields.{with_field_value, with_one, with_prefix, with_ipv6, has_colon};
+ghost use Rattle.tc_batch.specs.Fields.{with_field};
 
 use crate::field_name::FieldName;
 use crate::field_values::read_field_value;
@@ -16,8 +19,8 @@ const UDP: u64 = 17;
 
 /// The fields that stood so far: which of the sixteen names did, and the key and the mask that they make.
 ///
-/// The names are kept beside the mask, because a field whose mask is 0 leaves no trace there, and its word may still not
-/// stand again.
+/// The names are kept beside the mask, because a field whose mask is 0 leaves no trace there, and its word
+/// may still not stand again.
 #[derive(Clone, Copy, Debug)]
 pub struct Fields {
     pub given: [bool; 16],
@@ -138,7 +141,9 @@ impl Fields {
 
     fn take_address(&mut self, name: FieldName, high: u32, word: &[u8]) -> bool
         requires { (high ≡ 16) ⊎ (high ≡ 18) }
-        ensures { (if result then Some self.new else None) ≡ (if has_colon word.now then with_ipv6 self.old name high word.now else with_one self.old name word.now) }
+        ensures { (if result then Some self.new else None)
+            ≡ (if has_colon word.now then with_ipv6 self.old name high word.now
+            else with_one self.old name word.now) }
     {
         if has_colon(word) {
             self.take_ipv6(name, high, word)

@@ -1,6 +1,7 @@
 //! The keywords of a line.
 ghost use Rattle.std.specs.Prelude.{◌≡◌};
-ghost use Rattle.tc_batch.specs.Keywords.{line_kind, qdisc_verb, filter_verb, action_verb, hook_word, option_name};
+ghost use Rattle.tc_batch.specs.Keywords.{line_kind, qdisc_verb, filter_verb, action_verb, hook_word};
+ghost use Rattle.tc_batch.specs.Keywords.{option_name};
 
 use tc_base::Hook;
 use tc_words::is_text;

@@ -1,12 +1,14 @@
 //! The words of a line apart from its actions, one on.
 //!
-//! Each function goes on to the stage after a word, and answers whether a line goes on with it. Where none does, the stage means
-//! nothing. A stage is written where it stands, since it is too large to be handed on word by word.
+//! Each function goes on to the stage after a word, and answers whether a line goes on with it. Where none
+//! does, the stage means nothing. A stage is written where it stands, since it is too large to be handed on
+//! word by word.
 ghost use Rattle.std.specs.Prelude.{◌≡◌, [], if◌then◌else◌, Some, None};
 ghost use Rattle.std.specs.Option.{option_map};
 ghost use Rattle.tc_batch.specs.declared.draft.Draft.{Draft};
 ghost use Rattle.tc_batch.specs.States.{State, state_of};
-ghost use Rattle.tc_batch.specs.Machine.{on_text, after_kind, after_flower, on_flower, on_setting, on_listed, on_field, after_actions, next_state};
+ghost use Rattle.tc_batch.specs.Machine.{on_text, after_kind, after_flower, on_flower, on_setting, on_listed};
+ghost use Rattle.tc_batch.specs.Machine.{on_field, after_actions, next_state};
 
 use crate::action_keywords::Site;
 use crate::draft::Draft;
@@ -25,7 +27,8 @@ use tc_words::is_text;
 
 // Goes to the next stage, where the word is that text.
 pub(crate) fn after_text(stage: &mut Stage, text: &str, next: Stage, word: &[u8]) -> bool
-    ensures { (draft : Draft) → option_map (state_of draft) (if result then Some stage.new else None) ≡ on_text text.now (state_of draft next) word.now }
+    ensures { (draft : Draft) → option_map (state_of draft) (if result then Some stage.new else None)
+        ≡ on_text text.now (state_of draft next) word.now }
 {
     if !is_text(word, text) {
         return false;
@@ -45,7 +48,8 @@ fn begin_line(stage: &mut Stage, kind: LineKind)
 }
 
 pub(crate) fn after_start(stage: &mut Stage, word: &[u8]) -> bool
-    ensures { (draft : Draft) → option_map (state_of draft) (if result then Some stage.new else None) ≡ next_state State.Start word.now }
+    ensures { (draft : Draft) → option_map (state_of draft) (if result then Some stage.new else None)
+        ≡ next_state State.Start word.now }
 {
     let Some(kind) = read_line_kind(word) else {
         return false;
@@ -55,7 +59,8 @@ pub(crate) fn after_start(stage: &mut Stage, word: &[u8]) -> bool
 }
 
 pub(crate) fn after_qdisc(stage: &mut Stage, word: &[u8]) -> bool
-    ensures { (draft : Draft) → option_map (state_of draft) (if result then Some stage.new else None) ≡ next_state State.Qdisc word.now }
+    ensures { (draft : Draft) → option_map (state_of draft) (if result then Some stage.new else None)
+        ≡ next_state State.Qdisc word.now }
 {
     let Some(verb) = read_qdisc_verb(word) else {
         return false;
@@ -65,7 +70,8 @@ pub(crate) fn after_qdisc(stage: &mut Stage, word: &[u8]) -> bool
 }
 
 pub(crate) fn after_filter(stage: &mut Stage, word: &[u8]) -> bool
-    ensures { (draft : Draft) → option_map (state_of draft) (if result then Some stage.new else None) ≡ next_state State.FilterLine word.now }
+    ensures { (draft : Draft) → option_map (state_of draft) (if result then Some stage.new else None)
+        ≡ next_state State.FilterLine word.now }
 {
     let Some(verb) = read_filter_verb(word) else {
         return false;
@@ -80,7 +86,8 @@ pub(crate) fn after_device(
     verb: FilterVerb,
     word: &[u8],
 ) -> bool
-    ensures { option_map (state_of draft.new) (if result then Some stage.new else None) ≡ next_state (State.FilterHook verb) word.now }
+    ensures { option_map (state_of draft.new) (if result then Some stage.new else None)
+        ≡ next_state (State.FilterHook verb) word.now }
 {
     let Some(hook) = read_hook(word) else {
         return false;
@@ -109,7 +116,8 @@ fn begin_flower(draft: &mut Draft, stage: &mut Stage, verb: FilterVerb)
 
 // Goes on behind `flower`, where it may follow.
 fn after_flower(draft: &mut Draft, stage: &mut Stage, verb: FilterVerb, word: &[u8]) -> bool
-    ensures { option_map (state_of draft.new) (if result then Some stage.new else None) ≡ on_flower verb draft.old.head.hook draft.old.head.options word.now }
+    ensures { option_map (state_of draft.new) (if result then Some stage.new else None)
+        ≡ on_flower verb draft.old.head.hook draft.old.head.options word.now }
 {
     if draft.head.options.may_flower(verb) && is_text(word, "flower") {
         begin_flower(draft, stage, verb);
@@ -125,7 +133,8 @@ pub(crate) fn after_options(
     verb: FilterVerb,
     word: &[u8],
 ) -> bool
-    ensures { option_map (state_of draft.new) (if result then Some stage.new else None) ≡ on_setting verb draft.old.head.hook draft.old.head.options word.now }
+    ensures { option_map (state_of draft.new) (if result then Some stage.new else None)
+        ≡ on_setting verb draft.old.head.hook draft.old.head.options word.now }
 {
     match read_option_name(word) {
         Some(name) if draft.head.options.has(name) => false,
@@ -143,7 +152,9 @@ pub(crate) fn after_option_name(
     setting: (FilterVerb, OptionName),
     word: &[u8],
 ) -> bool
-    ensures { option_map (state_of draft.new) (if result then Some stage.new else None) ≡ next_state (State.SettingValue setting.0 draft.old.head.hook draft.old.head.options setting.1) word.now }
+    ensures { option_map (state_of draft.new) (if result then Some stage.new else None)
+        ≡ next_state (State.SettingValue setting.0 draft.old.head.hook draft.old.head.options setting.1)
+        word.now }
 {
     let (verb, name) = setting;
     if !draft.head.options.take(name, word) {
@@ -155,7 +166,8 @@ pub(crate) fn after_option_name(
 
 // Goes on behind `action`, where one more may come.
 pub(crate) fn go_on_listed(draft: &mut Draft, stage: &mut Stage, word: &[u8]) -> bool
-    ensures { option_map (state_of draft.new) (if result then Some stage.new else None) ≡ on_listed draft.old.head draft.old.actions draft.old.more word.now }
+    ensures { option_map (state_of draft.new) (if result then Some stage.new else None)
+        ≡ on_listed draft.old.head draft.old.actions draft.old.more word.now }
 {
     if draft.more == 0 || !is_text(word, "action") {
         return false;
@@ -166,14 +178,16 @@ pub(crate) fn go_on_listed(draft: &mut Draft, stage: &mut Stage, word: &[u8]) ->
 }
 
 fn end_fields(alloc: Global, draft: &mut Draft, stage: &mut Stage, word: &[u8]) -> bool
-    ensures { option_map (state_of draft.new) (if result then Some stage.new else None) ≡ on_listed draft.old.head [] 16 word.now }
+    ensures { option_map (state_of draft.new) (if result then Some stage.new else None)
+        ≡ on_listed draft.old.head [] 16 word.now }
 {
     draft.begin_actions(alloc);
     go_on_listed(draft, stage, word)
 }
 
 pub(crate) fn after_fields(alloc: Global, draft: &mut Draft, stage: &mut Stage, word: &[u8]) -> bool
-    ensures { option_map (state_of draft.new) (if result then Some stage.new else None) ≡ on_field draft.old.head word.now }
+    ensures { option_map (state_of draft.new) (if result then Some stage.new else None)
+        ≡ on_field draft.old.head word.now }
 {
     match read_field_name(word) {
         Some(name) if draft.head.fields.refuses(name) => false,
@@ -191,7 +205,8 @@ pub(crate) fn after_field_name(
     name: FieldName,
     word: &[u8],
 ) -> bool
-    ensures { option_map (state_of draft.new) (if result then Some stage.new else None) ≡ next_state (State.FieldValue draft.old.head name) word.now }
+    ensures { option_map (state_of draft.new) (if result then Some stage.new else None)
+        ≡ next_state (State.FieldValue draft.old.head name) word.now }
 {
     if !draft.head.fields.take(name, word) {
         return false;
@@ -201,7 +216,8 @@ pub(crate) fn after_field_name(
 }
 
 pub(crate) fn after_actions(stage: &mut Stage, word: &[u8]) -> bool
-    ensures { (draft : Draft) → option_map (state_of draft) (if result then Some stage.new else None) ≡ next_state State.Actions word.now }
+    ensures { (draft : Draft) → option_map (state_of draft) (if result then Some stage.new else None)
+        ≡ next_state State.Actions word.now }
 {
     let Some(verb) = read_action_verb(word) else {
         return false;
@@ -221,7 +237,8 @@ fn begin_action(stage: &mut Stage, verb: ActionVerb)
 }
 
 pub(crate) fn after_action_verb(stage: &mut Stage, verb: ActionVerb, word: &[u8]) -> bool
-    ensures { (draft : Draft) → option_map (state_of draft) (if result then Some stage.new else None) ≡ next_state (State.ActionsAction verb) word.now }
+    ensures { (draft : Draft) → option_map (state_of draft) (if result then Some stage.new else None)
+        ≡ next_state (State.ActionsAction verb) word.now }
 {
     if !is_text(word, "action") {
         return false;
@@ -231,7 +248,8 @@ pub(crate) fn after_action_verb(stage: &mut Stage, verb: ActionVerb, word: &[u8]
 }
 
 pub(crate) fn after_del(stage: &mut Stage, word: &[u8]) -> bool
-    ensures { (draft : Draft) → option_map (state_of draft) (if result then Some stage.new else None) ≡ next_state State.DelKind word.now }
+    ensures { (draft : Draft) → option_map (state_of draft) (if result then Some stage.new else None)
+        ≡ next_state State.DelKind word.now }
 {
     let Some(kind) = read_kind(word) else {
         return false;
@@ -241,7 +259,8 @@ pub(crate) fn after_del(stage: &mut Stage, word: &[u8]) -> bool
 }
 
 pub(crate) fn after_del_index(stage: &mut Stage, kind: Kind, word: &[u8]) -> bool
-    ensures { (draft : Draft) → option_map (state_of draft) (if result then Some stage.new else None) ≡ next_state (State.DelNumber kind) word.now }
+    ensures { (draft : Draft) → option_map (state_of draft) (if result then Some stage.new else None)
+        ≡ next_state (State.DelNumber kind) word.now }
 {
     let Some(index) = read_index(word) else {
         return false;

@@ -1,6 +1,7 @@
 //! What may stand between a hook and `flower`.
 ghost use Rattle.std.specs.Prelude.{◌≡◌, if◌then◌else◌, Some, None};
-ghost use Rattle.tc_batch.specs.Options.{no_options, is_given, with_option, may_flower, may_end, qdisc_edit, del_edit};
+ghost use Rattle.tc_batch.specs.Options.{no_options, is_given, with_option, may_flower, may_end, qdisc_edit};
+ghost use Rattle.tc_batch.specs.Options.{del_edit};
 
 use crate::keywords::{FilterVerb, OptionName, QdiscVerb};
 use crate::numbers::{read_chain, read_index, read_pref};
@@ -41,7 +42,8 @@ impl Options {
     }
 
     fn take_protocol(&mut self, word: &[u8]) -> bool
-        ensures { (if result then Some self.new else None) ≡ with_option self.old OptionName.Protocol word.now }
+        ensures { (if result then Some self.new else None)
+            ≡ with_option self.old OptionName.Protocol word.now }
     {
         let Some(protocol) = read_protocol(word) else {
             return false;

@@ -32,11 +32,12 @@ pub fn is_command(bytes: &[u8]) -> bool
 
 /// The edit that a line of a batch file asks for, or the first bad word.
 ///
-/// `bytes` is one line, as `tc_words::lines` cuts it. A bad word is one at which no line goes on: no line has the words up to
-/// it as its own first words. Where the words are all good and yet no line, one past the last word is bad.
+/// `bytes` is one line, as `tc_words::lines` cuts it. A bad word is one at which no line goes on: no line has
+/// the words up to it as its own first words. Where the words are all good and yet no line, one past the last
+/// word is bad.
 ///
-/// A line that is good up to its 4,294,967,294th word and has a word more is answered with `NoMemory`: the number of a bad
-/// word behind it has no room in the answer.
+/// A line that is good up to its 4,294,967,294th word and has a word more is answered with `NoMemory`: the
+/// number of a bad word behind it has no room in the answer.
 pub fn line(alloc: Global, bytes: &[u8]) -> Result<Edit, LineFault>
     ensures line { IfOk result (Gives (words_of bytes.now)) }
     ensures fault { IfErr result (HasFault (words_of bytes.now)) }
@@ -63,11 +64,13 @@ pub fn line(alloc: Global, bytes: &[u8]) -> Result<Edit, LineFault>
     }
 }
 
-/// A list of words gives an edit or has a first bad word, never both, and one at most of either. So `line` answers exactly by
-/// the grammar.
+/// A list of words gives an edit or has a first bad word, never both, and one at most of either. So `line`
+/// answers exactly by the grammar.
 pub fn one_line()
-    ensures some { (words : List (List ℕ)) → ((edit : Edit) × Gives words edit) ⊎ ((at : ℕ) × IsFirstBad words at) }
+    ensures some { (words : List (List ℕ)) → ((edit : Edit) × Gives words edit)
+        ⊎ ((at : ℕ) × IsFirstBad words at) }
     ensures edit { (words : List (List ℕ)) (a b : Edit) → Gives words a → Gives words b → a ≡ b }
-    ensures no_fault { (words : List (List ℕ)) (edit : Edit) (at : ℕ) → Gives words edit → IsFirstBad words at → ⊥ }
+    ensures no_fault { (words : List (List ℕ)) (edit : Edit) (at : ℕ) → Gives words edit → IsFirstBad words at
+        → ⊥ }
     ensures one_fault { (words : List (List ℕ)) (a b : ℕ) → IsFirstBad words a → IsFirstBad words b → a ≡ b }
 {}

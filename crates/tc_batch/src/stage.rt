@@ -39,8 +39,8 @@ pub enum Ending {
     ActionDel(Kind, u32),
 }
 
-/// How far a line has come: after which words it is, or which one word has to follow. What was read of a filter is in the
-/// draft.
+/// How far a line has come: after which words it is, or which one word has to follow. What was read of a
+/// filter is in the draft.
 #[derive(Clone, Copy, Debug)]
 pub enum Stage {
     Start,

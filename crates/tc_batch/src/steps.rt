@@ -22,7 +22,9 @@ use std::alloc::{AllocError, Global};
 // Goes one word on in an action.
 #[inline(never)]
 fn act(draft: &mut Draft, stage: &mut Stage, word: &[u8]) -> Result<bool, AllocError>
-    ensures { IfOk result (λ goes. (site : Site) (place : Place) → stage.old ≡ Stage.Acting site place → option_map (state_of draft.new) (if goes then Some stage.new else None) ≡ on_acting (context_of draft.old site) place word.now) }
+    ensures { IfOk result (λ goes. (site : Site) (place : Place) → stage.old ≡ Stage.Acting site place
+        → option_map (state_of draft.new) (if goes then Some stage.new else None)
+        ≡ on_acting (context_of draft.old site) place word.now) }
 {
     let Stage::Acting(site, place) = *stage else {
         return Ok(false);
@@ -37,7 +39,8 @@ pub(crate) fn step(
     stage: &mut Stage,
     word: &[u8],
 ) -> Result<bool, AllocError>
-    ensures { IfOk result (λ goes. option_map (state_of draft.new) (if goes then Some stage.new else None) ≡ next_state (state_of draft.old stage.old) word.now) }
+    ensures { IfOk result (λ goes. option_map (state_of draft.new) (if goes then Some stage.new else None)
+        ≡ next_state (state_of draft.old stage.old) word.now) }
 {
     match *stage {
         Stage::Start => Ok(after_start(stage, word)),

@@ -20,8 +20,8 @@ use Rattle.tc_print.proofs.Pairs.{pair_is, joined_is}
 use Rattle.tc_print.proofs.Copies.{IsCopied, copied_none, copied_next, copied_zero}
 use Rattle.tc_print.proofs.ReadsValues.{named_fits, value_read, ipv4_no_colon, zero_under, prefix}
 
--- What was read of a key and a mask up to a field. The name of a field that is yet to come hasn't stood, nor has the name of an
--- IPv4 address whose mask is 0, up to the IPv6 address of that name.
+-- What was read of a key and a mask up to a field. The name of a field that is yet to come hasn't stood, nor
+-- has the name of an IPv4 address whose mask is 0, up to the IPv6 address of that name.
 pub record IsReadTo (key mask : List ℕ) (number : ℕ) (fields : Fields) : Type 0 where
   pub key_read : IsCopied key number fields.key.words
   pub mask_read : IsCopied mask number fields.mask.words

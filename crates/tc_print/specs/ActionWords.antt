@@ -1,5 +1,5 @@
--- The words that an action is printed as (tc-actions(8), tc-vlan(8), tc-skbedit(8)). That each part which has a value is
--- written out, and in which order, is this project's own.
+-- The words that an action is printed as (tc-actions(8), tc-vlan(8), tc-skbedit(8)). That each part which has
+-- a value is written out, and in which order, is this project's own.
 use Rattle.std.specs.Prelude.{ℕ, List, [], ◌∷◌, ◌++◌, Option, Some, None, codes}
 use Rattle.std.specs.Fmt.{decimal}
 use Rattle.line_texts.specs.Texts.{ether_type_text, class_text}
@@ -39,9 +39,11 @@ tag_words tpid id = codes "protocol" ∷ ether_type_text tpid ∷ codes "id" ∷
 
 -- tc-vlan(8): what is done to the tag
 abbrev pub op_words : VlanOp → List (List ℕ)
-op_words (ops.Push tpid id priority) = codes "push" ∷ (tag_words tpid id ++ number_words (codes "priority") (Some priority))
+op_words (ops.Push tpid id priority) =
+    codes "push" ∷ (tag_words tpid id ++ number_words (codes "priority") (Some priority))
 op_words ops.Pop = codes "pop" ∷ []
-op_words (ops.Modify tpid id priority) = codes "modify" ∷ (tag_words tpid id ++ number_words (codes "priority") priority)
+op_words (ops.Modify tpid id priority) =
+    codes "modify" ∷ (tag_words tpid id ++ number_words (codes "priority") priority)
 
 -- tc-skbedit(8), priority: a class
 abbrev pub class_words : Option ℕ → List (List ℕ)
@@ -50,7 +52,8 @@ class_words (Some class) = codes "priority" ∷ class_text class ∷ []
 
 -- tc-skbedit(8): what a packet is given
 abbrev pub mark_words : Option ℕ → Option ℕ → Option ℕ → List (List ℕ)
-mark_words priority mark queue = number_words (codes "queue_mapping") queue ++ (class_words priority ++ number_words (codes "mark") mark)
+mark_words priority mark queue = number_words (codes "queue_mapping") queue
+    ++ (class_words priority ++ number_words (codes "mark") mark)
 
 -- what an action does, and its control
 abbrev pub params_words : Params → List (List ℕ)

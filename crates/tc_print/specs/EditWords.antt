@@ -1,5 +1,5 @@
--- The line that an edit is printed as (tc(8), tc-flower(8), tc-actions(8)). Which of the forms that a line can take is printed is
--- this project's own.
+-- The line that an edit is printed as (tc(8), tc-flower(8), tc-actions(8)). Which of the forms that a line
+-- can take is printed is this project's own.
 use Rattle.std.specs.Prelude.{ℕ, List, [], ◌∷◌, ◌++◌, Option, Some, None, codes}
 use Rattle.std.specs.List.{join_with_byte}
 use Rattle.std.specs.Fmt.{decimal}
@@ -32,7 +32,8 @@ handle_words (Some handle) = codes "handle" ∷ handle_text handle ∷ []
 -- the table that a filter stands in, and the filter's handle
 abbrev pub option_words : Option Proto → Option ℕ → ℕ → Option ℕ → List (List ℕ)
 option_words protocol pref chain handle =
-    protocol_words protocol ++ (number_words (codes "pref") pref ++ (codes "chain" ∷ decimal chain ∷ handle_words handle))
+    protocol_words protocol
+    ++ (number_words (codes "pref") pref ++ (codes "chain" ∷ decimal chain ∷ handle_words handle))
 
 -- the first words of a line on a hook
 abbrev pub hook_words : List ℕ → Hook → List (List ℕ)
@@ -44,7 +45,8 @@ body_words line = codes "flower" ∷ (fields_words line.key.words line.mask.word
 
 -- a line that makes a filter
 abbrev pub filter_words : List ℕ → FilterLine → List (List ℕ)
-filter_words verb line = hook_words verb line.hook ++ (option_words (Some line.protocol) line.pref line.chain line.handle ++ body_words line)
+filter_words verb line = hook_words verb line.hook
+    ++ (option_words (Some line.protocol) line.pref line.chain line.handle ++ body_words line)
 
 -- only a line that names one filter names its kind
 abbrev pub flower_words : Option ℕ → List (List ℕ)
@@ -69,7 +71,8 @@ edit_words (edits.FilterReplace line) = filter_words (codes "replace") line
 edit_words (edits.FilterDel hook protocol chain pref handle) = removal_words hook protocol chain pref handle
 edit_words (edits.ActionAdd action) = codes "actions" ∷ codes "add" ∷ action_words action
 edit_words (edits.ActionChange action) = codes "actions" ∷ codes "change" ∷ action_words action
-edit_words (edits.ActionDel kind index) = codes "actions" ∷ codes "del" ∷ codes "action" ∷ kind_text kind ∷ number_words (codes "index") (Some index)
+edit_words (edits.ActionDel kind index) = codes "actions" ∷ codes "del" ∷ codes "action" ∷ kind_text kind
+    ∷ number_words (codes "index") (Some index)
 
 -- the text of an edit: its words, with one space between
 abbrev pub printed : Edit → List ℕ

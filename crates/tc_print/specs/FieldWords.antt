@@ -3,7 +3,8 @@ use Rattle.std.specs.Prelude.{ℕ, ◌+◌, ◌&&◌, ◌==◌, List, [], ◌∷
 use Rattle.std.specs.Fmt.{decimal}
 use Rattle.flow_fields.specs.Table.{field_at}
 use Rattle.flow_fields.specs.Values.{value_in}
-use Rattle.line_texts.specs.Texts.{ether_type_text, ip_protocol_text, masked_hex_text, masked_octet_text, mac_text, ipv4_text, ipv6_text, prefix_length_of, ipv6_length_of}
+use Rattle.line_texts.specs.Texts.{ether_type_text, ip_protocol_text, masked_hex_text, masked_octet_text}
+use Rattle.line_texts.specs.Texts.{mac_text, ipv4_text, ipv6_text, prefix_length_of, ipv6_length_of}
 use Rattle.tc_batch.specs.declared.field_name.FieldName.{FieldName}
 use Rattle.tc_batch.specs.declared.field_name.FieldName.TheVariants as names
 use Rattle.tc_batch.specs.FieldNames.{field_number}
@@ -53,7 +54,8 @@ value_by_number words field = value_in (field_at field) words
 -- a field by its number: its name and the text of its value, where its mask isn't 0
 abbrev pub words_by_number : List ℕ → List ℕ → ℕ → List ℕ → (ℕ → ℕ → List ℕ) → List (List ℕ)
 words_by_number key mask field name text =
-    if value_by_number mask field == 0 then [] else name ∷ text (value_by_number key field) (value_by_number mask field) ∷ []
+    if value_by_number mask field == 0 then []
+    else name ∷ text (value_by_number key field) (value_by_number mask field) ∷ []
 
 -- a field by its name
 abbrev pub field_words : List ℕ → List ℕ → FieldName → List (List ℕ)
@@ -63,7 +65,8 @@ field_words key mask name = words_by_number key mask (field_number name) (name_t
 abbrev pub prefix_words : List ℕ → List ℕ → ℕ → List ℕ → List (List ℕ)
 prefix_words key mask high name =
     if value_by_number mask high == 0 && value_by_number mask (high + 1) == 0 then []
-    else name ∷ ipv6_text (value_by_number key high) (value_by_number key (high + 1)) (ipv6_length_of (value_by_number mask high) (value_by_number mask (high + 1))) ∷ []
+    else name ∷ ipv6_text (value_by_number key high) (value_by_number key (high + 1))
+    (ipv6_length_of (value_by_number mask high) (value_by_number mask (high + 1))) ∷ []
 
 -- the fields of some names, in order
 abbrev pub named_words : List ℕ → List ℕ → List FieldName → List (List ℕ)
@@ -79,7 +82,8 @@ all_names =
 
 -- the two IPv6 addresses have the names of those of IPv4
 abbrev pub prefixes_words : List ℕ → List ℕ → List (List ℕ)
-prefixes_words key mask = prefix_words key mask 16 (codes "src_ip") ++ prefix_words key mask 18 (codes "dst_ip")
+prefixes_words key mask = prefix_words key mask 16 (codes "src_ip")
+    ++ prefix_words key mask 18 (codes "dst_ip")
 
 -- all fields: those with one value each, and then the IPv6 addresses
 abbrev pub fields_words : List ℕ → List ℕ → List (List ℕ)

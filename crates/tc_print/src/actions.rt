@@ -1,7 +1,8 @@
 //! Actions.
 ghost use Rattle.std.specs.Prelude.{◌≡◌, [], ◌∷◌, ◌++◌, Some, fold, codes, decimal, OnOk};
 ghost use Rattle.line_texts.specs.Texts.{ether_type_text};
-ghost use Rattle.tc_print.specs.ActionWords.{number_words, index_words, tag_words, op_words, class_words, mark_words, params_words, given_words, action_words, list_words};
+ghost use Rattle.tc_print.specs.ActionWords.{number_words, index_words, tag_words, op_words, class_words};
+ghost use Rattle.tc_print.specs.ActionWords.{mark_words, params_words, given_words, action_words, list_words};
 ghost use Rattle.tc_print.specs.Texts.{onto};
 
 use crate::controls::{push_control, push_index};
@@ -20,7 +21,8 @@ fn push_tag(out: &mut Vec<u8>, tpid: u16, id: u16) -> Result<(), AllocError>
 }
 
 fn push_tag_priority(out: &mut Vec<u8>, priority: Option<u8>) -> Result<(), AllocError>
-    ensures { OnOk result (out.new.items ≡ fold onto out.old.items (number_words (codes "priority") priority)) }
+    ensures { OnOk result (out.new.items
+        ≡ fold onto out.old.items (number_words (codes "priority") priority)) }
 {
     match priority {
         Some(priority) => push_named(out, "priority", u64::from(priority)),
@@ -36,7 +38,9 @@ fn push_tagged(
     id: u16,
     priority: Option<u8>,
 ) -> Result<(), AllocError>
-    ensures { OnOk result (out.new.items ≡ fold onto out.old.items (verb.now ∷ (tag_words tpid id ++ number_words (codes "priority") priority))) }
+    ensures { OnOk result (out.new.items
+        ≡ fold onto out.old.items
+        (verb.now ∷ (tag_words tpid id ++ number_words (codes "priority") priority))) }
 {
     push_word(out, verb)?;
     push_tag(out, tpid, id)?;
@@ -54,7 +58,8 @@ fn push_op(out: &mut Vec<u8>, op: VlanOp) -> Result<(), AllocError>
 }
 
 fn push_queue(out: &mut Vec<u8>, queue: Option<u16>) -> Result<(), AllocError>
-    ensures { OnOk result (out.new.items ≡ fold onto out.old.items (number_words (codes "queue_mapping") queue)) }
+    ensures { OnOk result (out.new.items
+        ≡ fold onto out.old.items (number_words (codes "queue_mapping") queue)) }
 {
     match queue {
         Some(queue) => push_named(out, "queue_mapping", u64::from(queue)),
@@ -133,10 +138,11 @@ fn push_given(out: &mut Vec<u8>, kind: Kind, given: Option<Params>) -> Result<()
     }
 }
 
-/// Puts the words of an action behind a line, from the word `action` on, each with a space before it unless the line is empty.
+/// Puts the words of an action behind a line, from the word `action` on, each with a space before it unless
+/// the line is empty.
 ///
-/// An action that is only named is `action KIND index N` (tc-actions(8)). In full it is its kind, what it does (tc-vlan(8),
-/// tc-skbedit(8)), its control, and `index N` if it has an index.
+/// An action that is only named is `action KIND index N` (tc-actions(8)). In full it is its kind, what it
+/// does (tc-vlan(8), tc-skbedit(8)), its control, and `index N` if it has an index.
 #[tactic(auto, using(crate::proofs::Grown::onto_append))]
 pub fn push_action(out: &mut Vec<u8>, action: ActionLine) -> Result<(), AllocError>
     ensures { OnOk result (out.new.items ≡ fold onto out.old.items (action_words action)) }

@@ -7,7 +7,8 @@ ghost use Rattle.tc_batch.specs.Grammar.{Gives};
 ghost use Rattle.tc_batch.specs.KindNames.{kind_text};
 ghost use Rattle.tc_print.specs.ActionWords.{index_words, action_words, list_words};
 ghost use Rattle.tc_print.specs.FieldWords.{fields_words};
-ghost use Rattle.tc_print.specs.EditWords.{hook_words, option_words, body_words, filter_words, flower_words, removal_words, qdisc_words, edit_words, printed};
+ghost use Rattle.tc_print.specs.EditWords.{hook_words, option_words, body_words, filter_words, flower_words};
+ghost use Rattle.tc_print.specs.EditWords.{removal_words, qdisc_words, edit_words, printed};
 ghost use Rattle.tc_print.specs.Texts.{onto};
 
 use crate::actions::{push_action, push_actions};
@@ -70,18 +71,21 @@ fn push_removal(
     pref: u32,
     handle: Option<u32>,
 ) -> Result<(), AllocError>
-    ensures { OnOk result (out.new.items ≡ fold onto out.old.items (removal_words hook protocol chain pref handle)) }
+    ensures { OnOk result (out.new.items
+        ≡ fold onto out.old.items (removal_words hook protocol chain pref handle)) }
 {
     push_hook(out, "del", hook)?;
     push_options(out, protocol, Some(pref), chain, handle)?;
     push_flower(out, handle)
 }
 
-/// Puts the words of a line behind one, that is about an action apart from filters (tc-actions(8)): its verb and the action.
+/// Puts the words of a line behind one, that is about an action apart from filters (tc-actions(8)): its verb
+/// and the action.
 ///
 /// `AllocError`: memory was refused.
 pub fn push_shared(out: &mut Vec<u8>, verb: &str, action: ActionLine) -> Result<(), AllocError>
-    ensures { OnOk result (out.new.items ≡ fold onto out.old.items (codes "actions" ∷ verb.now ∷ action_words action)) }
+    ensures { OnOk result (out.new.items
+        ≡ fold onto out.old.items (codes "actions" ∷ verb.now ∷ action_words action)) }
 {
     push_word(out, "actions")?;
     push_word(out, verb)?;
@@ -89,7 +93,9 @@ pub fn push_shared(out: &mut Vec<u8>, verb: &str, action: ActionLine) -> Result<
 }
 
 fn push_gone(out: &mut Vec<u8>, kind: Kind, index: u32) -> Result<(), AllocError>
-    ensures { OnOk result (out.new.items ≡ fold onto out.old.items (codes "actions" ∷ codes "del" ∷ codes "action" ∷ kind_text kind ∷ index_words (Some index))) }
+    ensures { OnOk result (out.new.items
+        ≡ fold onto out.old.items (codes "actions" ∷ codes "del" ∷ codes "action" ∷ kind_text kind
+        ∷ index_words (Some index))) }
 {
     push_word(out, "actions")?;
     push_word(out, "del")?;
@@ -119,13 +125,14 @@ fn push_edit(out: &mut Vec<u8>, edit: &Edit) -> Result<(), AllocError>
     }
 }
 
-/// The batch line that an edit is printed as, without a line feed (tc(8), tc-flower(8), tc-actions(8)). It gives this edit and
-/// no other.
+/// The batch line that an edit is printed as, without a line feed (tc(8), tc-flower(8), tc-actions(8)). It
+/// gives this edit and no other.
 ///
 /// Its forms are these, where `[ .. ]` stands if there is a value:
 ///
 /// - `qdisc add dev eth0 clsact`, and alike with `del`;
-/// - `filter add dev eth0 HOOK protocol P [pref N] chain N [handle 0xH] flower FIELDS ACTIONS`, and alike with `replace`;
+/// - `filter add dev eth0 HOOK protocol P [pref N] chain N [handle 0xH] flower FIELDS ACTIONS`, and alike
+///   with `replace`;
 /// - `filter del dev eth0 HOOK [protocol P] pref N chain N [handle 0xH flower]`;
 /// - `actions add action PARAMETERS CONTROL [index N]`, and alike with `change`;
 /// - `actions del action KIND index N`.
@@ -133,7 +140,8 @@ pub fn print_edit(alloc: Global, edit: &Edit) -> Result<Vec<u8>, NoMemory>
     requires { IsLine edit.now }
     ensures text { IfOk result (λ text. text.items ≡ printed edit.now) }
     ensures line { IfOk result (λ text. Gives (words_of text.items) edit.now) }
-    ensures only { IfOk result (λ text. (other : Edit) → Gives (words_of text.items) other → other ≡ edit.now) }
+    ensures only { IfOk result (λ text. (other : Edit) → Gives (words_of text.items) other
+        → other ≡ edit.now) }
 {
     let mut out = Vec::new(alloc);
     push_edit(&mut out, edit)?;

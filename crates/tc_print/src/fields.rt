@@ -1,11 +1,13 @@
 //! The fields of a filter.
 //!
 //! A field whose mask is 0 is not printed. The numbers of the fields are those of `flow_fields::field`.
-ghost use Rattle.std.specs.Prelude.{◌≡◌, ◌+◌, ◌^◌, ◌<◌, ◌==◌, ◌&&◌, [], ◌∷◌, ◌++◌, fold, codes, OnOk, if◌then◌else◌};
+ghost use Rattle.std.specs.Prelude.{◌≡◌, ◌+◌, ◌^◌, ◌<◌, ◌==◌, ◌&&◌, [], ◌∷◌, ◌++◌, fold, codes, OnOk};
+ghost use Rattle.std.specs.Prelude.{if◌then◌else◌};
 ghost use Rattle.flow_fields.specs.Table.{field_at};
 ghost use Rattle.line_texts.specs.Texts.{ipv6_text, ipv6_length_of};
 ghost use Rattle.tc_batch.specs.FieldNames.{field_number};
-ghost use Rattle.tc_print.specs.FieldWords.{value_by_number, name_text, value_text, field_words, prefix_words, named_words};
+ghost use Rattle.tc_print.specs.FieldWords.{value_by_number, name_text, value_text, field_words};
+ghost use Rattle.tc_print.specs.FieldWords.{prefix_words, named_words};
 ghost use Rattle.tc_print.specs.FieldWords.{prefixes_words, fields_words};
 ghost use Rattle.tc_print.specs.Texts.{onto};
 
@@ -132,7 +134,8 @@ fn push_ipv6_field(
     mask: &Key<14>,
 ) -> Result<(), AllocError>
     requires { high < 19 }
-    ensures { OnOk result (out.new.items ≡ fold onto out.old.items (prefix_words key.now.words mask.now.words high name.now)) }
+    ensures { OnOk result (out.new.items
+        ≡ fold onto out.old.items (prefix_words key.now.words mask.now.words high name.now)) }
 {
     let mask_high = value(mask, high);
     let mask_low = value(mask, high + 1);
@@ -151,7 +154,8 @@ fn push_ipv6_field(
 
 #[tactic(auto, using(crate::proofs::Grown::onto_append))]
 fn push_ipv6_fields(out: &mut Vec<u8>, key: &Key<14>, mask: &Key<14>) -> Result<(), AllocError>
-    ensures { OnOk result (out.new.items ≡ fold onto out.old.items (prefixes_words key.now.words mask.now.words)) }
+    ensures { OnOk result (out.new.items
+        ≡ fold onto out.old.items (prefixes_words key.now.words mask.now.words)) }
 {
     push_ipv6_field(out, "src_ip", field::SRC_IP6_HIGH, key, mask)?;
     push_ipv6_field(out, "dst_ip", field::DST_IP6_HIGH, key, mask)
@@ -162,7 +166,8 @@ fn push_ipv6_fields(out: &mut Vec<u8>, key: &Key<14>, mask: &Key<14>) -> Result<
 /// `AllocError`: memory was refused.
 #[tactic(auto, using(crate::proofs::Grown::onto_append))]
 pub fn push_fields(out: &mut Vec<u8>, key: &Key<14>, mask: &Key<14>) -> Result<(), AllocError>
-    ensures { OnOk result (out.new.items ≡ fold onto out.old.items (fields_words key.now.words mask.now.words)) }
+    ensures { OnOk result (out.new.items
+        ≡ fold onto out.old.items (fields_words key.now.words mask.now.words)) }
 {
     push_names(out, &NAMES, key, mask)?;
     push_ipv6_fields(out, key, mask)

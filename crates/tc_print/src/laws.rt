@@ -8,7 +8,8 @@ ghost use Rattle.filter_state.specs.Lines.{IsLine};
 ghost use Rattle.tc_batch.specs.Grammar.{Gives};
 ghost use Rattle.tc_print.specs.EditWords.{edit_words, printed};
 
-/// Each edit that a batch line can say is said by the line that it is printed as, and each word of that line is clean.
+/// Each edit that a batch line can say is said by the line that it is printed as, and each word of that line
+/// is clean.
 pub fn printed_lines_give_their_edits()
     ensures gives { (edit : Edit) → IsLine edit → Gives (words_of (printed edit)) edit }
     ensures words { (edit : Edit) → IsLine edit → Gives (edit_words edit) edit }

@@ -82,7 +82,8 @@ pub fn push_options(
     chain: u32,
     handle: Option<u32>,
 ) -> Result<(), AllocError>
-    ensures { OnOk result (out.new.items ≡ fold onto out.old.items (option_words protocol pref chain handle)) }
+    ensures { OnOk result (out.new.items
+        ≡ fold onto out.old.items (option_words protocol pref chain handle)) }
 {
     push_protocol_option(out, protocol)?;
     push_pref(out, pref)?;

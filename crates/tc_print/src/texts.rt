@@ -2,7 +2,9 @@
 //!
 //! Each function puts one space behind what is there, unless nothing is, and then its word.
 ghost use Rattle.std.specs.Prelude.{◌≡◌, ◌<◌, ◌^◌, [], ◌∷◌, fold, decimal, OnOk};
-ghost use Rattle.line_texts.specs.Texts.{handle_text, protocol_text, ether_type_text, ip_protocol_text, class_text, masked_hex_text, masked_octet_text, mac_text, ipv4_text, ipv6_text, prefix_length_of, ipv6_length_of};
+ghost use Rattle.line_texts.specs.Texts.{handle_text, protocol_text, ether_type_text, ip_protocol_text};
+ghost use Rattle.line_texts.specs.Texts.{class_text, masked_hex_text, masked_octet_text, mac_text, ipv4_text};
+ghost use Rattle.line_texts.specs.Texts.{ipv6_text, prefix_length_of, ipv6_length_of};
 ghost use Rattle.tc_print.specs.Texts.{spaced, onto};
 
 use line_texts::{
@@ -130,7 +132,8 @@ pub(crate) fn push_ipv6_word(
     mask_high: u64,
     mask_low: u64,
 ) -> Result<(), AllocError>
-    ensures { OnOk result (out.new.items ≡ onto out.old.items (ipv6_text high low (ipv6_length_of mask_high mask_low))) }
+    ensures { OnOk result (out.new.items
+        ≡ onto out.old.items (ipv6_text high low (ipv6_length_of mask_high mask_low))) }
 {
     push_space(out)?;
     push_ipv6(out, high, low, mask_high, mask_low)

@@ -1,6 +1,7 @@
--- The text that shows a state. Which lines it has, and their order, is this project's own; the lines of the qdisc, of actions and
--- of filters are batch lines (tc(8)).
-use Rattle.std.specs.Prelude.{ℕ, ◌==◌, ◌&&◌, ◌||◌, nat_lt, Bool, true, false, List, [], ◌∷◌, ◌++◌, Option, Some, None, codes, if◌then◌else◌}
+-- The text that shows a state. Which lines it has, and their order, is this project's own; the lines of the
+-- qdisc, of actions and of filters are batch lines (tc(8)).
+use Rattle.std.specs.Prelude.{ℕ, ◌==◌, ◌&&◌, ◌||◌, nat_lt, Bool, true, false, List, [], ◌∷◌, ◌++◌, Option}
+use Rattle.std.specs.Prelude.{Some, None, codes, if◌then◌else◌}
 use Rattle.std.specs.List.{flat_map, join_with_byte}
 use Rattle.std.specs.Fmt.{decimal}
 use Rattle.act_kinds.specs.Params.{kind_of, number_of_kind}
@@ -31,13 +32,15 @@ action_before a b =
 
 abbrev pub counts_words : Action → List (List ℕ)
 counts_words a =
-    codes "counts" ∷ kind_text (kind_of a.params) ∷ codes "index" ∷ decimal a.index ∷ codes "serial" ∷ decimal a.serial
+    codes "counts" ∷ kind_text (kind_of a.params) ∷ codes "index" ∷ decimal a.index ∷ codes "serial"
+    ∷ decimal a.serial
     ∷ codes "references" ∷ decimal a.references ∷ codes "binds" ∷ decimal a.binds ∷ []
 
 -- the line that makes the action, and one with its counts
 abbrev pub action_shown : Action → List ℕ
 action_shown a =
-    text_line (codes "actions" ∷ codes "add" ∷ action_words (record { kind = kind_of a.params; index = Some a.index; params = Some a.params }))
+    text_line (codes "actions" ∷ codes "add"
+    ∷ action_words (record { kind = kind_of a.params; index = Some a.index; params = Some a.params }))
     ++ text_line (counts_words a)
 
 -- ---- filters, in the order of the rows

@@ -1,10 +1,12 @@
 //! The line that tells why a batch stopped.
 //!
-//! It grows at the end of a text that may hold lines, so its first word has no space before it and each other word has one.
+//! It grows at the end of a text that may hold lines, so its first word has no space before it and each other
+//! word has one.
 ghost use Rattle.std.specs.Prelude.{◌≡◌, [], ◌∷◌, ◌++◌, codes, decimal, OnOk};
 ghost use Rattle.std.specs.List.{join_with_byte};
 ghost use Rattle.line_texts.specs.Texts.{handle_text, protocol_text};
-ghost use Rattle.tc_report.specs.Refusals.{refusal_name, refusal_fields, refusal_words, syntax_words, place_words, refused_line};
+ghost use Rattle.tc_report.specs.Refusals.{refusal_name, refusal_fields, refusal_words, syntax_words};
+ghost use Rattle.tc_report.specs.Refusals.{place_words, refused_line};
 ghost use Rattle.tc_report.specs.Steps.{spaced_words};
 
 use filter_state::Refusal;
@@ -97,7 +99,8 @@ fn push_reason(out: &mut Vec<u8>, refusal: &Refusal) -> Result<(), AllocError>
 }
 
 fn push_place(out: &mut Vec<u8>, accepted: u32, control: u32, line: u64) -> Result<(), AllocError>
-    ensures { OnOk result (out.new.items ≡ out.old.items ++ join_with_byte 32 (place_words accepted control line)) }
+    ensures { OnOk result (out.new.items
+        ≡ out.old.items ++ join_with_byte 32 (place_words accepted control line)) }
 {
     out.extend_from_slice("refused".as_bytes())?;
     push_decimal(out, u64::from(accepted))?;
@@ -105,8 +108,8 @@ fn push_place(out: &mut Vec<u8>, accepted: u32, control: u32, line: u64) -> Resu
     push_numbered(out, "line", line)
 }
 
-/// Puts the line that tells of a refused edit at the end of a text: how many edits were accepted before it, its control and its
-/// line there, and the refusal with what it says.
+/// Puts the line that tells of a refused edit at the end of a text: how many edits were accepted before it,
+/// its control and its line there, and the refusal with what it says.
 ///
 /// `NoMemory`: memory was refused, and a part of the line may stand at the end of the text.
 pub fn push_refused(
@@ -116,7 +119,8 @@ pub fn push_refused(
     line: u64,
     refusal: &Refusal,
 ) -> Result<(), NoMemory>
-    ensures { OnOk result (out.new.items ≡ out.old.items ++ refused_line accepted control line (refusal_words refusal.now)) }
+    ensures { OnOk result (out.new.items
+        ≡ out.old.items ++ refused_line accepted control line (refusal_words refusal.now)) }
 {
     push_place(out, accepted, control, line)?;
     push_reason(out, refusal)?;
@@ -124,8 +128,8 @@ pub fn push_refused(
     Ok(())
 }
 
-/// Puts the line that tells of a line with no meaning at the end of a text: how many edits were accepted before it, its control and
-/// its place there, and the number of the first word that doesn't fit.
+/// Puts the line that tells of a line with no meaning at the end of a text: how many edits were accepted
+/// before it, its control and its place there, and the number of the first word that doesn't fit.
 ///
 /// `NoMemory`: memory was refused, and a part of the line may stand at the end of the text.
 pub fn push_bad_line(
@@ -135,7 +139,8 @@ pub fn push_bad_line(
     line: u64,
     word: u32,
 ) -> Result<(), NoMemory>
-    ensures { OnOk result (out.new.items ≡ out.old.items ++ refused_line accepted control line (syntax_words word)) }
+    ensures { OnOk result (out.new.items
+        ≡ out.old.items ++ refused_line accepted control line (syntax_words word)) }
 {
     push_place(out, accepted, control, line)?;
     push_numbered(out, "Syntax", u64::from(word))?;

@@ -3,8 +3,8 @@ ghost use Rattle.std.specs.Prelude.{◌≡◌, [], ◌∷◌, ◌++◌, OnOk};
 
 use std::alloc::{AllocError, Global};
 
-/// Lines that are done, and one that grows word by word. Each line grows in the one buffer, where its first word stands at the
-/// start, so that no space goes before it.
+/// Lines that are done, and one that grows word by word. Each line grows in the one buffer, where its first
+/// word stands at the start, so that no space goes before it.
 #[derive(Drop)]
 pub(crate) struct Sheet {
     pub(crate) text: Vec<u8>,
@@ -25,7 +25,8 @@ impl Sheet {
 
     /// The line is done, and an empty one begins.
     pub(crate) fn end_line(&mut self) -> Result<(), AllocError>
-        ensures text { OnOk result (self.new.text.items ≡ self.old.text.items ++ (self.old.line.items ++ (10 ∷ []))) }
+        ensures text { OnOk result (self.new.text.items ≡ self.old.text.items
+            ++ (self.old.line.items ++ (10 ∷ []))) }
         ensures line { OnOk result (self.new.line.items ≡ []) }
     {
         self.text.extend_from_slice(&self.line)?;

@@ -16,7 +16,8 @@ use tc_print::{push_qdisc, push_word};
 // The qdisc, if it is there.
 fn push_hooked(sheet: &mut Sheet, hooked: bool) -> Result<(), AllocError>
     requires { sheet.old.line.items ≡ [] }
-    ensures text { OnOk result (sheet.new.text.items ≡ sheet.old.text.items ++ (if hooked then text_line (qdisc_words (codes "add")) else [])) }
+    ensures text { OnOk result (sheet.new.text.items ≡ sheet.old.text.items
+        ++ (if hooked then text_line (qdisc_words (codes "add")) else [])) }
     ensures line { OnOk result (sheet.new.line.items ≡ []) }
 {
     if !hooked {
@@ -34,7 +35,8 @@ fn push_end(sheet: &mut Sheet) -> Result<(), AllocError>
     sheet.end_line()
 }
 
-/// The text that shows the state of the lists: the qdisc, the actions with their counts, the filters, and `end`.
+/// The text that shows the state of the lists: the qdisc, the actions with their counts, the filters, and
+/// `end`.
 ///
 /// `NoMemory`: memory was refused.
 pub fn show_text(alloc: Global, lists: &Lists) -> Result<Vec<u8>, NoMemory>

@@ -27,7 +27,9 @@ use tc_print::{push_action, push_fields, push_hook, push_options, push_word};
 
 // An action by its kind and index.
 fn push_bound(line: &mut Vec<u8>, actions: &Registry<Params>, serial: u32) -> Result<(), AllocError>
-    ensures { OnOk result (line.new.items ≡ fold onto line.old.items (list_words (named (first_where (has_serial serial) (actions_of actions.now.entries))))) }
+    ensures { OnOk result (line.new.items
+        ≡ fold onto line.old.items
+        (list_words (named (first_where (has_serial serial) (actions_of actions.now.entries))))) }
 {
     match actions.of_serial(serial) {
         Some(entry) => push_action(
@@ -47,7 +49,11 @@ fn push_all_bound(
     actions: &Registry<Params>,
     serials: &[u32],
 ) -> Result<(), AllocError>
-    ensures { OnOk result (line.new.items ≡ fold onto line.old.items (list_words (flat_map (λ serial. named (first_where (has_serial serial) (actions_of actions.now.entries))) serials.now))) }
+    ensures { OnOk result (line.new.items
+        ≡ fold onto line.old.items
+        (list_words
+        (flat_map (λ serial. named (first_where (has_serial serial) (actions_of actions.now.entries)))
+        serials.now))) }
 {
     for serial in serials {
         push_bound(line, actions, *serial)?;
@@ -63,7 +69,11 @@ fn push_words(
     mask: &MaskList,
     filter: &Filter,
 ) -> Result<(), AllocError>
-    ensures { OnOk result (line.new.items ≡ fold onto line.old.items (filter_words (codes "add") (line_of (naming actions.now.entries) (row_of hook (plain_table table.now) (plain_mask mask.now) filter.now)))) }
+    ensures { OnOk result (line.new.items
+        ≡ fold onto line.old.items
+        (filter_words (codes "add")
+        (line_of (naming actions.now.entries)
+        (row_of hook (plain_table table.now) (plain_mask mask.now) filter.now)))) }
 {
     push_hook(line, "add", hook)?;
     push_options(
@@ -88,7 +98,9 @@ fn push_filter(
     filter: &Filter,
 ) -> Result<(), AllocError>
     requires { sheet.old.line.items ≡ [] }
-    ensures text { OnOk result (sheet.new.text.items ≡ sheet.old.text.items ++ filter_shown (naming actions.now.entries) (row_of hook (plain_table table.now) (plain_mask mask.now) filter.now)) }
+    ensures text { OnOk result (sheet.new.text.items ≡ sheet.old.text.items
+        ++ filter_shown (naming actions.now.entries)
+        (row_of hook (plain_table table.now) (plain_mask mask.now) filter.now)) }
     ensures line { OnOk result (sheet.new.line.items ≡ []) }
 {
     push_words(&mut sheet.line, actions, hook, table, mask, filter)?;
@@ -106,7 +118,10 @@ fn push_slot(
     slot: &Option<Filter>,
 ) -> Result<(), AllocError>
     requires { sheet.old.line.items ≡ [] }
-    ensures text { OnOk result (sheet.new.text.items ≡ sheet.old.text.items ++ slot_shown (λ f. filter_shown (naming actions.now.entries) (row_of hook (plain_table table.now) (plain_mask mask.now) f)) slot.now) }
+    ensures text { OnOk result (sheet.new.text.items ≡ sheet.old.text.items
+        ++ slot_shown
+        (λ f. filter_shown (naming actions.now.entries)
+        (row_of hook (plain_table table.now) (plain_mask mask.now) f)) slot.now) }
     ensures line { OnOk result (sheet.new.line.items ≡ []) }
 {
     match slot {
@@ -123,7 +138,9 @@ fn push_slots(
     mask: &MaskList,
 ) -> Result<(), AllocError>
     requires { sheet.old.line.items ≡ [] }
-    ensures text { OnOk result (sheet.new.text.items ≡ sheet.old.text.items ++ flat_map (filter_shown (naming actions.now.entries)) (rows_of_mask hook (plain_table table.now) (plain_mask mask.now))) }
+    ensures text { OnOk result (sheet.new.text.items ≡ sheet.old.text.items
+        ++ flat_map (filter_shown (naming actions.now.entries))
+        (rows_of_mask hook (plain_table table.now) (plain_mask mask.now))) }
     ensures line { OnOk result (sheet.new.line.items ≡ []) }
 {
     let slots = mask.filters.slots();
@@ -140,7 +157,9 @@ fn push_masks(
     table: &FilterTable,
 ) -> Result<(), AllocError>
     requires { sheet.old.line.items ≡ [] }
-    ensures text { OnOk result (sheet.new.text.items ≡ sheet.old.text.items ++ flat_map (filter_shown (naming actions.now.entries)) (rows_of_table hook (plain_table table.now))) }
+    ensures text { OnOk result (sheet.new.text.items ≡ sheet.old.text.items
+        ++ flat_map (filter_shown (naming actions.now.entries))
+        (rows_of_table hook (plain_table table.now))) }
     ensures line { OnOk result (sheet.new.line.items ≡ []) }
 {
     let masks = table.masks.as_slice();
@@ -153,7 +172,9 @@ fn push_masks(
 /// Puts a line for each filter of a hook.
 pub(crate) fn push_tables(sheet: &mut Sheet, lists: &Lists, hook: Hook) -> Result<(), AllocError>
     requires { sheet.old.line.items ≡ [] }
-    ensures text { OnOk result (sheet.new.text.items ≡ sheet.old.text.items ++ flat_map (filter_shown (naming lists.now.actions.entries)) (rows_of hook (tables_on hook (both_of lists.now)))) }
+    ensures text { OnOk result (sheet.new.text.items ≡ sheet.old.text.items
+        ++ flat_map (filter_shown (naming lists.now.actions.entries))
+        (rows_of hook (tables_on hook (both_of lists.now)))) }
     ensures line { OnOk result (sheet.new.line.items ≡ []) }
 {
     let tables = lists.tables(hook);

@@ -54,7 +54,8 @@ neither : (blank sign : Bool) → blank || sign ≡ false → (blank ≡ false) 
 neither true sign e = cc
 neither false sign e = (refl, e)
 
--- the first part of a line ends after so many bytes, and what stands behind them begins with a part without bytes
+-- the first part of a line ends after so many bytes, and what stands behind them begins with a part without
+-- bytes
 abbrev IsCutAt : ℕ → List ℕ → Type 0
 IsCutAt n text =
     (parts : List (List ℕ)) × (slice_split is_blank (uncommented text) ≡ take n text ∷ parts) × (slice_split is_blank (uncommented (drop n text)) ≡ [] ∷ parts)

@@ -10,11 +10,12 @@ joined_octets a b c d = None
 
 -- four words, each the decimal number of an octet
 abbrev pub octets_of : List (List ℕ) → Option ℕ
-octets_of (a ∷ b ∷ c ∷ d ∷ []) = joined_octets (decimal_of a 255) (decimal_of b 255) (decimal_of c 255) (decimal_of d 255)
+octets_of (a ∷ b ∷ c ∷ d ∷ []) =
+    joined_octets (decimal_of a 255) (decimal_of b 255) (decimal_of c 255) (decimal_of d 255)
 octets_of parts = None
 
--- RFC 1123, section 2.1: an address in dotted decimal is four octets with dots between. A needless 0 in front, which some
--- programs read as octal, is refused: that is this project's own.
+-- RFC 1123, section 2.1: an address in dotted decimal is four octets with dots between. A needless 0 in
+-- front, which some programs read as octal, is refused: that is this project's own.
 unfoldable pub address_of : List ℕ → Option ℕ
 address_of text = octets_of (slice_split (λ b. b == 46) text)
 

@@ -1,5 +1,6 @@
 -- Numbers in hexadecimal digits.
-use Rattle.std.specs.Prelude.{ℕ, ◌+◌, ◌*◌, Bool, false, ◌&&◌, ◌==◌, nat_lt, List, length, drop, fold, slice_index, Option, Some, None, if◌then◌else◌}
+use Rattle.std.specs.Prelude.{ℕ, ◌+◌, ◌*◌, Bool, false, ◌&&◌, ◌==◌, nat_lt, List, length, drop, fold}
+use Rattle.std.specs.Prelude.{slice_index, Option, Some, None, if◌then◌else◌}
 use Rattle.std.specs.List.{list_all}
 use Rattle.std.specs.Char.{is_ascii_hexdigit, digit_value}
 
@@ -20,9 +21,10 @@ hex_of text most = if is_hex text most then Some (hex_value text) else None
 
 -- a word behind `0x`, or the whole of a word without it
 abbrev pub without_hex_mark : List ℕ → List ℕ
-without_hex_mark word = if (nat_lt 1 (length word) && slice_index word 0 == 0x30) && slice_index word 1 == 0x78 then drop 2 word else word
+without_hex_mark word = if (nat_lt 1 (length word) && slice_index word 0 == 0x30)
+    && slice_index word 1 == 0x78 then drop 2 word else word
 
--- the number that a word of so many digits at most spells, with or without `0x` before them. The forms of words are this
--- project's own, after those that `tc` reads.
+-- the number that a word of so many digits at most spells, with or without `0x` before them. The forms of
+-- words are this project's own, after those that `tc` reads.
 unfoldable pub marked_hex_of : List ℕ → ℕ → Option ℕ
 marked_hex_of word most = hex_of (without_hex_mark word) most

@@ -1,5 +1,6 @@
 -- IPv6 addresses in groups of hexadecimal digits, with the length of a prefix behind them.
-use Rattle.std.specs.Prelude.{ℕ, ◌+◌, ◌-◌, ◌*◌, ◌/◌, ◌%◌, ◌^◌, Bool, ◌&&◌, ◌==◌, nat_lt, bit_and, List, [], ◌∷◌, length, take, drop, position, Option, Some, None, if◌then◌else◌}
+use Rattle.std.specs.Prelude.{ℕ, ◌+◌, ◌-◌, ◌*◌, ◌/◌, ◌%◌, ◌^◌, Bool, ◌&&◌, ◌==◌, nat_lt, bit_and, List, []}
+use Rattle.std.specs.Prelude.{◌∷◌, length, take, drop, position, Option, Some, None, if◌then◌else◌}
 use Rattle.std.specs.List.{slice_split, zip}
 use Rattle.std.specs.Option.{option_map}
 use Rattle.tc_words.specs.Numbers.{decimal_of}
@@ -18,7 +19,8 @@ gap_place text = position are_colons (zip text (drop 1 text))
 abbrev pub cut_at_gap : List ℕ → Option (List ℕ × List ℕ)
 cut_at_gap text = option_map (λ at. (take at text, drop (at + 2) text)) (gap_place text)
 
--- groups of 16 bits in 1 to 4 hexadecimal digits, with colons between: how many, and the number that they make
+-- groups of 16 bits in 1 to 4 hexadecimal digits, with colons between: how many, and the number that they
+-- make
 abbrev pub ipv6_groups : List ℕ → Option (ℕ × ℕ)
 ipv6_groups text = groups_of 1 4 8 (slice_split (λ b. b == 58) text)
 
@@ -28,7 +30,8 @@ groups_beside text = if length text == 0 then Some (0, 0) else ipv6_groups text
 
 -- RFC 4291, section 2.2: `::` stands for one or more groups of 0, so that there are 8 in all
 abbrev pub joined_around_gap : Option (ℕ × ℕ) → Option (ℕ × ℕ) → Option ℕ
-joined_around_gap (Some front) (Some back) = if nat_lt (front.0 + back.0) 8 then Some (front.1 * 65536 ^ (8 - front.0) + back.1) else None
+joined_around_gap (Some front) (Some back) = if nat_lt (front.0 + back.0) 8
+    then Some (front.1 * 65536 ^ (8 - front.0) + back.1) else None
 joined_around_gap front back = None
 
 -- the address of a text by its cut at `::`. A second `::` leaves a group without digits, which is none.
@@ -36,8 +39,8 @@ abbrev pub address_by_gap : List ℕ → Option (List ℕ × List ℕ) → Optio
 address_by_gap text None = of_just 8 (ipv6_groups text)
 address_by_gap text (Some (front, back)) = joined_around_gap (groups_beside front) (groups_beside back)
 
--- RFC 4291, section 2.2, forms 1 and 2: the 128 bits of an address, the first group highest. That form 3, with dotted
--- decimal at the end, is refused is this project's own.
+-- RFC 4291, section 2.2, forms 1 and 2: the 128 bits of an address, the first group highest. That form 3,
+-- with dotted decimal at the end, is refused is this project's own.
 unfoldable pub ipv6_address_of : List ℕ → Option ℕ
 ipv6_address_of text = address_by_gap text (cut_at_gap text)
 

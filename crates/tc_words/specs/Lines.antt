@@ -1,5 +1,7 @@
--- The lines of a batch file, and the words of a line. The rules are this project's own, after the files that `tc -batch` reads.
-use Rattle.std.specs.Prelude.{ℕ, Bool, not, ◌||◌, ◌==◌, List, [], ◌∷◌, length, map, filter, take, drop, position, ◌+◌, Option, if◌then◌else◌}
+-- The lines of a batch file, and the words of a line. The rules are this project's own, after the files that
+-- `tc -batch` reads.
+use Rattle.std.specs.Prelude.{ℕ, Bool, not, ◌||◌, ◌==◌, List, [], ◌∷◌, length, map, filter, take, drop}
+use Rattle.std.specs.Prelude.{position, ◌+◌, Option, if◌then◌else◌}
 use Rattle.std.specs.List.{slice_split}
 use Rattle.std.specs.Option.{option_map, option_map_or}
 use Rattle.std.specs.Str.Lines.{strip_carriage_return}
@@ -10,7 +12,8 @@ without_last_empty [] = []
 without_last_empty (part ∷ []) = if length part == 0 then [] else part ∷ []
 without_last_empty (part ∷ next ∷ more) = part ∷ without_last_empty (next ∷ more)
 
--- the lines of a file: the parts between line feeds (0x0A), each without the one carriage return (0x0D) at its end
+-- the lines of a file: the parts between line feeds (0x0A), each without the one carriage return (0x0D) at
+-- its end
 unfoldable pub lines_of : List ℕ → List (List ℕ)
 lines_of bytes = map strip_carriage_return (without_last_empty (slice_split (λ b. b == 0x0a) bytes))
 

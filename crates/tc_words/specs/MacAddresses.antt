@@ -5,8 +5,8 @@ use Rattle.std.specs.Option.{option_map, option_or}
 use Rattle.tc_words.specs.Numbers.{decimal_of}
 use Rattle.tc_words.specs.Groups.{of_just, groups_of}
 
--- RFC 6991, section 4 (mac-address): the 48 bits of an address of IEEE 802 as six octets, the highest first, each in two
--- hexadecimal digits, with colons between
+-- RFC 6991, section 4 (mac-address): the 48 bits of an address of IEEE 802 as six octets, the highest first,
+-- each in two hexadecimal digits, with colons between
 unfoldable pub mac_address_of : List ℕ → Option ℕ
 mac_address_of text = of_just 6 (groups_of 2 2 6 (slice_split (λ b. b == 58) text))
 
@@ -14,7 +14,8 @@ mac_address_of text = of_just 6 (groups_of 2 2 6 (slice_split (λ b. b == 58) te
 abbrev pub mac_length_mask : ℕ → ℕ
 mac_length_mask length = 2 ^ 48 - 2 ^ (48 - length)
 
--- tc-flower(8), dst_mac: a mask is an address, or else a number of high bits. That this is decimal is this project's own.
+-- tc-flower(8), dst_mac: a mask is an address, or else a number of high bits. That this is decimal is this
+-- project's own.
 abbrev pub mac_mask_of : List ℕ → Option ℕ
 mac_mask_of text = option_or (mac_address_of text) (option_map mac_length_mask (decimal_of text 48))
 

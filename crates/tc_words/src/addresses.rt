@@ -57,11 +57,12 @@ fn masked(address: Option<u32>, length: Option<u32>) -> Option<(u32, u32)>
     Some((address & mask, mask))
 }
 
-/// The address AND the mask, and then the mask, of an IPv4 address in dotted decimal (RFC 1123, section 2.1), alone or with
-/// `/` and the length of a prefix (RFC 4632, section 3.1) behind it. An address alone has all 32 bits in its mask.
+/// The address AND the mask, and then the mask, of an IPv4 address in dotted decimal (RFC 1123, section 2.1),
+/// alone or with `/` and the length of a prefix (RFC 4632, section 3.1) behind it. An address alone has all
+/// 32 bits in its mask.
 ///
-/// `None` where the word is of no such form: each number is decimal without a needless 0 in front, an octet is at most 255,
-/// and a length at most 32.
+/// `None` where the word is of no such form: each number is decimal without a needless 0 in front, an octet
+/// is at most 255, and a length at most 32.
 pub fn read_ipv4(word: &[u8]) -> Option<(u32, u32)>
     ensures { result ≡ ipv4_of word.now }
 {

@@ -13,11 +13,13 @@ pub(crate) fn place_of(bytes: &[u8], byte: u8) -> Option<usize>
     memchr(byte, bytes)
 }
 
-/// What stands before the first such byte, and what behind it. The byte itself is in neither, and either may be empty.
+/// What stands before the first such byte, and what behind it. The byte itself is in neither, and either may
+/// be empty.
 ///
 /// `None` where there is no such byte.
 pub fn cut_at(bytes: &[u8], byte: u8) -> Option<(&[u8], &[u8])>
-    ensures { option_map (λ (parts : Bor (List ℕ) × Bor (List ℕ)). (parts.0.now, parts.1.now)) result ≡ cut_once byte bytes.now }
+    ensures { option_map (λ (parts : Bor (List ℕ) × Bor (List ℕ)). (parts.0.now, parts.1.now)) result
+        ≡ cut_once byte bytes.now }
 {
     match place_of(bytes, byte) {
         Some(at) => Some((&bytes[..at], &bytes[at + 1..])),

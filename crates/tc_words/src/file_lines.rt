@@ -32,10 +32,12 @@ fn bytes_from(bytes: &[u8], at: usize) -> &[u8]
 
 /// The first line of what stands from a place on. `None` exactly where nothing stands there.
 ///
-/// So the lines of a file come one by one, each from the place behind the one before, and none has to be kept.
+/// So the lines of a file come one by one, each from the place behind the one before, and none has to be
+/// kept.
 pub fn line_from(bytes: &[u8], at: usize) -> Option<FileLine<'_>>
     requires { at ≤ length bytes.now }
-    ensures some { IfSome result (λ line. lines_of (drop at bytes.now) ≡ line.text.now ∷ lines_of (drop line.next bytes.now)) }
+    ensures some { IfSome result (λ line. lines_of (drop at bytes.now)
+        ≡ line.text.now ∷ lines_of (drop line.next bytes.now)) }
     ensures onward { IfSome result (λ line. (at < line.next) × (line.next ≤ length bytes.now)) }
     ensures none { IfNone result ((at ≡ length bytes.now) × (lines_of (drop at bytes.now) ≡ [])) }
 {
@@ -70,7 +72,8 @@ fn cut_lines(alloc: Global, bytes: &[u8]) -> Result<Vec<&[u8]>, AllocError>
     Ok(lines)
 }
 
-/// The lines of a file, in order: what stands between line feeds, each without the one carriage return at its end.
+/// The lines of a file, in order: what stands between line feeds, each without the one carriage return at its
+/// end.
 ///
 /// A last line needs no line feed, and nothing behind the last line feed is no line. Blank lines count.
 pub fn lines(alloc: Global, bytes: &[u8]) -> Result<Vec<&[u8]>, NoMemory>

@@ -1,5 +1,6 @@
 //! The words of a line one by one, each read off the front of what is left.
-ghost use Rattle.std.specs.Prelude.{◌≡◌, ◌==◌, ◌<◌, ◌≤◌, not, position, List, [], ◌∷◌, ℕ, length, drop, IfSome};
+ghost use Rattle.std.specs.Prelude.{◌≡◌, ◌==◌, ◌<◌, ◌≤◌, not, position, List, [], ◌∷◌, ℕ, length, drop};
+ghost use Rattle.std.specs.Prelude.{IfSome};
 ghost use Rattle.std.specs.List.{position_or_len};
 ghost use Rattle.std.specs.Borrow.{Bor};
 ghost use Rattle.std.specs.Option.{option_map_or};
@@ -53,10 +54,12 @@ fn without_blanks(text: &[u8]) -> &[u8]
 
 /// The first word of a piece of a line, and what stands behind it.
 ///
-/// `None` where there is no word: where nothing but blanks stands before the comment or the end. A word is what `split`
-/// takes for one.
+/// `None` where there is no word: where nothing but blanks stands before the comment or the end. A word is
+/// what `split` takes for one.
 pub fn first_word(rest: &[u8]) -> Option<(&[u8], &[u8])>
-    ensures words { words_of rest.now ≡ option_map_or (λ (parts : Bor (List ℕ) × Bor (List ℕ)). parts.0.now ∷ words_of parts.1.now) result [] }
+    ensures words { words_of rest.now
+        ≡ option_map_or (λ (parts : Bor (List ℕ) × Bor (List ℕ)). parts.0.now
+        ∷ words_of parts.1.now) result [] }
     ensures shorter { IfSome result (λ parts. length parts.1.now < length rest.now) }
 {
     let text = without_blanks(rest);

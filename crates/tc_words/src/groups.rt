@@ -28,8 +28,8 @@ fn push_group(number: u128, text: &[u8], least: usize, most: u32) -> Option<u128
     Some(number * 16u128.pow(most) + u128::from(group))
 }
 
-// How many groups there are, and the number that they make, the highest first. Each has `least` to `most` digits, and there
-// are at most `greatest`.
+// How many groups there are, and the number that they make, the highest first. Each has `least` to `most`
+// digits, and there are at most `greatest`.
 pub(crate) fn read_groups(
     text: &[u8],
     least: usize,

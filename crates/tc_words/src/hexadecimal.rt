@@ -45,8 +45,8 @@ fn has_hex_form(text: &[u8], most: u32) -> bool
     are_hex_digits(text)
 }
 
-/// The number that a text of 1 to `most` hexadecimal digits of either case spells, with no `0x` before them. So `17` is 23. At
-/// most 16 digits may be asked for.
+/// The number that a text of 1 to `most` hexadecimal digits of either case spells, with no `0x` before them.
+/// So `17` is 23. At most 16 digits may be asked for.
 ///
 /// `None` for any other text, the empty one too.
 #[tactic(auto, unfolding(crate::specs::Hexadecimal::hex_of))]
@@ -70,8 +70,8 @@ fn without_hex_mark(word: &[u8]) -> &[u8]
     }
 }
 
-/// The number that a word spells in hexadecimal digits of either case, 1 to `digits` of them, with or without `0x` before
-/// them. So `17` is 23. At most 16 digits may be asked for.
+/// The number that a word spells in hexadecimal digits of either case, 1 to `digits` of them, with or without
+/// `0x` before them. So `17` is 23. At most 16 digits may be asked for.
 ///
 /// `None` for any other word, the empty one and one with `0X` too.
 #[tactic(auto, unfolding(crate::specs::Hexadecimal::marked_hex_of))]

@@ -1,17 +1,20 @@
 //! IPv6 addresses and prefixes.
-ghost use Rattle.std.specs.Prelude.{◌≡◌, ◌==◌, ◌&&◌, ◌≤◌, ◌<◌, ◌+◌, ◌-◌, ◌*◌, ◌^◌, List, ℕ, length, slice_index, IfSome, Option};
+ghost use Rattle.std.specs.Prelude.{◌≡◌, ◌==◌, ◌&&◌, ◌≤◌, ◌<◌, ◌+◌, ◌-◌, ◌*◌, ◌^◌, List, ℕ, length};
+ghost use Rattle.std.specs.Prelude.{slice_index, IfSome, Option};
 ghost use Rattle.std.specs.List.{slice_split};
 ghost use Rattle.std.specs.Option.{option_map};
 ghost use Rattle.std.specs.Borrow.{Bor};
 ghost use Rattle.tc_words.specs.Groups.{of_just};
-ghost use Rattle.tc_words.specs.Ipv6Addresses.{gap_place, cut_at_gap, ipv6_groups, groups_beside, joined_around_gap, ipv6_address_of, ipv6_mask, ipv6_halves, ipv6_prefix, ipv6_length_behind, ipv6_of};
+ghost use Rattle.tc_words.specs.Ipv6Addresses.{gap_place, cut_at_gap, ipv6_groups, groups_beside};
+ghost use Rattle.tc_words.specs.Ipv6Addresses.{joined_around_gap, ipv6_address_of, ipv6_mask, ipv6_halves};
+ghost use Rattle.tc_words.specs.Ipv6Addresses.{ipv6_prefix, ipv6_length_behind, ipv6_of};
 
 use crate::cuts::cut_at;
 use crate::groups::read_groups;
 use crate::read_decimal;
 
-/// An IPv6 prefix: the highest 64 bits of the address, its lowest 64, and how many of the 128 count, from the highest down.
-/// An address alone is a prefix of 128 bits.
+/// An IPv6 prefix: the highest 64 bits of the address, its lowest 64, and how many of the 128 count, from the
+/// highest down. An address alone is a prefix of 128 bits.
 #[derive(Clone, Copy, Debug, PartialEq, Eq)]
 pub struct Ipv6Word {
     pub high: u64,
@@ -43,7 +46,8 @@ fn gap_place(text: &[u8]) -> Option<usize>
 
 // What stands before the first `::`, and what behind it.
 fn cut_at_gap(text: &[u8]) -> Option<(&[u8], &[u8])>
-    ensures { option_map (λ (parts : Bor (List ℕ) × Bor (List ℕ)). (parts.0.now, parts.1.now)) result ≡ cut_at_gap text.now }
+    ensures { option_map (λ (parts : Bor (List ℕ) × Bor (List ℕ)). (parts.0.now, parts.1.now)) result
+        ≡ cut_at_gap text.now }
 {
     match gap_place(text) {
         Some(at) => Some((&text[..at], &text[at + 2..])),
@@ -156,11 +160,12 @@ fn read_last_length(text: &[u8]) -> Option<u32>
     }
 }
 
-/// The prefix that a word spells: an IPv6 address, alone or with `/` and a length behind it. The bits of the address past the
-/// length are 0 in the answer (RFC 4291, section 2.3).
+/// The prefix that a word spells: an IPv6 address, alone or with `/` and a length behind it. The bits of the
+/// address past the length are 0 in the answer (RFC 4291, section 2.3).
 ///
-/// An address is eight groups of 1 to 4 hexadecimal digits, of either case, with `:` between, where one `::` may stand for one
-/// or more groups of 0 (RFC 4291, section 2.2). A length is a decimal number, 0 to 128, without a needless 0 in front.
+/// An address is eight groups of 1 to 4 hexadecimal digits, of either case, with `:` between, where one `::`
+/// may stand for one or more groups of 0 (RFC 4291, section 2.2). A length is a decimal number, 0 to 128,
+/// without a needless 0 in front.
 ///
 /// `None` where the word is of no such form, and where the address ends in dotted decimal.
 pub fn read_ipv6(word: &[u8]) -> Option<Ipv6Word>

@@ -1,13 +1,14 @@
 //! Cuts a batch file into lines and a line into words, and reads the numbers and addresses that words spell.
 //!
-//! The file is bytes from outside, read as such: no text encoding is asked for, and only space and tab part words, so a
-//! word may hold any other byte. std's `split_whitespace` would cut at more. Each function answers by what the whole line
-//! or word is (`specs/`), and not by how it is gone over.
+//! The file is bytes from outside, read as such: no text encoding is asked for, and only space and tab part
+//! words, so a word may hold any other byte. std's `split_whitespace` would cut at more. Each function
+//! answers by what the whole line or word is (`specs/`), and not by how it is gone over.
 //!
-//! `lines` cuts a file at once; `line_from` gives a line at a time, for whoever keeps a place in a file. `split` gives the words of a line
-//! as places in it, so a line costs one allocation, and its words cost none. `first_word` gives them one by one, and takes no memory, as
-//! `line_from` and the readers of words do. The functions that take some are passed the allocator, and answer `NoMemory` where it has none
-//! left; there is no other fault here. A word that is not of the form asked for is `None`.
+//! `lines` cuts a file at once; `line_from` gives a line at a time, for whoever keeps a place in a file.
+//! `split` gives the words of a line as places in it, so a line costs one allocation, and its words cost
+//! none. `first_word` gives them one by one, and takes no memory, as `line_from` and the readers of words do.
+//! The functions that take some are passed the allocator, and answer `NoMemory` where it has none left; there
+//! is no other fault here. A word that is not of the form asked for is `None`.
 //!
 //! Nothing is kept between calls, so any thread may call any function.
 //!

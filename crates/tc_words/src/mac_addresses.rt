@@ -1,7 +1,8 @@
 //! The addresses of network cards, with a mask behind them.
 ghost use Rattle.std.specs.Prelude.{◌≡◌, ◌==◌, ◌≤◌, ◌<◌, ◌^◌, bit_and, IfSome};
 ghost use Rattle.std.specs.List.{slice_split};
-ghost use Rattle.tc_words.specs.MacAddresses.{mac_address_of, mac_length_mask, mac_mask_of, mac_mask_behind, masked_mac, mac_of};
+ghost use Rattle.tc_words.specs.MacAddresses.{mac_address_of, mac_length_mask, mac_mask_of, mac_mask_behind};
+ghost use Rattle.tc_words.specs.MacAddresses.{masked_mac, mac_of};
 
 use crate::cuts::cut_at;
 use crate::groups::read_groups;
@@ -65,11 +66,12 @@ fn masked(address: Option<u64>, mask: Option<u64>) -> Option<(u64, u64)>
     Some((address & mask, mask))
 }
 
-/// The address AND the mask, and then the mask, of the address of a network card, alone or with `/` and a mask behind it. Both
-/// are numbers of 48 bits, the first octet highest (tc-flower(8), `dst_mac`).
+/// The address AND the mask, and then the mask, of the address of a network card, alone or with `/` and a
+/// mask behind it. Both are numbers of 48 bits, the first octet highest (tc-flower(8), `dst_mac`).
 ///
-/// An address is six octets in two hexadecimal digits each, of either case, with `:` between (RFC 6991, section 4). A mask is
-/// written as an address, or as the decimal number, 0 to 48, of its high bits. An address alone has all 48 bits in its mask.
+/// An address is six octets in two hexadecimal digits each, of either case, with `:` between (RFC 6991,
+/// section 4). A mask is written as an address, or as the decimal number, 0 to 48, of its high bits. An
+/// address alone has all 48 bits in its mask.
 ///
 /// `None` where the word is of no such form.
 pub fn read_mac(word: &[u8]) -> Option<(u64, u64)>

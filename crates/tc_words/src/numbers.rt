@@ -25,7 +25,8 @@ fn has_decimal_form(word: &[u8]) -> bool
     are_digits(word)
 }
 
-// The number that digits spell. It stops at the first digit that takes it past the greatest, so the sum never overflows.
+// The number that digits spell. It stops at the first digit that takes it past the greatest, so the sum never
+// overflows.
 fn value_up_to(word: &[u8], most: u32) -> Option<u32>
     requires { IsTrue (list_all is_ascii_digit word.now) }
     ensures { result ≡ (if nat_le (digits_value word.now) most then Some (digits_value word.now) else None) }
@@ -40,7 +41,8 @@ fn value_up_to(word: &[u8], most: u32) -> Option<u32>
     Some(value as u32)
 }
 
-/// The number that a word spells in decimal digits, without a needless 0 in front, where it is at most `most`.
+/// The number that a word spells in decimal digits, without a needless 0 in front, where it is at most
+/// `most`.
 ///
 /// `None` for any other word, the empty one too.
 #[tactic(auto, unfolding(crate::specs::Numbers::decimal_of))]
@@ -65,8 +67,8 @@ fn hex_up_to(digits: &[u8], most: u32) -> Option<u32>
     Some(number as u32)
 }
 
-/// The number that a word spells in decimal digits, without a needless 0 in front, or in 1 to 8 hexadecimal digits of either
-/// case behind `0x` or `0X`, where it is at most `most`.
+/// The number that a word spells in decimal digits, without a needless 0 in front, or in 1 to 8 hexadecimal
+/// digits of either case behind `0x` or `0X`, where it is at most `most`.
 ///
 /// `None` for any other word, the empty one too.
 #[tactic(auto, unfolding(crate::specs::Numbers::number_of))]

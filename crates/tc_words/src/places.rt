@@ -94,10 +94,11 @@ fn cut_words(alloc: Global, line: &[u8]) -> Result<Vec<Word>, AllocError>
     Ok(words)
 }
 
-/// The words of a line: what stands between spaces and tabs, up to the first `#`, which may stand inside a word.
+/// The words of a line: what stands between spaces and tabs, up to the first `#`, which may stand inside a
+/// word.
 ///
-/// A carriage return is a byte of a word here: `lines` drops the one at the end of a line. The places are in `bytes`, each
-/// of one byte or more, in order.
+/// A carriage return is a byte of a word here: `lines` drops the one at the end of a line. The places are in
+/// `bytes`, each of one byte or more, in order.
 pub fn split(alloc: Global, bytes: &[u8]) -> Result<Words, NoMemory>
     ensures words { IfOk result (λ words. map (bytes_at bytes.now) words ≡ words_of bytes.now) }
     ensures places { IfOk result (λ words. All (IsPlaceIn bytes.now) words) }

@@ -5,7 +5,8 @@ ghost use Rattle.tool_words.specs.Requests.{request, HasFewFilters};
 ghost use Rattle.tool_words.specs.Ends.{status_after, IsAllDone};
 ghost use Rattle.tool_run.specs.Causes.{CausedTo};
 ghost use Rattle.tool_run.specs.Delivered.{DeliveredTo, LeavesAllUnlessRun, CameSoFar};
-ghost use Rattle.tool_run.specs.Promises.{UsageExactlyForNoCommand, DoneOnlyIfDelivered, HasCause, DueUnlessFailed, DoneIfReady, NothingIfAtFault, CameInOrder};
+ghost use Rattle.tool_run.specs.Promises.{UsageExactlyForNoCommand, DoneOnlyIfDelivered, HasCause};
+ghost use Rattle.tool_run.specs.Promises.{DueUnlessFailed, DoneIfReady, NothingIfAtFault, CameInOrder};
 
 use crate::input::not_built;
 use crate::run_gen::run_gen;

@@ -1,7 +1,9 @@
 ghost use Rattle.std.specs.Prelude.{◌≡◌, ◌≤◌, IfSome};
 ghost use Rattle.std.specs.List.{list_all};
 ghost use Rattle.std.specs.Option.{option_map};
-ghost use Rattle.tool_words.specs.Command.{texts, hook_of, is_name_byte, is_front, count_of, gen_request, request_of_one, request_of_two, request_of_four, request_of, verb_of};
+ghost use Rattle.tool_words.specs.Command.{texts, hook_of, is_name_byte, is_front, count_of, gen_request};
+ghost use Rattle.tool_words.specs.Command.{request_of_one, request_of_two, request_of_four, request_of};
+ghost use Rattle.tool_words.specs.Command.{verb_of};
 ghost use Rattle.tool_words.specs.Requests.{request, HasFewFilters};
 
 use tc_base::Hook;

@@ -1,4 +1,5 @@
--- Commits of the lone mask's law, one after the other: a fact of all of them by their last one, and what a commit makes of the filters.
+-- Commits of the lone mask's law, one after the other: a fact of all of them by their last one, and what a
+-- commit makes of the filters.
 use Rattle.std.proofs.Common.{◌≡◌, ◌∙◌, ℕ, zero, suc, ◌+◌, ◌<◌, ◌≤◌, List, [], ◌∷◌, ◌++◌, length, take, drop, slice_get, Some, None, refl, sym, ap, subst, arith, length-append}
 use Rattle.std.proofs.lemmas.List.{take_all, take-append-le, take-append-drop}
 use Rattle.std.proofs.lemmas.Option.{slice_get_within}

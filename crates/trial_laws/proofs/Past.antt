@@ -1,4 +1,5 @@
--- What the root of a bucket names at the end is what it named at some time at which the bucket's record stood: no row is used twice.
+-- What the root of a bucket names at the end is what it named at some time at which the bucket's record
+-- stood: no row is used twice.
 use Rattle.std.proofs.Common.{◌≡◌, ◌≢◌, ◌∙◌, ◌⊎◌, inl, inr, ℕ, zero, suc, ◌<◌, ◌≤◌, List, [], ◌∷◌, ◌++◌, length, take, refl, sym, ap, subst, arith, le_refl, length-append}
 use Rattle.std.proofs.lemmas.List.{take_all, take-append-le}
 use mathlib.Core.Logic.{dite}
@@ -17,8 +18,8 @@ use Rattle.trial_laws.specs.Lone.{IsRecord, WasUsed, IsRaise, Follows, Keeps}
 use Rattle.trial_laws.proofs.Growing.{by_last}
 use Rattle.trial_laws.proofs.Right.{not_the_slot, record_before, raised}
 
--- the record that the slot's root named after n commits stood up to some later time, at which the bucket's root named what it names now; it
--- stands still, or the present record has other roots
+-- the record that the slot's root named after n commits stood up to some later time, at which the bucket's
+-- root named what it names now; it stands still, or the present record has other roots
 pub record StoodUntil (h : List (Commit Change)) (n : ℕ) (m : StoredMask) (bucket : ℕ) : Type 0 where
   pub at : ℕ
   pub late : n ≤ at

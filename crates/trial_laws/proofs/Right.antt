@@ -1,4 +1,5 @@
--- The record that the slot's root names is right, and so is each of its buckets, for each number of changes from its stamp on.
+-- The record that the slot's root names is right, and so is each of its buckets, for each number of changes
+-- from its stamp on.
 use Rattle.std.proofs.Common.{◌≡◌, ◌≢◌, ◌∙◌, inl, inr, ℕ, ◌+◌, ◌-◌, ◌<◌, ◌≤◌, Bool, true, false, eqb, List, [], ◌∷◌, ◌++◌, length, refl, sym, ap, subst, arith, eqb-true, le_refl}
 use Rattle.std.proofs.lemmas.Bool.{eqb-false}
 use Rattle.std.proofs.lemmas.List.{take_all}

@@ -102,7 +102,8 @@ mask_below blocks slot mask b stamp given fs low own = each_commit (ChainBelow b
     only (suc place) l e = absurd (cc e)
 
 -- ---- rows
--- a root that was used after one more commit was used before it, or is that of a bucket of the record that stands now
+-- a root that was used after one more commit was used before it, or is that of a bucket of the record that
+-- stands now
 used_by_now : (h : List (Commit Change)) (c : Commit Change) (root : ℕ) (w : WasUsed (h ++ c ∷ []) root) → WasUsed h root ⊎ IsRecord (h ++ c ∷ []) w.mask
 used_by_now h c root w = dite (dec_le w.at (length h))
     (λ (low : w.at ≤ length h). inl record {

@@ -1,4 +1,5 @@
--- Lists of which at most one element passes a test, and filters that have a mark of their own each, as a handle or a key.
+-- Lists of which at most one element passes a test, and filters that have a mark of their own each, as a
+-- handle or a key.
 use Rattle.std.proofs.Common.{◌≡◌, ◌∙◌, ℕ, zero, suc, ◌+◌, ◌≤◌, Bool, true, false, not, cond, eqb, List, [], ◌∷◌, ◌++◌, length, slice_get, Some, refl, sym, ap, arith, length-append, eqb-true}
 use Rattle.std.specs.List.{filter}
 use Rattle.std.proofs.lemmas.List.Elements.{filter-append}

@@ -4,4 +4,5 @@ use Rattle.block_codec.specs.declared.filter.StoredFilter.{StoredFilter}
 
 -- no two places have one handle
 abbrev pub HaveOwnHandles : List StoredFilter → Type 0
-HaveOwnHandles fs = (i j : ℕ) (f g : StoredFilter) → slice_get fs i ≡ Some f → slice_get fs j ≡ Some g → f.handle ≡ g.handle → i ≡ j
+HaveOwnHandles fs = (i j : ℕ) (f g : StoredFilter) → slice_get fs i ≡ Some f → slice_get fs j ≡ Some g
+    → f.handle ≡ g.handle → i ≡ j

@@ -11,6 +11,7 @@ use Rattle.trial_laws.specs.Lone.{WasUsed}
 abbrev pub AreBelow : List (Commit Change) → ℕ → Type 0
 AreBelow h blocks = (l : Link) → IsNamed 0 h l → l.block < blocks
 
--- each row that a record has had is below a number: the buckets of all rows have their roots from 10243 on, sixteen a row
+-- each row that a record has had is below a number: the buckets of all rows have their roots from 10243 on,
+-- sixteen a row
 abbrev pub RowsBelow : List (Commit Change) → ℕ → Type 0
 RowsBelow h rows = (root : ℕ) → WasUsed h root → root < BUCKET_ROOTS + 16 * rows

@@ -1,5 +1,7 @@
--- The law of a store with one mask alone (this project's own). `h` is a list of commits, and c is one that follows them.
-use Rattle.std.specs.Prelude.{◌≡◌, ◌≢◌, ◌⊎◌, ℕ, ◌+◌, ◌<◌, ◌≤◌, ◌==◌, not, List, [], ◌∷◌, ◌++◌, length, take, slice_get, filter, Some, None}
+-- The law of a store with one mask alone (this project's own). `h` is a list of commits, and c is one that
+-- follows them.
+use Rattle.std.specs.Prelude.{◌≡◌, ◌≢◌, ◌⊎◌, ℕ, ◌+◌, ◌<◌, ◌≤◌, ◌==◌, not, List, [], ◌∷◌, ◌++◌, length, take}
+use Rattle.std.specs.Prelude.{slice_get, filter, Some, None}
 use Rattle.store_history.specs.declared.history.Commit.{Commit}
 use Rattle.store_history.specs.History.{root_of, edits_of}
 use Rattle.store_history.specs.Reads.{read_all, read_first}
@@ -17,7 +19,8 @@ abbrev pub all_ones : ℕ
 all_ones = 18446744073709551615
 
 abbrev pub lone_words : List ℕ
-lone_words = all_ones ∷ all_ones ∷ all_ones ∷ all_ones ∷ all_ones ∷ all_ones ∷ all_ones ∷ all_ones ∷ all_ones ∷ all_ones ∷ all_ones ∷ all_ones ∷ all_ones ∷ all_ones ∷ []
+lone_words = all_ones ∷ all_ones ∷ all_ones ∷ all_ones ∷ all_ones ∷ all_ones ∷ all_ones ∷ all_ones ∷ all_ones
+    ∷ all_ones ∷ all_ones ∷ all_ones ∷ all_ones ∷ all_ones ∷ []
 
 abbrev pub changed : List StoredFilter → Change → List StoredFilter
 changed fs (changes.Put f) = fs ++ f ∷ []
@@ -29,7 +32,11 @@ run fs (y ∷ ys) = run (changed fs y) ys
 
 -- the filter that is there from the beginning
 abbrev pub first_filter : StoredFilter
-first_filter = record { handle = 1; key = record { words = 0 ∷ 0 ∷ 0 ∷ 0 ∷ 0 ∷ 0 ∷ 0 ∷ 0 ∷ 0 ∷ 0 ∷ 0 ∷ 0 ∷ 0 ∷ 0 ∷ [] }; actions = [] }
+first_filter = record {
+  handle = 1;
+  key = record { words = 0 ∷ 0 ∷ 0 ∷ 0 ∷ 0 ∷ 0 ∷ 0 ∷ 0 ∷ 0 ∷ 0 ∷ 0 ∷ 0 ∷ 0 ∷ 0 ∷ [] };
+  actions = [];
+}
 
 abbrev pub start : List StoredFilter
 start = first_filter ∷ []
@@ -45,7 +52,8 @@ abbrev pub now : List (Commit Change) → List StoredFilter
 now h = run start (edits_of h)
 
 abbrev pub HaveOwnKeys : List StoredFilter → Type 0
-HaveOwnKeys fs = (i j : ℕ) (f g : StoredFilter) → slice_get fs i ≡ Some f → slice_get fs j ≡ Some g → f.key.words ≡ g.key.words → i ≡ j
+HaveOwnKeys fs = (i j : ℕ) (f g : StoredFilter) → slice_get fs i ≡ Some f → slice_get fs j ≡ Some g
+    → f.key.words ≡ g.key.words → i ≡ j
 
 -- ---- the mask
 -- the slot's root names this record
@@ -64,7 +72,8 @@ pub record WasUsed (h : List (Commit Change)) (root : ℕ) : Type 0 where
 
 -- what a bucket's root names reads as these filters' bucket
 abbrev pub ReadsBucket : List (Commit Change) → StoredMask → ℕ → List StoredFilter → Type 0
-ReadsBucket h m bucket fs = read_all filter_in (root_of h (bucket_root m bucket)).chain ≡ Some (bucket_of m.size bucket fs)
+ReadsBucket h m bucket fs = read_all filter_in (root_of h (bucket_root m bucket)).chain
+    ≡ Some (bucket_of m.size bucket fs)
 
 -- ---- the kinds of commits
 -- to a root that has been no bucket's
@@ -73,7 +82,8 @@ pub record IsSpare (h : List (Commit Change)) (c : Commit Change) : Type 0 where
   pub other : c.root ≢ mask_root 0
   pub fresh : WasUsed h c.root → ⊥
 
--- a change of the present record's filters, which changes one bucket and comes while the size is the one for the filters
+-- a change of the present record's filters, which changes one bucket and comes while the size is the one for
+-- the filters
 pub record IsRewrite (h : List (Commit Change)) (c : Commit Change) : Type 0 where
   pub change : Change
   pub carries : c.edit ≡ Some (point_of h + 1, change)
@@ -84,11 +94,13 @@ pub record IsRewrite (h : List (Commit Change)) (c : Commit Change) : Type 0 whe
   pub within : bucket < mask.size
   pub root : c.root ≡ bucket_root mask bucket
   pub reads : read_all filter_in c.named.chain ≡ Some (bucket_of mask.size bucket (changed (now h) change))
-  pub others : (other : ℕ) → other ≢ bucket → bucket_of mask.size other (changed (now h) change) ≡ bucket_of mask.size other (now h)
+  pub others : (other : ℕ) → other ≢ bucket → bucket_of mask.size other (changed (now h) change)
+      ≡ bucket_of mask.size other (now h)
   pub fits : mask.size ≡ size_of (length (now h))
   pub own_keys : HaveOwnKeys (changed (now h) change)
 
--- a record for the filters now, in rows that no record had, whose buckets are filled; it has the serial of the record before it, if there is one
+-- a record for the filters now, in rows that no record had, whose buckets are filled; it has the serial of
+-- the record before it, if there is one
 pub record IsRaise (h : List (Commit Change)) (c : Commit Change) : Type 0 where
   pub plain : c.edit ≡ None
   pub stamp : c.named.stamp ≡ point_of h

@@ -19,9 +19,10 @@ use Rattle.trial_laws.specs.Handles.{HaveOwnHandles}
 use Rattle.trial_laws.specs.Ledger.{AreBelow, RowsBelow}
 use Rattle.trial_mask.specs.declared.trial.Trial.{Trial}
 
--- THE TRIAL IS THE STORE'S, given part by part: the commits keep the law, one mask stands, at slot 0, and its filters are those of all changes
--- so far. Blocks and rows from the two numbers on were never used.
-pub record TriedWith (writer : Masks) (filters : List StoredFilter) (blocks rows size point : ℕ) (shape : Shape) (p : Seat (Unit {0}) (View Change)) : Type 0 where
+-- THE TRIAL IS THE STORE'S, given part by part: the commits keep the law, one mask stands, at slot 0, and its
+-- filters are those of all changes so far. Blocks and rows from the two numbers on were never used.
+pub record TriedWith (writer : Masks) (filters : List StoredFilter) (blocks rows size point : ℕ)
+    (shape : Shape) (p : Seat (Unit {0}) (View Change)) : Type 0 where
   pub lawful : Keeps (seen_by p) 0
   pub base : base_of (sheet_of p) ≡ 0
   pub kept : AreNamed writer shape (sheet_of p).cells (root_of (seen_by p))
@@ -59,4 +60,5 @@ IsNew t filter = All (IsOther filter) t.filters.items
 
 -- so many blocks are left, those that another size would want, and the rows of any size
 abbrev pub HasRoom : Trial → ℕ → Type 0
-HasRoom t more = (t.blocks + more + length t.filters.items + 2 ≤ POOL_BLOCKS) × (t.rows + 64 ≤ ROWS) × (t.point + 1 < 4294967296)
+HasRoom t more = (t.blocks + more + length t.filters.items + 2 ≤ POOL_BLOCKS) × (t.rows + 64 ≤ ROWS)
+    × (t.point + 1 < 4294967296)

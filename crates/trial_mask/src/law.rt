@@ -1,8 +1,8 @@
 //! The law of the store with one mask.
 
-use trial_laws::Change;
 use mask_table::MaskLaw;
 use store_history::Law;
+use trial_laws::Change;
 
 /// The law of a store with one mask alone (`trial_laws`). Nothing is made of this type.
 pub struct LoneLaw;

@@ -174,7 +174,8 @@ fn put_next(
     trial.put(alloc, writer, store, filter_of(number))
 }
 
-// Takes the filter with a number out, and says whether the mask has the size by hand then, as a reader finds it.
+// Takes the filter with a number out, and says whether the mask has the size by hand then, as a reader finds
+// it.
 fn take_next(
     alloc: Global,
     trial: &mut Trial,
@@ -183,7 +184,8 @@ fn take_next(
     reader: &mut Reader<LoneLaw>,
     number: u32,
 ) -> Result<bool, NoMemory>
-    requires store { IsSeatOf store.now writer.old.place × IsSeatOf store.now reader.old.place × (store.now.shape ≡ SHAPE) }
+    requires store { IsSeatOf store.now writer.old.place × IsSeatOf store.now reader.old.place
+        × (store.now.shape ≡ SHAPE) }
     requires inside { IsInside reader.old.place }
     requires tried { IsTried trial.old store.now.shape writer.old.place }
     requires rest { IsAtRest trial.old }
@@ -206,7 +208,8 @@ fn fill(
     store: &Store<LoneLaw>,
     reader: &mut Reader<LoneLaw>,
 ) -> Result<bool, NoMemory>
-    requires store { IsSeatOf store.now writer.old.place × IsSeatOf store.now reader.old.place × (store.now.shape ≡ SHAPE) }
+    requires store { IsSeatOf store.now writer.old.place × IsSeatOf store.now reader.old.place
+        × (store.now.shape ≡ SHAPE) }
     requires inside { IsInside reader.old.place }
     requires tried { IsTried trial.old store.now.shape writer.old.place }
     requires rest { IsAtRest trial.old }
@@ -254,7 +257,8 @@ fn take_down(
     stride: u32,
     count: u32,
 ) -> Result<bool, NoMemory>
-    requires store { IsSeatOf store.now writer.old.place × IsSeatOf store.now reader.old.place × (store.now.shape ≡ SHAPE) }
+    requires store { IsSeatOf store.now writer.old.place × IsSeatOf store.now reader.old.place
+        × (store.now.shape ≡ SHAPE) }
     requires inside { IsInside reader.old.place }
     requires tried { IsTried trial.old store.now.shape writer.old.place }
     requires rest { IsAtRest trial.old }
@@ -282,7 +286,8 @@ fn take_odd(
     store: &Store<LoneLaw>,
     reader: &mut Reader<LoneLaw>,
 ) -> Result<bool, NoMemory>
-    requires store { IsSeatOf store.now writer.old.place × IsSeatOf store.now reader.old.place × (store.now.shape ≡ SHAPE) }
+    requires store { IsSeatOf store.now writer.old.place × IsSeatOf store.now reader.old.place
+        × (store.now.shape ≡ SHAPE) }
     requires inside { IsInside reader.old.place }
     requires tried { IsTried trial.old store.now.shape writer.old.place }
     requires rest { IsAtRest trial.old }
@@ -299,7 +304,8 @@ fn take_odd(
     Ok(right)
 }
 
-// Takes all but the first filter out: the later half in reverse, then those with odd numbers in order, and then the rest in reverse.
+// Takes all but the first filter out: the later half in reverse, then those with odd numbers in order, and
+// then the rest in reverse.
 fn empty(
     alloc: Global,
     trial: &mut Trial,
@@ -307,7 +313,8 @@ fn empty(
     store: &Store<LoneLaw>,
     reader: &mut Reader<LoneLaw>,
 ) -> Result<bool, NoMemory>
-    requires store { IsSeatOf store.now writer.old.place × IsSeatOf store.now reader.old.place × (store.now.shape ≡ SHAPE) }
+    requires store { IsSeatOf store.now writer.old.place × IsSeatOf store.now reader.old.place
+        × (store.now.shape ≡ SHAPE) }
     requires inside { IsInside reader.old.place }
     requires tried { IsTried trial.old store.now.shape writer.old.place }
     requires rest { IsAtRest trial.old }
@@ -325,7 +332,8 @@ fn fill_and_look(
     store: &Store<LoneLaw>,
     mut reader: Reader<LoneLaw>,
 ) -> Result<bool, NoMemory>
-    requires store { IsSeatOf store.now writer.old.place × IsSeatOf store.now reader.place × (store.now.shape ≡ SHAPE) }
+    requires store { IsSeatOf store.now writer.old.place × IsSeatOf store.now reader.place
+        × (store.now.shape ≡ SHAPE) }
     requires new { (seen_by writer.old.place ≡ []) × (base_of (sheet_of writer.old.place) ≡ 0) }
     requires outside { IsOutside reader.place × (pin_of reader.place < 2 ^ 63) }
 {
@@ -342,7 +350,8 @@ fn fill_and_empty(
     store: &Store<LoneLaw>,
     mut reader: Reader<LoneLaw>,
 ) -> Result<bool, NoMemory>
-    requires store { IsSeatOf store.now writer.old.place × IsSeatOf store.now reader.place × (store.now.shape ≡ SHAPE) }
+    requires store { IsSeatOf store.now writer.old.place × IsSeatOf store.now reader.place
+        × (store.now.shape ≡ SHAPE) }
     requires new { (seen_by writer.old.place ≡ []) × (base_of (sheet_of writer.old.place) ≡ 0) }
     requires outside { IsOutside reader.place × (pin_of reader.place < 2 ^ 63) }
 {

@@ -29,7 +29,8 @@ pub struct Trial {
 impl Trial {
     ghost use Rattle.block_codec.specs.declared.places.TheConstants.{POOL_BLOCKS, ROWS};
     ghost use Rattle.block_codec.specs.Shapes.{HasPoolAndRoots};
-    ghost use Rattle.std.specs.Prelude.{◌≢◌, ◌≤◌, ◌↔◌, ◌++◌, ℕ, Some, None, IfSome, All, slice_get, drop, Ok, true, false, IsTrue};
+    ghost use Rattle.std.specs.Prelude.{◌≢◌, ◌≤◌, ◌↔◌, ◌++◌, ℕ, Some, None, IfSome, All, slice_get, drop, Ok};
+    ghost use Rattle.std.specs.Prelude.{true, false, IsTrue};
     ghost use Rattle.std.specs.List.{remove};
     ghost use Rattle.pin_store.specs.Sheets.{base_of};
     ghost use Rattle.pin_store.specs.Calls.{seen_by, sheet_of, IsSeatOf};
@@ -117,8 +118,10 @@ impl Trial {
         requires store { IsSeatOf store.now writer.old.place }
         requires shape { HasPoolAndRoots store.now.shape.words store.now.shape.blocks store.now.shape.roots }
         requires tried { IsTried self.old store.now.shape writer.old.place }
-        requires room { (self.old.blocks + length self.old.filters.items + 1 ≤ POOL_BLOCKS) × (self.old.rows + 64 ≤ ROWS) }
-        requires size { (size ≡ size_of (length self.old.filters.items)) × IsTrue (is_size size) × (size ≤ 1024) }
+        requires room { (self.old.blocks + length self.old.filters.items + 1 ≤ POOL_BLOCKS)
+            × (self.old.rows + 64 ≤ ROWS) }
+        requires size { (size ≡ size_of (length self.old.filters.items)) × IsTrue (is_size size)
+            × (size ≤ 1024) }
         ensures store { IsSeatOf store.now writer.new.place }
         ensures tried { IsTried self.new store.now.shape writer.new.place }
         ensures rest { IfOk result (λ _. IsAtRest self.new) }
@@ -137,7 +140,8 @@ impl Trial {
         Ok(())
     }
 
-    /// Gives the mask another number of buckets, if its size isn't that for its filters. Where an error is answered the trial holds as before.
+    /// Gives the mask another number of buckets, if its size isn't that for its filters. Where an error is
+    /// answered the trial holds as before.
     pub fn fit(
         &mut self,
         alloc: Global,
@@ -147,7 +151,8 @@ impl Trial {
         requires store { IsSeatOf store.now writer.old.place }
         requires shape { HasPoolAndRoots store.now.shape.words store.now.shape.blocks store.now.shape.roots }
         requires tried { IsTried self.old store.now.shape writer.old.place }
-        requires room { (self.old.blocks + length self.old.filters.items + 1 ≤ POOL_BLOCKS) × (self.old.rows + 64 ≤ ROWS) }
+        requires room { (self.old.blocks + length self.old.filters.items + 1 ≤ POOL_BLOCKS)
+            × (self.old.rows + 64 ≤ ROWS) }
         ensures store { IsSeatOf store.now writer.new.place }
         ensures tried { IsTried self.new store.now.shape writer.new.place }
         ensures rest { IfOk result (λ _. IsAtRest self.new) }
@@ -180,10 +185,12 @@ impl Trial {
             && u64::from(self.point) + 1 < 1 << 32
     }
 
-    /// Puts a filter into the mask, and gives the mask the size for its filters then. Answers false, and changes nothing, where the handle or
-    /// the key is taken, or where blocks, rows or numbers of edits are used up.
+    /// Puts a filter into the mask, and gives the mask the size for its filters then. Answers false, and
+    /// changes nothing, where the handle or the key is taken, or where blocks, rows or numbers of edits are
+    /// used up.
     ///
-    /// Where memory is refused the filter may be there or not, and the mask may not have its size: `fit` gives it.
+    /// Where memory is refused the filter may be there or not, and the mask may not have its size: `fit`
+    /// gives it.
     pub fn put(
         &mut self,
         alloc: Global,
@@ -199,8 +206,10 @@ impl Trial {
         ensures store { IsSeatOf store.now writer.new.place }
         ensures tried { IsTried self.new store.now.shape writer.new.place }
         ensures rest { IfOk result (λ _. IsAtRest self.new) }
-        ensures done { result ≡ Ok true → (IsNew self.old filter) × (self.new.filters.items ≡ self.old.filters.items ++ filter ∷ []) }
-        ensures refused { result ≡ Ok false → (self.new.filters.items ≡ self.old.filters.items) × (seen_by writer.new.place ≡ seen_by writer.old.place) }
+        ensures done { result ≡ Ok true → (IsNew self.old filter)
+            × (self.new.filters.items ≡ self.old.filters.items ++ filter ∷ []) }
+        ensures refused { result ≡ Ok false → (self.new.filters.items ≡ self.old.filters.items)
+            × (seen_by writer.new.place ≡ seen_by writer.old.place) }
         ensures accepted { HasRoom self.old 1 → IsNew self.old filter → result ≢ Ok false }
     {
         if !self.has_room(1) || !self.is_new(&filter) {
@@ -213,13 +222,15 @@ impl Trial {
 
     // Where the filter with a handle stands among the filters.
     fn place_of(&self, handle: u32) -> Option<usize>
-        ensures found { IfSome result (λ place. (f : StoredFilter) × (slice_get self.now.filters.items place ≡ Some f) × (f.handle ≡ handle)) }
+        ensures found { IfSome result (λ place. (f : StoredFilter)
+            × (slice_get self.now.filters.items place ≡ Some f) × (f.handle ≡ handle)) }
         ensures none { result ≡ None → All (λ f. f.handle ≢ handle) self.now.filters.items }
     {
         self.filters.iter().position(|one| one.handle == handle)
     }
 
-    // Takes the filter at a place out of the mask, which has its size. So many later filters are in its bucket.
+    // Takes the filter at a place out of the mask, which has its size. So many later filters are in its
+    // bucket.
     fn take_one(
         &mut self,
         alloc: Global,
@@ -235,7 +246,9 @@ impl Trial {
         requires room { (self.old.blocks + count ≤ POOL_BLOCKS) × (self.old.point + 1 < 2 ^ 32) }
         requires there { place < length self.old.filters.items }
         requires count { (f : StoredFilter) → slice_get self.old.filters.items place ≡ Some f
-            → count ≡ length (bucket_of self.old.size (bucket_for self.old.size f.key.words) (drop (place + 1) self.old.filters.items)) }
+            → count ≡ length
+            (bucket_of self.old.size (bucket_for self.old.size f.key.words)
+            (drop (place + 1) self.old.filters.items)) }
         ensures store { IsSeatOf store.now writer.new.place }
         ensures tried { IsTried self.new store.now.shape writer.new.place }
         ensures filters { IfOk result (λ _. self.new.filters.items ≡ remove self.old.filters.items place) }
@@ -261,17 +274,21 @@ impl Trial {
         requires few { length self.now.filters.items < 2 ^ 32 }
         requires there { place < length self.now.filters.items }
         ensures count { (f : StoredFilter) → slice_get self.now.filters.items place ≡ Some f
-            → result ≡ length (bucket_of self.now.size (bucket_for self.now.size f.key.words) (drop (place + 1) self.now.filters.items)) }
+            → result ≡ length
+            (bucket_of self.now.size (bucket_for self.now.size f.key.words)
+            (drop (place + 1) self.now.filters.items)) }
         ensures few { result ≤ length self.now.filters.items }
     {
         let bucket = hash(&self.filters[place].key) % u64::from(self.size);
         count_in(&self.filters[place + 1..], self.size, bucket)
     }
 
-    /// Takes the filter with a handle out of the mask, and gives the mask the size for its filters then. Answers false, and changes nothing,
-    /// where no filter has the handle, or where blocks, rows or numbers of edits are used up.
+    /// Takes the filter with a handle out of the mask, and gives the mask the size for its filters then.
+    /// Answers false, and changes nothing, where no filter has the handle, or where blocks, rows or numbers
+    /// of edits are used up.
     ///
-    /// Where memory is refused the filter may be gone or not, and the mask may not have its size: `fit` gives it.
+    /// Where memory is refused the filter may be gone or not, and the mask may not have its size: `fit` gives
+    /// it.
     pub fn take(
         &mut self,
         alloc: Global,
@@ -286,10 +303,13 @@ impl Trial {
         ensures store { IsSeatOf store.now writer.new.place }
         ensures tried { IsTried self.new store.now.shape writer.new.place }
         ensures rest { IfOk result (λ _. IsAtRest self.new) }
-        ensures done { result ≡ Ok true → (place : ℕ) × (f : StoredFilter) × (slice_get self.old.filters.items place ≡ Some f) × (f.handle ≡ handle)
+        ensures done { result ≡ Ok true → (place : ℕ) × (f : StoredFilter)
+            × (slice_get self.old.filters.items place ≡ Some f) × (f.handle ≡ handle)
             × (self.new.filters.items ≡ remove self.old.filters.items place) }
-        ensures refused { result ≡ Ok false → (self.new.filters.items ≡ self.old.filters.items) × (seen_by writer.new.place ≡ seen_by writer.old.place) }
-        ensures accepted { HasRoom self.old (length self.old.filters.items) → (place : ℕ) (f : StoredFilter) → slice_get self.old.filters.items place ≡ Some f → f.handle ≡ handle
+        ensures refused { result ≡ Ok false → (self.new.filters.items ≡ self.old.filters.items)
+            × (seen_by writer.new.place ≡ seen_by writer.old.place) }
+        ensures accepted { HasRoom self.old (length self.old.filters.items) → (place : ℕ) (f : StoredFilter)
+            → slice_get self.old.filters.items place ≡ Some f → f.handle ≡ handle
             → result ≢ Ok false }
     {
         let Some(place) = self.place_of(handle) else {

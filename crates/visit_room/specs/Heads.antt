@@ -4,15 +4,21 @@ use Rattle.tc_base.specs.declared.hook.Proto.{Proto}
 use Rattle.visit_room.specs.declared.names.MaskName.{MaskName}
 use Rattle.visit_room.specs.declared.table_head.TableHead.{TableHead}
 
--- The tables that are told, and those that were told before they were let go. These stand until another table is told, and
--- while they stand, none is told.
+-- The tables that are told, and those that were told before they were let go. These stand until another table
+-- is told, and while they stand, none is told.
 pub record Heads : Type 0 where
   pub tables : List TableHead
   pub spare : List TableHead
 
 -- a table of which no mask was told yet
 abbrev pub bare_head : ℕ → ℕ → ℕ → Proto → TableHead
-bare_head serial chain pref protocol = record { serial = serial; chain = chain; pref = pref; protocol = protocol; masks = [] }
+bare_head serial chain pref protocol = record {
+  serial = serial;
+  chain = chain;
+  pref = pref;
+  protocol = protocol;
+  masks = [];
+}
 
 -- the masks of the last table
 abbrev pub last_masks : List TableHead → Option (List MaskName)

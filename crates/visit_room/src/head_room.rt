@@ -12,8 +12,9 @@ use tc_base::{NoMemory, Proto};
 
 /// The tables of a hook in their order: `HEAD_TABLES` at most, each with `HEAD_MASKS` masks at most.
 ///
-/// Tables that were let go stand by until another is put, and `recall` brings them back: walks over the same tables then need not be
-/// told them again and again. Contracts see the tables that are told, and beside them those that stand by (`spare`).
+/// Tables that were let go stand by until another is put, and `recall` brings them back: walks over the same
+/// tables then need not be told them again and again. Contracts see the tables that are told, and beside them
+/// those that stand by (`spare`).
 #[derive(Drop)]
 pub struct HeadRoom {
     heads: Vec<TableHead>,
@@ -58,7 +59,8 @@ impl HeadRoom {
         self.is_clear = true;
     }
 
-    /// Brings back the tables that stand by: those that were let go last, if no other was put since. A room that has tables keeps them.
+    /// Brings back the tables that stand by: those that were let go last, if no other was put since. A room
+    /// that has tables keeps them.
     pub fn recall(&mut self)
         ensures tables { self.new.tables ≡ self.old.tables ++ self.old.spare }
         ensures spare { self.new.spare ≡ [] }

@@ -52,7 +52,8 @@ impl MaskNames {
     }
 }
 
-/// A table of a hook. A packet meets it only in a walk through its chain, and only where its protocol is the frame's.
+/// A table of a hook. A packet meets it only in a walk through its chain, and only where its protocol is the
+/// frame's.
 #[derive(Drop)]
 pub struct TableHead {
     pub serial: u32,

@@ -17,8 +17,8 @@ const TABLES: &[&[u8]] = &[
     b"egress protocol 802.1ad pref 6",
 ];
 
-// A filter's handle, and its fields: no two handles have the same fields, so that each line is accepted. A line whose handle is
-// taken replaces that filter, and may move it to another mask.
+// A filter's handle, and its fields: no two handles have the same fields, so that each line is accepted. A
+// line whose handle is taken replaces that filter, and may move it to another mask.
 const FIELDS: &[&[u8]] = &[
     b"1 flower dst_ip 10.0.0.1",
     b"1 flower dst_ip 10.0.0.0/30",

@@ -114,7 +114,8 @@ impl PlainFrame {
     }
 }
 
-// A tag: its EtherType; three bits of priority, the drop eligible bit and the upper bits of its id; the other bits of the id.
+// A tag: its EtherType; three bits of priority, the drop eligible bit and the upper bits of its id; the other
+// bits of the id.
 fn tag(tpid: u16, priority: u8, eligible: u8, id: u16) -> [u8; 4] {
     let [high, low] = tpid.to_be_bytes();
     let [above, below] = id.to_be_bytes();

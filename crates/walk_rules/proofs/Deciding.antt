@@ -1,5 +1,5 @@
--- In a table, the first mask under which a filter meets the frame has the filter that decides: of those that meet it, the one of the
--- oldest mask.
+-- In a table, the first mask under which a filter meets the frame has the filter that decides: of those that
+-- meet it, the one of the oldest mask.
 use Rattle.std.proofs.Common.{◌≡◌, ◌∙◌, ℕ, suc, ◌<◌, ◌≤◌, ◌==◌, ◌&&◌, ◌||◌, nat_le, Bool, true, false, cond, List, [], ◌∷◌, length, Option, Some, None, IfSome, refl, sym, ap, subst, eqb-true, arith}
 use Rattle.std.specs.Prelude.{filter}
 use Rattle.std.specs.List.{list_any, count_by}

@@ -1,4 +1,5 @@
--- Rows in order, and the tables that they are grouped into: each table has all its rows, with their masks rising.
+-- Rows in order, and the tables that they are grouped into: each table has all its rows, with their masks
+-- rising.
 use Rattle.std.proofs.Common.{◌≡◌, ◌∙◌, ℕ, ◌<◌, ◌≤◌, ◌==◌, ◌&&◌, ◌||◌, nat_lt, Bool, true, false, cond, List, [], ◌∷◌, refl, sym, subst, eqb-true, eq-eqb, arith}
 use Rattle.std.specs.List.{list_any}
 use Rattle.std.proofs.lemmas.Bool.{eqb-false, and_parts, and_from, or_left, or_right}

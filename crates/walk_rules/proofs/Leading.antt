@@ -1,5 +1,6 @@
--- Over one state a walk leads to the plain outcome, wherever it stands. What follows a part of the walk is a function of what is
--- carried and of the visits left, so each part is shown by itself, from the list of actions up to the chains.
+-- Over one state a walk leads to the plain outcome, wherever it stands. What follows a part of the walk is a
+-- function of what is carried and of the visits left, so each part is shown by itself, from the list of
+-- actions up to the chains.
 use Rattle.std.proofs.Common.{◌≡◌, ℕ, zero, suc, ◌+◌, ◌-◌, ◌<◌, ◌==◌, ◌||◌, nat_lt, nat_le, Bool, true, false, cond, List, [], ◌∷◌, length, get_or, Some, None, refl, sym, ap, subst, arith}
 use Rattle.std.specs.List.{list_any}
 use Rattle.std.proofs.lemmas.Bool.Decides.{nat_tests}

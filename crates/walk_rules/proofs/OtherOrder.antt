@@ -1,4 +1,5 @@
--- States that differ in the order between rows of different masks answer alike, and so have the same plain walks.
+-- States that differ in the order between rows of different masks answer alike, and so have the same plain
+-- walks.
 use Rattle.std.proofs.Common.{◌≡◌, ◌∙◌, ℕ, ◌&&◌, Bool, true, false, cond, List, [], ◌∷◌, Option, Some, None, refl, sym, ap}
 use Rattle.std.specs.Prelude.{filter}
 use Rattle.std.specs.List.{list_any}

@@ -24,7 +24,8 @@ leads_to_plain s sound hook bytes =
     one_visit s (begun hook bytes) (heads_of hook) (told_heads (heads_on hook s)) (plain_walk s hook bytes) refl refl
     (chain_leads s live hook (heads_on hook s) (heads_kept hook s sound) 16 0 65535 1 (record { frame = loaded_frame bytes; executed = [] }) refl)
 
--- WHOEVER ANSWERS A WALK as one sound state does, whatever else it keeps meanwhile, takes it to the plain outcome
+-- WHOEVER ANSWERS A WALK as one sound state does, whatever else it keeps meanwhile, takes it to the plain
+-- outcome
 pub walk_is_plain : {V : Type 0} (s : State) → Sound s → (told : V → Question → Answer → ℕ → V → Type 0) (Holds : V → Type 0) →
     ((before now : V) (question : Question) (answer : Answer) (point : ℕ) → Holds before → told before question answer point now → (answer_of s question ≡ Some answer) × Holds now) →
     (hook : Hook) (bytes points : List ℕ) (before now : V) (outcome : Outcome) → Holds before → IsWalk told before (begun hook bytes) points now outcome → outcome ≡ plain_walk s hook bytes

@@ -1,4 +1,5 @@
--- Over one state a walk leads to the plain outcome: through the masks of a table, the tables of a chain, and the chains.
+-- Over one state a walk leads to the plain outcome: through the masks of a table, the tables of a chain, and
+-- the chains.
 use Rattle.std.proofs.Common.{◌≡◌, ◌∙◌, ℕ, zero, suc, ◌+◌, ◌-◌, ◌==◌, ◌&&◌, nat_lt, Bool, true, false, cond, List, [], ◌∷◌, Option, Some, None, IfSome, refl, sym, ap, subst, eqb-true, arith}
 use Rattle.std.specs.List.{list_any}
 use Rattle.std.proofs.lemmas.Bool.{and_parts}

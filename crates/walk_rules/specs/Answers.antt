@@ -7,7 +7,8 @@ use Rattle.filter_state.specs.States.{Row, Action, State}
 use Rattle.filter_state.specs.Actions.{has_serial}
 use Rattle.filter_state.specs.Tables.{first_where}
 use Rattle.filter_state.specs.Order.{of_mask}
-use Rattle.walk_rules.specs.Questions.{Question, heads_of, filter_of, params_of, Answer, told_heads, told_no_filter, told_actions, told_params}
+use Rattle.walk_rules.specs.Questions.{Question, heads_of, filter_of, params_of, Answer, told_heads}
+use Rattle.walk_rules.specs.Questions.{told_no_filter, told_actions, told_params}
 use Rattle.walk_rules.specs.Heads.{heads_on}
 
 -- tc-flower(8): in every field the frame's value AND the mask's is the key's
@@ -21,7 +22,8 @@ actions_or_none None = told_no_filter
 -- a mask answers while it has a filter
 abbrev pub filter_answer : ℕ → List ℕ → List Row → Option Answer
 filter_answer mask values rows =
-    if list_any (of_mask mask) rows then Some (actions_or_none (first_where (λ row. of_mask mask row && meets values row) rows)) else None
+    if list_any (of_mask mask) rows
+    then Some (actions_or_none (first_where (λ row. of_mask mask row && meets values row) rows)) else None
 
 abbrev pub params_answer : Option Action → Option Answer
 params_answer (Some action) = Some (told_params action.params)

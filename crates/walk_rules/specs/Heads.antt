@@ -9,7 +9,13 @@ use Rattle.walk_rules.specs.Questions.{Head}
 
 -- the table of one row, with that row's mask
 abbrev pub head_with : Row → List ℕ → Head
-head_with row masks = record { serial = row.table; chain = row.chain; pref = row.pref; protocol = row.protocol; masks = masks }
+head_with row masks = record {
+  serial = row.table;
+  chain = row.chain;
+  pref = row.pref;
+  protocol = row.protocol;
+  masks = masks;
+}
 
 -- a mask in front of others, unless it is the first of them
 abbrev pub in_front : ℕ → List ℕ → List ℕ
@@ -28,6 +34,7 @@ abbrev pub heads_in : List Row → List Head
 heads_in [] = []
 heads_in (row ∷ rows) = with_row row (heads_in rows)
 
--- THE TABLES OF A HOOK, by chain and then pref, each with its masks by serial, so that the oldest is tried first
+-- THE TABLES OF A HOOK, by chain and then pref, each with its masks by serial, so that the oldest is tried
+-- first
 abbrev pub heads_on : Hook → State → List Head
 heads_on hook s = heads_in (sorted row_before (filter (in_hook hook) s.rows))

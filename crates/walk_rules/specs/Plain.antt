@@ -1,5 +1,6 @@
 -- The plain walk: what a packet meets in one state. It looks at the rows, and makes no visits.
-use Rattle.std.specs.Prelude.{ℕ, zero, suc, ◌-◌, ◌==◌, ◌&&◌, nat_le, nat_lt, List, [], ◌∷◌, ◌++◌, length, get_or, filter, Option, Some, None, if◌then◌else◌}
+use Rattle.std.specs.Prelude.{ℕ, zero, suc, ◌-◌, ◌==◌, ◌&&◌, nat_le, nat_lt, List, [], ◌∷◌, ◌++◌, length}
+use Rattle.std.specs.Prelude.{get_or, filter, Option, Some, None, if◌then◌else◌}
 use Rattle.std.specs.List.{count_by}
 use Rattle.tc_base.specs.declared.hook.Hook.{Hook}
 use Rattle.frame_edit.specs.EditedFrame.{EditedFrame, loaded_frame}
@@ -49,7 +50,8 @@ oldest (row ∷ rows) = Some (older row (oldest rows))
 
 -- of a table's filters that the frame meets, the one of the oldest mask decides
 abbrev pub decider : State → Head → EditedFrame → Option Row
-decider s head frame = oldest (filter (λ row. row.table == head.serial && meets (frame_values frame.bytes) row) s.rows)
+decider s head frame =
+    oldest (filter (λ row. row.table == head.serial && meets (frame_values frame.bytes) row) s.rows)
 
 -- how many of the table's masks are looked at: those up to the decider's, or all
 abbrev pub looked_at : Head → Option Row → ℕ
@@ -71,13 +73,15 @@ abbrev pub run_action : (Carried → ℕ → ℕ → ListEnd) → List ℕ → �
 run_action more actions left position jumps carried None = spent carried
 run_action more actions left position jumps carried (Some action) =
     let next = carried_on carried (get_or actions position 0) action.params in
-    list_on (more next) left next (stand_after (length actions) position jumps (control_given action.params carried.frame))
+    list_on (more next) left next
+    (stand_after (length actions) position jumps (control_given action.params carried.frame))
 
 -- each execution takes one visit
 abbrev pub run_list : State → List ℕ → ℕ → Carried → ℕ → ℕ → ListEnd
 run_list s actions zero carried position jumps = spent carried
 run_list s actions (suc left) carried position jumps =
-    run_action (λ carried' position' jumps'. run_list s actions left carried' position' jumps') actions left position jumps carried
+    run_action (λ carried' position' jumps'. run_list s actions left carried' position' jumps') actions left
+    position jumps carried
     (first_where (has_serial (get_or actions position 0)) s.actions)
 
 -- ---- tables, chains and restarts
@@ -91,31 +95,40 @@ after_end restart next (list_over endings.Unspec left carried) = next left carri
 after_end restart next (list_over endings.Reclassify left carried) = restart 0 left carried
 after_end restart next (list_over (endings.Goto chain) left carried) = restart chain left carried
 
-abbrev pub filter_outcome : State → (ℕ → ℕ → Carried → Outcome) → (ℕ → Carried → Outcome) → ℕ → Carried → List ℕ → Outcome
+abbrev pub filter_outcome : State → (ℕ → ℕ → Carried → Outcome) → (ℕ → Carried → Outcome) → ℕ → Carried
+    → List ℕ → Outcome
 filter_outcome s restart next left carried [] = ends_with verdicts.Pass carried
-filter_outcome s restart next left carried (action ∷ actions) = after_end restart next (run_list s (action ∷ actions) left carried 0 31)
+filter_outcome s restart next left carried (action ∷ actions) =
+    after_end restart next (run_list s (action ∷ actions) left carried 0 31)
 
-abbrev pub decided : State → (ℕ → ℕ → Carried → Outcome) → (ℕ → Carried → Outcome) → ℕ → Carried → Option Row → Outcome
+abbrev pub decided : State → (ℕ → ℕ → Carried → Outcome) → (ℕ → Carried → Outcome) → ℕ → Carried → Option Row
+    → Outcome
 decided s restart next left carried None = next left carried
 decided s restart next left carried (Some row) = filter_outcome s restart next left carried row.actions
 
 -- the masks that are looked at take a visit each
-abbrev pub table_outcome : State → (ℕ → ℕ → Carried → Outcome) → (ℕ → Carried → Outcome) → ℕ → Carried → Head → Option Row → Outcome
+abbrev pub table_outcome : State → (ℕ → ℕ → Carried → Outcome) → (ℕ → Carried → Outcome) → ℕ → Carried → Head
+    → Option Row → Outcome
 table_outcome s restart next left carried head row =
-    if nat_lt left (looked_at head row) then ends_with verdicts.Drop carried else decided s restart next (left - looked_at head row) carried row
+    if nat_lt left (looked_at head row) then ends_with verdicts.Drop carried
+    else decided s restart next (left - looked_at head row) carried row
 
 abbrev pub tables_outcome : State → (ℕ → ℕ → Carried → Outcome) → ℕ → List Head → ℕ → Carried → Outcome
 tables_outcome s restart chain [] left carried = ends_with verdicts.Pass carried
 tables_outcome s restart chain (head ∷ tables) left carried =
     if tries chain (ether_type_of carried.frame.bytes) head
-    then table_outcome s restart (tables_outcome s restart chain tables) left carried head (decider s head carried.frame)
+    then table_outcome s restart (tables_outcome s restart chain tables) left carried head
+    (decider s head carried.frame)
     else tables_outcome s restart chain tables left carried
 
 -- from the first table of a chain, with so many restarts left
 abbrev pub chain_outcome : State → List Head → ℕ → ℕ → ℕ → Carried → Outcome
-chain_outcome s heads zero chain left carried = tables_outcome s (λ chain' left' carried'. ends_with verdicts.Drop carried') chain heads left carried
-chain_outcome s heads (suc restarts) chain left carried = tables_outcome s (chain_outcome s heads restarts) chain heads left carried
+chain_outcome s heads zero chain left carried =
+    tables_outcome s (λ chain' left' carried'. ends_with verdicts.Drop carried') chain heads left carried
+chain_outcome s heads (suc restarts) chain left carried =
+    tables_outcome s (chain_outcome s heads restarts) chain heads left carried
 
 -- THE PLAIN WALK of these bytes at a hook: the head takes the first of 65,536 visits
 unfoldable pub plain_walk : State → Hook → List ℕ → Outcome
-plain_walk s hook bytes = chain_outcome s (heads_on hook s) RESTARTS_MAX 0 (VISITS_MAX - 1) (record { frame = loaded_frame bytes; executed = [] })
+plain_walk s hook bytes = chain_outcome s (heads_on hook s) RESTARTS_MAX 0 (VISITS_MAX - 1)
+    (record { frame = loaded_frame bytes; executed = [] })

@@ -1,6 +1,8 @@
--- The walk of a packet: where it stands, what it asks there, and where it stands after the answer (after the kernel's tcf_classify
--- and tcf_action_exec, net/sched/cls_api.c and act_api.c; the limits and the order of masks are this project's own).
-use Rattle.std.specs.Prelude.{ℕ, Bool, true, ◌+◌, ◌-◌, ◌==◌, ◌&&◌, nat_lt, List, [], ◌∷◌, ◌++◌, length, get_or, Option, Some, None, if◌then◌else◌}
+-- The walk of a packet: where it stands, what it asks there, and where it stands after the answer (after the
+-- kernel's tcf_classify and tcf_action_exec, net/sched/cls_api.c and act_api.c; the limits and the order of
+-- masks are this project's own).
+use Rattle.std.specs.Prelude.{ℕ, Bool, true, ◌+◌, ◌-◌, ◌==◌, ◌&&◌, nat_lt, List, [], ◌∷◌, ◌++◌, length}
+use Rattle.std.specs.Prelude.{get_or, Option, Some, None, if◌then◌else◌}
 use Rattle.tc_base.specs.declared.hook.Hook.{Hook}
 use Rattle.tc_base.specs.declared.hook.Proto.{Proto}
 use Rattle.tc_base.specs.declared.hook.Proto.TheVariants as protocols
@@ -15,22 +17,25 @@ use Rattle.act_list.specs.Run.{Stand, on, over, stand_after}
 use Rattle.walk_rules.specs.declared.limits.TheConstants.{VISITS_MAX, RESTARTS_MAX}
 use Rattle.walk_rules.specs.declared.verdict.Verdict.{Verdict}
 use Rattle.walk_rules.specs.declared.verdict.Verdict.TheVariants as verdicts
-use Rattle.walk_rules.specs.Questions.{Head, Question, heads_of, filter_of, params_of, Answer, told_heads, told_no_filter, told_actions, told_params}
+use Rattle.walk_rules.specs.Questions.{Head, Question, heads_of, filter_of, params_of, Answer, told_heads}
+use Rattle.walk_rules.specs.Questions.{told_no_filter, told_actions, told_params}
 
 -- one execution of an action: its serial, and the frame's length before it
 pub record Execution : Type 0 where
   pub serial : ℕ
   pub length : ℕ
 
--- Where a walk stands: before the head; before a look-up in the first of some masks of a table; before the action at a position of
--- a list, with so many jumps left; or at its end. The tables are those behind the one at which it stands.
+-- Where a walk stands: before the head; before a look-up in the first of some masks of a table; before the
+-- action at a position of a list, with so many jumps left; or at its end. The tables are those behind the one
+-- at which it stands.
 pub data Place : Type 0 where
   at_head : Place
   at_mask : (head : Head) (masks : List ℕ) (tables : List Head) → Place
   at_action : (head : Head) (actions : List ℕ) (position jumps : ℕ) (tables : List Head) → Place
   ended : Verdict → Place
 
--- a walk on its way: the frame as it is, the tables that the head told, the restarts left, the visits made, what ran on the frame
+-- a walk on its way: the frame as it is, the tables that the head told, the restarts left, the visits made,
+-- what ran on the frame
 pub record Standing : Type 0 where
   pub hook : Hook
   pub frame : EditedFrame
@@ -42,7 +47,15 @@ pub record Standing : Type 0 where
 
 -- a walk of these bytes that has not begun
 abbrev pub begun : Hook → List ℕ → Standing
-begun hook bytes = record { hook = hook; frame = loaded_frame bytes; heads = []; restarts = RESTARTS_MAX; visits = 0; executed = []; place = at_head }
+begun hook bytes = record {
+  hook = hook;
+  frame = loaded_frame bytes;
+  heads = [];
+  restarts = RESTARTS_MAX;
+  visits = 0;
+  executed = [];
+  place = at_head;
+}
 
 -- ---- tables
 abbrev pub admits : Proto → ℕ → Bool
@@ -61,7 +74,8 @@ masks_or head (mask ∷ masks) tables next = at_mask head (mask ∷ masks) table
 abbrev pub first_stop : ℕ → ℕ → List Head → Place
 first_stop chain ether [] = ended verdicts.Pass
 first_stop chain ether (head ∷ tables) =
-    if tries chain ether head then masks_or head head.masks tables (first_stop chain ether tables) else first_stop chain ether tables
+    if tries chain ether head then masks_or head head.masks tables (first_stop chain ether tables)
+    else first_stop chain ether tables
 
 -- ---- what is asked
 abbrev pub action_at : List ℕ → ℕ → ℕ
@@ -70,7 +84,8 @@ action_at actions position = get_or actions position 0
 abbrev pub question_at : Standing → Place → Option Question
 question_at st at_head = Some (heads_of st.hook)
 question_at st (at_mask head [] tables) = None
-question_at st (at_mask head (mask ∷ masks) tables) = Some (filter_of head.serial mask (frame_values st.frame.bytes))
+question_at st (at_mask head (mask ∷ masks) tables) =
+    Some (filter_of head.serial mask (frame_values st.frame.bytes))
 question_at st (at_action head actions position jumps tables) = Some (params_of (action_at actions position))
 question_at st (ended verdict) = None
 
@@ -87,19 +102,22 @@ moved st place = record st { visits = st.visits + 1; place = place }
 abbrev pub restarted : Standing → ℕ → Standing
 restarted st chain =
     if st.restarts == 0 then moved st (ended verdicts.Drop)
-    else record (moved st (first_stop chain (ether_type_of st.frame.bytes) st.heads)) { restarts = st.restarts - 1 }
+    else record (moved st
+    (first_stop chain (ether_type_of st.frame.bytes) st.heads)) { restarts = st.restarts - 1 }
 
 -- after a list of a table's filter has ended
 abbrev pub after_list : Standing → Head → List Head → Ending → Standing
 after_list st head tables endings.Accept = moved st (ended verdicts.Pass)
 after_list st head tables endings.Pipe = moved st (ended verdicts.Pass)
 after_list st head tables endings.Shot = moved st (ended verdicts.Drop)
-after_list st head tables endings.Unspec = moved st (first_stop head.chain (ether_type_of st.frame.bytes) tables)
+after_list st head tables endings.Unspec =
+    moved st (first_stop head.chain (ether_type_of st.frame.bytes) tables)
 after_list st head tables endings.Reclassify = restarted st 0
 after_list st head tables (endings.Goto chain) = restarted st chain
 
 abbrev pub after_action : Standing → Head → List ℕ → List Head → Stand → Standing
-after_action st head actions tables (on position jumps) = moved st (at_action head actions position jumps tables)
+after_action st head actions tables (on position jumps) =
+    moved st (at_action head actions position jumps tables)
 after_action st head actions tables (over ending) = after_list st head tables ending
 
 -- an action that ran: it is recorded with the length that the frame had, and has done its work on the frame
@@ -116,7 +134,8 @@ after_found st head tables (action ∷ actions) = moved st (at_action head (acti
 
 -- an answer of another kind than the question's is a visit that leads nowhere
 abbrev pub after_at : Standing → Place → Answer → Standing
-after_at st at_head (told_heads heads) = record (moved st (first_stop 0 (ether_type_of st.frame.bytes) heads)) { heads = heads }
+after_at st at_head (told_heads heads) = record (moved st
+    (first_stop 0 (ether_type_of st.frame.bytes) heads)) { heads = heads }
 after_at st (at_mask head (mask ∷ masks) tables) told_no_filter =
     moved st (masks_or head masks tables (first_stop head.chain (ether_type_of st.frame.bytes) tables))
 after_at st (at_mask head (mask ∷ masks) tables) (told_actions actions) = after_found st head tables actions

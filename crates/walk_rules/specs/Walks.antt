@@ -28,13 +28,15 @@ outcome_at place st = if st.visits == VISITS_MAX then Some (outcome_with verdict
 abbrev pub outcome_of : Standing → Option Outcome
 outcome_of st = outcome_at st.place st
 
--- FROM THERE, A WALK makes one visit at each of these points and then ends so. Who answers may change with each visit: `told` relates
--- it before and after, by the question, the answer and the point.
-abbrev pub IsWalk : {V : Type 0} → (V → Question → Answer → ℕ → V → Type 0) → V → Standing → List ℕ → V → Outcome → Type 0
+-- FROM THERE, A WALK makes one visit at each of these points and then ends so. Who answers may change with
+-- each visit: `told` relates it before and after, by the question, the answer and the point.
+abbrev pub IsWalk : {V : Type 0} → (V → Question → Answer → ℕ → V → Type 0) → V → Standing → List ℕ → V
+    → Outcome → Type 0
 IsWalk told before st [] now outcome = (now ≡ before) × (outcome_of st ≡ Some outcome)
 IsWalk {V = V} told before st (point ∷ points) now outcome =
     (question : Question) × (answer : Answer) × (between : V)
-    × (question_of st ≡ Some question) × told before question answer point between × IsWalk told between (after st answer) points now outcome
+    × (question_of st ≡ Some question) × told before question answer point between
+    × IsWalk told between (after st answer) points now outcome
 
 -- each visit is answered by the state of its point
 abbrev pub AnsweredBy : (ℕ → State) → Unit {0} → Question → Answer → ℕ → Unit {0} → Type 0
@@ -42,4 +44,5 @@ AnsweredBy states before question answer point now = answer_of (states point) qu
 
 -- THE WALK of these bytes at a hook, over the states of the points
 abbrev pub IsWalkOver : (ℕ → State) → Hook → List ℕ → List ℕ → Outcome → Type 0
-IsWalkOver states hook bytes points outcome = IsWalk (AnsweredBy states) tt (begun hook bytes) points tt outcome
+IsWalkOver states hook bytes points outcome =
+    IsWalk (AnsweredBy states) tt (begun hook bytes) points tt outcome

@@ -20,13 +20,17 @@ pub fn one_walk()
 
 /// Over one sound state there is a walk, and each walk is the plain one.
 pub fn one_state()
-    ensures some { (s : State) (hook : Hook) (bytes : List ℕ) → Sound s → (points : List ℕ) × IsWalkOver (λ _. s) hook bytes points (plain_walk s hook bytes) }
+    ensures some { (s : State) (hook : Hook) (bytes : List ℕ) → Sound s → (points : List ℕ)
+        × IsWalkOver (λ _. s) hook bytes points (plain_walk s hook bytes) }
     ensures plain { (s : State) (hook : Hook) (bytes points : List ℕ) (outcome : Outcome) → Sound s →
         IsWalkOver (λ _. s) hook bytes points outcome → outcome ≡ plain_walk s hook bytes }
 {}
 
-/// States that differ in the order between rows of different masks alone give the same answers, and where they are sound the same plain walk.
+/// States that differ in the order between rows of different masks alone give the same answers, and where
+/// they are sound the same plain walk.
 pub fn order_is_free()
-    ensures answer { (s t : State) (question : Question) → SameState s t → answer_of s question ≡ answer_of t question }
-    ensures plain { (s t : State) (hook : Hook) (bytes : List ℕ) → Sound s → SameState s t → plain_walk s hook bytes ≡ plain_walk t hook bytes }
+    ensures answer { (s t : State) (question : Question) → SameState s t
+        → answer_of s question ≡ answer_of t question }
+    ensures plain { (s t : State) (hook : Hook) (bytes : List ℕ) → Sound s → SameState s t
+        → plain_walk s hook bytes ≡ plain_walk t hook bytes }
 {}

@@ -4,4 +4,9 @@ use Rattle.walk_steps.specs.Walking.{Walking}
 use Rattle.walk_steps.specs.Standings.{standing_of, actions_at}
 
 abbrev pub walking_of : Course → Walking
-walking_of c = record { standing = standing_of c; points = c.points; heads = c.heads.tables; actions = actions_at c.hit c.stage }
+walking_of c = record {
+  standing = standing_of c;
+  points = c.points;
+  heads = c.heads.tables;
+  actions = actions_at c.hit c.stage;
+}

@@ -16,7 +16,13 @@ abbrev pub action_serials : List ActionName → List ℕ
 action_serials actions = map (λ (action : ActionName). action.serial) actions
 
 abbrev pub head_told : TableHead → Head
-head_told head = record { serial = head.serial; chain = head.chain; pref = head.pref; protocol = head.protocol; masks = mask_serials head.masks }
+head_told head = record {
+  serial = head.serial;
+  chain = head.chain;
+  pref = head.pref;
+  protocol = head.protocol;
+  masks = mask_serials head.masks;
+}
 
 abbrev pub heads_told : List TableHead → List Head
 heads_told heads = map head_told heads

@@ -37,12 +37,14 @@ pub record IsBegun (hook : Hook) (bytes : List ℕ) (walk : Walking) : Type 0 wh
   pub actions : walk.actions ≡ []
 
 -- whoever answers knows all that the walk was told and may still ask for
-pub record KnowsTold {V : Type 0} (knows_mask : V → ℕ → MaskName → Type 0) (knows_action : V → ActionName → Type 0) (visits : V) (walk : Walking) : Type 0 where
+pub record KnowsTold {V : Type 0} (knows_mask : V → ℕ → MaskName → Type 0)
+    (knows_action : V → ActionName → Type 0) (visits : V) (walk : Walking) : Type 0 where
   pub masks : MasksKnown (knows_mask visits) walk.heads
   pub actions : Each (knows_action visits) walk.actions
 
 -- one visit was made, and the walk went on by its answer
-pub record WasVisited {V : Type 0} (told : V → Question → Answer → ℕ → V → Type 0) (before now : V) (old new : Walking) : Type 0 where
+pub record WasVisited {V : Type 0} (told : V → Question → Answer → ℕ → V → Type 0) (before now : V)
+    (old new : Walking) : Type 0 where
   pub question : Question
   pub answer : Answer
   pub point : ℕ

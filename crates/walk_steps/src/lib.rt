@@ -1,19 +1,21 @@
 //! The walk of one packet, one visit a step, whoever answers.
 //!
-//! A `Walk` holds the frame, what the hook's head told, the list of actions that runs, and how far the walk has come. Each `step` asks
-//! one question of a `Visits`, goes on by the answer, and keeps the answer's point. Who answers isn't the walk's concern: plain
-//! lists, or a store that is edited between two steps. So a walk never looks at a list of filters, and never waits.
+//! A `Walk` holds the frame, what the hook's head told, the list of actions that runs, and how far the walk
+//! has come. Each `step` asks one question of a `Visits`, goes on by the answer, and keeps the answer's
+//! point. Who answers isn't the walk's concern: plain lists, or a store that is edited between two steps. So
+//! a walk never looks at a list of filters, and never waits.
 //!
-//! What a step does is one rule, `after` of `walk_rules`: each step's contract says that the standing after it is that rule's, by
-//! the question that the standing before asked and the answer that came. `run` strings the steps together, and its contract is the
-//! definition of a walk over the answers and points that it got.
+//! What a step does is one rule, `after` of `walk_rules`: each step's contract says that the standing after
+//! it is that rule's, by the question that the standing before asked and the answer that came. `run` strings
+//! the steps together, and its contract is the definition of a walk over the answers and points that it got.
 //!
-//! Room is taken once, by `with_room`, and serves packet after packet: a frame, the tables of a hook, 65,536 points and as many
-//! executions. No other call takes memory. The frame is dissected when it is loaded, and again only after an action that may
-//! change its bytes.
+//! Room is taken once, by `with_room`, and serves packet after packet: a frame, the tables of a hook, 65,536
+//! points and as many executions. No other call takes memory. The frame is dissected when it is loaded, and
+//! again only after an action that may change its bytes.
 //!
-//! One thread walks with a `Walk` at a time. A walk remembers names that it was told, and `Visits` is asked only for those: which
-//! names are known is part of its contract, so that whoever answers may keep things in slots.
+//! One thread walks with a `Walk` at a time. A walk remembers names that it was told, and `Visits` is asked
+//! only for those: which names are known is part of its contract, so that whoever answers may keep things in
+//! slots.
 //!
 //! Not promised: anything of the answers but what the `Visits` that is used promises.
 #![tactic(auto)]

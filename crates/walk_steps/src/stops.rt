@@ -3,7 +3,8 @@ ghost use Rattle.std.specs.Prelude.{◌≡◌, ◌<◌, ◌≤◌, List, [], len
 ghost use Rattle.visit_room.specs.declared.names.ActionName.{ActionName as ActionValue};
 ghost use Rattle.walk_rules.specs.Steps.{admits, tries, first_stop};
 ghost use Rattle.walk_steps.specs.Told.{head_told, heads_told};
-ghost use Rattle.walk_steps.specs.Standings.{place_of, IsStop, IsMask, actions_at, mask_place, place_unhit, place_hit};
+ghost use Rattle.walk_steps.specs.Standings.{place_of, IsStop, IsMask, actions_at, mask_place, place_unhit};
+ghost use Rattle.walk_steps.specs.Standings.{place_hit};
 
 use crate::course::Stage;
 use act_list::ListRun;
@@ -29,7 +30,8 @@ fn tries(head: &TableHead, chain: u32, ether: u16) -> bool
 /// The first mask of that chain's tables that are tried, among the tables from a place on.
 pub(crate) fn first_stop(heads: &HeadRoom, from: usize, chain: u32, ether: u16) -> Stage
     ensures stop { (hit : List ActionValue) → IsStop heads.now.tables hit result }
-    ensures place { (hit : List ActionValue) → place_of heads.now.tables hit result ≡ first_stop chain ether (heads_told (drop from heads.now.tables)) }
+    ensures place { (hit : List ActionValue) → place_of heads.now.tables hit result
+        ≡ first_stop chain ether (heads_told (drop from heads.now.tables)) }
     ensures unhit { (hit : List ActionValue) → actions_at hit result ≡ [] }
 {
     let heads = heads.heads();
@@ -48,7 +50,8 @@ pub(crate) fn unhit_stop(heads: &HeadRoom, table: usize, mask: usize, ether: u16
     requires table { table < length heads.now.tables }
     requires mask { IsMask heads.now.tables table mask }
     ensures stop { (hit : List ActionValue) → IsStop heads.now.tables hit result }
-    ensures place { (hit : List ActionValue) → place_of heads.now.tables hit result ≡ place_unhit ether (mask_place (heads_told (drop table heads.now.tables)) mask) }
+    ensures place { (hit : List ActionValue) → place_of heads.now.tables hit result
+        ≡ place_unhit ether (mask_place (heads_told (drop table heads.now.tables)) mask) }
     ensures unhit { (hit : List ActionValue) → actions_at hit result ≡ [] }
 {
     let head = &heads.heads()[table];
@@ -67,7 +70,8 @@ pub(crate) fn hit_stop(heads: &HeadRoom, hit: &Hit, table: usize, mask: usize) -
     requires table { table < length heads.now.tables }
     requires mask { IsMask heads.now.tables table mask }
     ensures stop { IsStop heads.now.tables hit.now result }
-    ensures place { place_of heads.now.tables hit.now result ≡ place_hit hit.now (mask_place (heads_told (drop table heads.now.tables)) mask) }
+    ensures place { place_of heads.now.tables hit.now result
+        ≡ place_hit hit.now (mask_place (heads_told (drop table heads.now.tables)) mask) }
     ensures actions { actions_at hit.now result ≡ hit.now }
 {
     let length = hit.actions().len();

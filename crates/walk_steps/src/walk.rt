@@ -49,12 +49,14 @@ impl Walk {
     ghost use Rattle.walk_steps.specs.Told.{execution, IsShortRun};
     ghost use Rattle.walk_steps.specs.Walking.{IsOnWay, KnowsTold, IsBegun, WasVisited, progress_of};
 
-    /// Takes the room for walks: a frame, the tables of a hook, and what 65,536 visits leave. No other call takes memory.
+    /// Takes the room for walks: a frame, the tables of a hook, and what 65,536 visits leave. No other call
+    /// takes memory.
     ///
     /// The walk has ended, with pass and without a visit: it takes no step until `begin`.
     pub fn with_room(alloc: Global) -> Result<Walk, NoMemory>
         ensures ended { IfOk result (λ walk. progress_of walk.standing ≡ Progress.Ended) }
-        ensures passes { IfOk result (λ walk. outcome_of walk.standing ≡ Some (outcome_with Verdict.Pass walk.standing)) }
+        ensures passes { IfOk result (λ walk. outcome_of walk.standing
+            ≡ Some (outcome_with Verdict.Pass walk.standing)) }
         ensures points { IfOk result (λ walk. walk.points ≡ []) }
         ensures executed { IfOk result (λ walk. walk.standing.executed ≡ []) }
     {
@@ -92,8 +94,8 @@ impl Walk {
         course.stage = Stage::AtHead;
     }
 
-    /// Makes one visit, and goes on by its answer. The walk must not have ended, and whoever answers must know what this walk was
-    /// told.
+    /// Makes one visit, and goes on by its answer. The walk must not have ended, and whoever answers must
+    /// know what this walk was told.
     pub fn step<V: Visits>(&mut self, visits: &mut V) -> Progress
         requires going { IsOnWay self.old.standing }
         requires known { KnowsTold V.knows_mask V.knows_action visits.old self.old }
@@ -130,7 +132,8 @@ impl Walk {
         self.course.points.points()
     }
 
-    /// The serial of each action that ran, with the frame's length before it, in order: 65,536 at most, of frames of 262,144 bytes at most.
+    /// The serial of each action that ran, with the frame's length before it, in order: 65,536 at most, of
+    /// frames of 262,144 bytes at most.
     pub fn executed(&self) -> &[(u32, u32)]
         ensures same { map execution result.now ≡ self.now.standing.executed }
         ensures short { IsShortRun result.now }
@@ -157,7 +160,8 @@ fn how_it_goes(course: &Course) -> Progress
 /// Takes a walk that has begun to its end.
 pub fn run<V: Visits>(walk: &mut Walk, visits: &mut V)
     requires begun { (hook : HookValue) × (bytes : List ℕ) × IsBegun hook bytes walk.old }
-    ensures { (points : List ℕ) × (outcome : Outcome) × IsWalk V.told visits.old walk.old.standing points visits.new outcome
+    ensures { (points : List ℕ) × (outcome : Outcome)
+        × IsWalk V.told visits.old walk.old.standing points visits.new outcome
         × (outcome_of walk.new.standing ≡ Some outcome) × (walk.new.points ≡ points) }
 {
     finish(&mut walk.course, visits);
@@ -167,8 +171,10 @@ pub fn run<V: Visits>(walk: &mut Walk, visits: &mut V)
 fn finish<V: Visits>(course: &mut Course, visits: &mut V)
     requires course { IsCourse course.old }
     requires known { IsKnown V.knows_mask V.knows_action visits.old course.old }
-    ensures walk { (points : List ℕ) × (outcome : Outcome) × IsWalk V.told visits.old (standing_of course.old) points visits.new outcome
-        × (outcome_of (standing_of course.new) ≡ Some outcome) × (course.new.points ≡ course.old.points ++ points) }
+    ensures walk { (points : List ℕ) × (outcome : Outcome)
+        × IsWalk V.told visits.old (standing_of course.old) points visits.new outcome
+        × (outcome_of (standing_of course.new) ≡ Some outcome)
+        × (course.new.points ≡ course.old.points ++ points) }
     ensures course { IsCourse course.new }
 {
     while let Progress::Going = how_it_goes(course) {
