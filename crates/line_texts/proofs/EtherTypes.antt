@@ -1,7 +1,7 @@
 -- A printed EtherType is read back as its number.
-use Rattle.std.proofs.Common.{◌≡◌, ◌∙◌, ℕ, ◌<◌, Bool, true, false, List, codes, ◌⊎◌, inl, inr, Some, refl, sym, ap, subst}
+use Rattle.std.proofs.Common.{◌≡◌, ◌∙◌, ℕ, ◌<◌, Bool, true, false, List, codes, ◌⊎◌, inl, inr, Some, None, refl, sym, ap, subst}
 use Rattle.std.specs.Prelude.{◌==◌, if◌then◌else◌}
-use Rattle.std.specs.Option.{option_map}
+use Rattle.std.specs.Option.{option_map, unwrap_or}
 use borrow.Author.Tests.{eqb-true}
 use Rattle.tc_base.specs.declared.hook.Proto.TheVariants.{All, Ether}
 use Rattle.line_words.specs.Forms.{tpid_of, ether_type_of, protocol_of}
@@ -20,7 +20,8 @@ by-name P ip ipv6 arp customer service n other =
     named m name is p = subst (λ k. P k name) (sym (eqb-true n m is)) p
 
     choose : (a b c d e : Bool) → (n == 0x0800) ≡ a → (n == 0x86DD) ≡ b → (n == 0x0806) ≡ c → (n == 0x8100) ≡ d → (n == 0x88A8) ≡ e
-        → P n (if a then codes "ip" else if b then codes "ipv6" else if c then codes "arp" else if d then codes "802.1Q" else if e then codes "802.1ad" else marked (four_digits n))
+        → P n (unwrap_or (if a then Some (codes "ip") else if b then Some (codes "ipv6") else if c then Some (codes "arp")
+        else if d then Some (codes "802.1Q") else if e then Some (codes "802.1ad") else None) (marked (four_digits n)))
     choose true b c d e p q r s t = named 0x0800 (codes "ip") p ip
     choose false true c d e p q r s t = named 0x86DD (codes "ipv6") q ipv6
     choose false false true d e p q r s t = named 0x0806 (codes "arp") r arp

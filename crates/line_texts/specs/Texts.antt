@@ -6,8 +6,10 @@ use Rattle.std.specs.List.{join_with_byte}
 use Rattle.std.specs.Char.{digit_char}
 use Rattle.std.specs.Fmt.{decimal, digits}
 use Rattle.std.specs.Int.{trailing_zeros}
+use Rattle.std.specs.Option.{unwrap_or}
 use Rattle.tc_base.specs.declared.hook.Proto.{Proto}
 use Rattle.tc_base.specs.declared.hook.Proto.TheVariants.{All, Ether}
+use Rattle.line_words.specs.EtherNames.{ether_name}
 use mir.Syntax.{w32, w64}
 
 -- hexadecimal digits in lower case, with no needless 0 in front
@@ -30,15 +32,9 @@ two_digits n = digit_char (n / 16) ∷ digit_char (n % 16) ∷ []
 abbrev pub four_digits : ℕ → List ℕ
 four_digits n = two_digits (n / 256) ++ two_digits (n % 256)
 
--- an EtherType by its name (IANA, IEEE 802 Numbers; IEEE 802.1Q, table 9-1), or else by its number
+-- an EtherType by its name, or else by its number
 unfoldable pub ether_type_text : ℕ → List ℕ
-ether_type_text n =
-    if n == 0x0800 then codes "ip"
-    else if n == 0x86DD then codes "ipv6"
-    else if n == 0x0806 then codes "arp"
-    else if n == 0x8100 then codes "802.1Q"
-    else if n == 0x88A8 then codes "802.1ad"
-    else marked (four_digits n)
+ether_type_text n = unwrap_or (ether_name n) (marked (four_digits n))
 
 -- tc(8), protocol: each protocol, or one EtherType
 abbrev pub protocol_text : Proto → List ℕ

@@ -4,6 +4,7 @@ ghost use Rattle.line_texts.specs.Texts.{marked, two_digits, four_digits, ether_
 ghost use Rattle.line_texts.specs.Texts.{ip_protocol_text};
 
 use crate::numbers::{push_four_digits, push_text, push_two_digits};
+use line_words::ether_name;
 use std::alloc::AllocError;
 use tc_base::Proto;
 
@@ -14,19 +15,14 @@ fn push_ether_number(out: &mut Vec<u8>, number: u16) -> Result<(), AllocError>
     push_four_digits(out, u64::from(number))
 }
 
-/// Puts an EtherType behind what is there: `ip`, `ipv6`, `arp`, `802.1Q` or `802.1ad` (IANA, IEEE 802
-/// Numbers), or else `0x` and four hexadecimal digits.
+/// Puts an EtherType behind what is there: its name, or else `0x` and four hexadecimal digits.
 #[tactic(auto, unfolding(crate::specs::Texts::ether_type_text))]
 pub fn push_ether_type(out: &mut Vec<u8>, number: u16) -> Result<(), AllocError>
     ensures { OnOk result (out.new.items ≡ out.old.items ++ ether_type_text number) }
 {
-    match number {
-        0x0800 => push_text(out, "ip"),
-        0x86DD => push_text(out, "ipv6"),
-        0x0806 => push_text(out, "arp"),
-        0x8100 => push_text(out, "802.1Q"),
-        0x88A8 => push_text(out, "802.1ad"),
-        _ => push_ether_number(out, number),
+    match ether_name(number) {
+        Some(name) => push_text(out, name),
+        None => push_ether_number(out, number),
     }
 }
 

@@ -10,6 +10,7 @@ use Rattle.tc_base.specs.declared.hook.Proto.{Proto}
 use Rattle.tc_base.specs.declared.hook.Proto.TheVariants.{All, Ether}
 use Rattle.tc_words.specs.Hexadecimal.{hex_of, marked_hex_of}
 use Rattle.tc_words.specs.Numbers.{number_of}
+use Rattle.line_words.specs.EtherNames.{ether_name, is_the_name}
 
 abbrev pub at_least : ℕ → Option ℕ → Option ℕ
 at_least least None = None
@@ -19,12 +20,12 @@ at_least least (Some number) = if nat_le least number then Some number else None
 abbrev pub number_between : ℕ → ℕ → List ℕ → Option ℕ
 number_between least most word = at_least least (number_of word most)
 
--- IEEE 802.1Q, clause 9.5, table 9-1: the EtherTypes of the two tags, by their names
+-- the EtherTypes of the two tags, by their names; each is known by its other spelling too (tc-vlan(8))
 unfoldable pub tpid_of : List ℕ → Option ℕ
 tpid_of word =
-    if bytes_eq word (codes "802.1Q") then Some 0x8100
+    if is_the_name word (ether_name 0x8100) then Some 0x8100
     else if bytes_eq word (codes "802.1q") then Some 0x8100
-    else if bytes_eq word (codes "802.1ad") then Some 0x88A8
+    else if is_the_name word (ether_name 0x88A8) then Some 0x88A8
     else if bytes_eq word (codes "802.1AD") then Some 0x88A8
     else None
 
@@ -36,13 +37,13 @@ has_mark word = (nat_lt 1 (length word) && slice_index word 0 == 0x30) && slice_
 abbrev pub ether_number_of : List ℕ → Option ℕ
 ether_number_of word = if has_mark word then marked_hex_of word 4 else None
 
--- an EtherType by its name (IANA, IEEE 802 Numbers) or its number
+-- an EtherType by its name or its number; `ipv4` is `ip` (tc(8))
 unfoldable pub ether_type_of : List ℕ → Option ℕ
 ether_type_of word =
-    if bytes_eq word (codes "ip") then Some 0x0800
+    if is_the_name word (ether_name 0x0800) then Some 0x0800
     else if bytes_eq word (codes "ipv4") then Some 0x0800
-    else if bytes_eq word (codes "ipv6") then Some 0x86DD
-    else if bytes_eq word (codes "arp") then Some 0x0806
+    else if is_the_name word (ether_name 0x86DD) then Some 0x86DD
+    else if is_the_name word (ether_name 0x0806) then Some 0x0806
     else option_or (tpid_of word) (ether_number_of word)
 
 -- the protocol of a filter: `all`, or one EtherType

@@ -1,1 +1,2 @@
+pub mod EtherNames
 pub mod Forms

@@ -3,7 +3,18 @@ ghost use Rattle.std.specs.Prelude.{◌≡◌, ◌⊎◌, IfSome};
 ghost use Rattle.std.specs.Option.{option_or};
 ghost use Rattle.line_words.specs.Forms.{tpid_of, has_mark, ether_number_of, ether_type_of};
 
+use crate::ether_names::names;
 use tc_words::{is_text, read_hex};
+
+const IP: u16 = 0x0800;
+
+const IPV6: u16 = 0x86DD;
+
+const ARP: u16 = 0x0806;
+
+const CUSTOMER: u16 = 0x8100;
+
+const SERVICE: u16 = 0x88A8;
 
 /// The EtherType of a VLAN tag by the name of its standard: `802.1Q` or `802.1q` is 0x8100, and `802.1ad` or
 /// `802.1AD` is 0x88A8 (IEEE 802.1Q, clause 9.5, table 9-1; tc-vlan(8), `protocol`).
@@ -14,10 +25,10 @@ pub fn read_tpid(word: &[u8]) -> Option<u16>
     ensures value { result ≡ tpid_of word.now }
     ensures tags { IfSome result (λ n. (n ≡ 0x8100) ⊎ (n ≡ 0x88A8)) }
 {
-    if is_text(word, "802.1Q") || is_text(word, "802.1q") {
-        Some(0x8100)
-    } else if is_text(word, "802.1ad") || is_text(word, "802.1AD") {
-        Some(0x88A8)
+    if names(word, CUSTOMER) || is_text(word, "802.1q") {
+        Some(CUSTOMER)
+    } else if names(word, SERVICE) || is_text(word, "802.1AD") {
+        Some(SERVICE)
     } else {
         None
     }
@@ -57,12 +68,12 @@ fn read_tag_or_number(word: &[u8]) -> Option<u16>
 pub fn read_ether_type(word: &[u8]) -> Option<u16>
     ensures { result ≡ ether_type_of word.now }
 {
-    if is_text(word, "ip") || is_text(word, "ipv4") {
-        Some(0x0800)
-    } else if is_text(word, "ipv6") {
-        Some(0x86DD)
-    } else if is_text(word, "arp") {
-        Some(0x0806)
+    if names(word, IP) || is_text(word, "ipv4") {
+        Some(IP)
+    } else if names(word, IPV6) {
+        Some(IPV6)
+    } else if names(word, ARP) {
+        Some(ARP)
     } else {
         read_tag_or_number(word)
     }

@@ -17,6 +17,7 @@
 #![tactic(auto)]
 
 mod classes;
+mod ether_names;
 mod ether_types;
 mod laws;
 mod masked_values;
@@ -24,6 +25,7 @@ mod numbers;
 mod protocols;
 
 pub use classes::read_class;
+pub use ether_names::ether_name;
 pub use ether_types::{read_ether_type, read_tpid};
 pub use laws::{addresses_in_range, masked_in_range, numbers_in_range};
 pub use masked_values::{read_masked_hex, read_masked_octet};
