@@ -3,6 +3,7 @@
 use Rattle.std.specs.Prelude.{◌<◌, ◌≤◌, ℕ, ◌+◌, ◌-◌, Bool, true, false, ◌==◌, ◌||◌, nat_le, if◌then◌else◌}
 use Rattle.act_kinds.specs.declared.params.Control.{Control}
 use Rattle.act_kinds.specs.declared.params.Control.TheVariants as controls
+use Rattle.act_list.specs.declared.limits.TheConstants.{JUMPS_MAX}
 use Rattle.act_list.specs.declared.run.Ending.{Ending}
 use Rattle.act_list.specs.declared.run.Ending.TheVariants as endings
 use Rattle.act_list.specs.declared.run.Next.{Next}
@@ -20,10 +21,9 @@ pub record Run : Type 0 where
   pub jumps : ℕ
   pub ended : Bool
 
--- where a run of a list of that length begins: at the first action, with one jump fewer left than
--- TCA_ACT_MAX_PRIO of the kernel's include/uapi/linux/pkt_cls.h
+-- where a run of a list of that length begins: at the first action, with all jumps left
 abbrev pub begun : ℕ → Run
-begun length = record { length = length; at = 0; jumps = 31; ended = false }
+begun length = record { length = length; at = 0; jumps = JUMPS_MAX; ended = false }
 
 -- where a run stands after the action at a position has given its control
 abbrev pub stand_after : ℕ → ℕ → ℕ → Control → Stand
@@ -52,4 +52,4 @@ moved run (over ending) = record run { ended = true }
 
 -- the position is one of the list, and no more is left than was given
 abbrev pub IsSound : ℕ → ℕ → ℕ → Type 0
-IsSound length at jumps = (at < length) × (length ≤ 16) × (jumps ≤ 31)
+IsSound length at jumps = (at < length) × (length ≤ 16) × (jumps ≤ JUMPS_MAX)

@@ -1,9 +1,7 @@
 //! A run of a list: which action is next, and how the run ends.
+use crate::limits::JUMPS_MAX;
 use act_kinds::Control;
 use std::marker::Model;
-
-// How many jumps are followed in one run (TCA_ACT_MAX_PRIO - 1 of the kernel's include/uapi/linux/pkt_cls.h).
-const JUMPS_MAX: u32 = 31;
 
 /// How a list of actions ends: the control that ended it, as tc-actions(8) names it. `Pipe` is the end behind
 /// the last action.

@@ -3,7 +3,7 @@
 //! A key is a few words of 64 bits. Each field has a place of its own in one of them: a shift and a width.
 //! The table `FIELDS` is the one place that says which fields there are, what they are called and where they
 //! stand. Readers of headers, readers of filters and whatever prints either of them go by the number of a
-//! row, which `field` names, so a new field is a new row here and no new code.
+//! row, which `field` names. Which lines name a field, and what a frame's header gives it, is told elsewhere.
 //!
 //! Several fields share a word since headers are small: with fourteen words a comparison of two keys or of a
 //! key under a mask is fourteen machine operations, whatever the fields are. A key's length is a parameter,

@@ -5,9 +5,9 @@
 //! so comparing whole words under the mask says the same (`words_are_fields`), and costs one AND and one
 //! compare a word.
 //!
-//! Filters of one mask share a hash table: `masked` gives the key to look for, `hash` its bucket, and
-//! `size_for` how many buckets some filters get, so that at most three quarters are in use until the greatest
-//! size is reached. `matches` serves where filters are tried one by one, and as the last word on a bucket's
+//! In the shared store the filters of one mask stand in buckets: `masked` gives the key to look for, `hash` its
+//! bucket, and `size_for` how many buckets some filters get, so that at most three quarters are in use until
+//! the greatest size is reached. Plain lists find keys by a map of `std` (`filter_index`). `matches` serves where filters are tried one by one, and as the last word on a bucket's
 //! entries. It stops at the first word that differs.
 //!
 //! The hash is fixed, and no secret: who chooses filters can put many into one bucket. It answers the same on

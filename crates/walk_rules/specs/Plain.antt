@@ -8,6 +8,7 @@ use Rattle.frame_edit.specs.Tags.{ether_type_of}
 use Rattle.flow_dissect.specs.Fields.{frame_values}
 use Rattle.act_kinds.specs.declared.params.Params.{Params}
 use Rattle.act_kinds.specs.Acts.{acted_on, control_given}
+use Rattle.act_list.specs.declared.limits.TheConstants.{JUMPS_MAX}
 use Rattle.act_list.specs.declared.run.Ending.{Ending}
 use Rattle.act_list.specs.declared.run.Ending.TheVariants as endings
 use Rattle.act_list.specs.Run.{Stand, on, over, stand_after}
@@ -99,7 +100,7 @@ abbrev pub filter_outcome : State → (ℕ → ℕ → Carried → Outcome) → 
     → List ℕ → Outcome
 filter_outcome s restart next left carried [] = ends_with verdicts.Pass carried
 filter_outcome s restart next left carried (action ∷ actions) =
-    after_end restart next (run_list s (action ∷ actions) left carried 0 31)
+    after_end restart next (run_list s (action ∷ actions) left carried 0 JUMPS_MAX)
 
 abbrev pub decided : State → (ℕ → ℕ → Carried → Outcome) → (ℕ → Carried → Outcome) → ℕ → Carried → Option Row
     → Outcome

@@ -11,6 +11,7 @@ use Rattle.frame_edit.specs.Tags.{ether_type_of}
 use Rattle.flow_dissect.specs.Fields.{frame_values}
 use Rattle.act_kinds.specs.declared.params.Params.{Params}
 use Rattle.act_kinds.specs.Acts.{acted_on, control_given}
+use Rattle.act_list.specs.declared.limits.TheConstants.{JUMPS_MAX}
 use Rattle.act_list.specs.declared.run.Ending.{Ending}
 use Rattle.act_list.specs.declared.run.Ending.TheVariants as endings
 use Rattle.act_list.specs.Run.{Stand, on, over, stand_after}
@@ -130,7 +131,7 @@ ran st serial params = record st {
 -- a filter was found: an empty list passes the packet
 abbrev pub after_found : Standing → Head → List Head → List ℕ → Standing
 after_found st head tables [] = moved st (ended verdicts.Pass)
-after_found st head tables (action ∷ actions) = moved st (at_action head (action ∷ actions) 0 31 tables)
+after_found st head tables (action ∷ actions) = moved st (at_action head (action ∷ actions) 0 JUMPS_MAX tables)
 
 -- an answer of another kind than the question's is a visit that leads nowhere
 abbrev pub after_at : Standing → Place → Answer → Standing

@@ -1,5 +1,5 @@
-//! The limits of a walk. Both are this project's own; the kernel has the second alone, with another number of
-//! restarts (max_reclassify_loop of net/sched/cls_api.c).
+//! The limits of a walk. The first is this project's own; the second is the kernel's (max_reclassify_loop of
+//! net/sched/cls_api.c).
 
 /// The visits of a walk at most. The packet of a walk that would need more is dropped.
 pub const VISITS_MAX: usize = 65_536;

@@ -6,6 +6,7 @@ use Rattle.frame_edit.specs.Tags.{ether_type_of}
 use Rattle.flow_fields.specs.Values.{values_of}
 use Rattle.flow_dissect.specs.Fields.{frame_values}
 use Rattle.filter_state.specs.Sound.{Each}
+use Rattle.act_list.specs.declared.limits.TheConstants.{JUMPS_MAX}
 use Rattle.act_list.specs.declared.run.Ending.{Ending}
 use Rattle.act_list.specs.declared.run.Ending.TheVariants as endings
 use Rattle.visit_room.specs.declared.names.MaskName.{MaskName}
@@ -101,7 +102,7 @@ place_unhit ether place = ended verdicts.Pass
 abbrev pub place_hit : List ActionName → Place → Place
 place_hit [] place = ended verdicts.Pass
 place_hit (action ∷ actions) (at_mask head masks tables) =
-    at_action head (action_serials (action ∷ actions)) 0 31 tables
+    at_action head (action_serials (action ∷ actions)) 0 JUMPS_MAX tables
 place_hit (action ∷ actions) place = ended verdicts.Pass
 
 abbrev pub stands_at : Standing → Place → Standing

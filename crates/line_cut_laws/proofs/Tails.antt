@@ -2,8 +2,8 @@
 use Rattle.std.proofs.Common.{◌≡◌, ◌∙◌, ℕ, ◌<◌, ◌≤◌, ◌^◌, false, List, [], ◌∷◌, ◌++◌, refl, sym, ap, subst, arith, append_assoc}
 use Rattle.std.specs.Fmt.{decimal}
 use Rattle.std.proofs.lemmas.Fmt.{decimal_injective}
-use Rattle.line_cuts.specs.Numbers.{Low, numbers_text, AreShort}
-use Rattle.line_cuts.proofs.Digits.{High, digits_high, Free, digits_free}
+use Rattle.line_cut_laws.specs.Numbers.{Low, numbers_text, AreShort}
+use Rattle.line_cut_laws.proofs.Digits.{High, digits_high, Free, digits_free}
 
 abbrev Split : List ℕ → List ℕ → List ℕ → List ℕ → Type 0
 Split ds es x y = (ds ≡ es) × (x ≡ y)

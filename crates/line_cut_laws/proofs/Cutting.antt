@@ -1,7 +1,7 @@
 -- Lines that are joined are cut again.
 use Rattle.std.proofs.Common.{◌≡◌, ◌∙◌, ℕ, ◌==◌, Bool, true, false, List, [], ◌∷◌, ◌++◌, refl, sym, ap, append_assoc}
 use Rattle.std.specs.Prelude.{if◌then◌else◌}
-use Rattle.line_cuts.specs.Cuts.{byte_before, cut, Inner, AreLines, joined}
+use Rattle.line_cut_laws.specs.Cuts.{byte_before, cut, Inner, AreLines, joined}
 
 ends : (lines : List (List ℕ)) → byte_before 10 lines ≡ (10 ∷ []) ∷ lines
 ends [] = refl

@@ -1,8 +1,8 @@
 //! What lines and numbers in texts are known by.
 ghost use Rattle.std.specs.Prelude.{◌≡◌, ℕ, ◌<◌, ◌^◌, List, [], ◌∷◌, ◌++◌};
 ghost use Rattle.std.specs.Fmt.{decimal};
-ghost use Rattle.line_cuts.specs.Cuts.{cut, AreLines, joined};
-ghost use Rattle.line_cuts.specs.Numbers.{Low, numbers_text, AreShort};
+ghost use Rattle.line_cut_laws.specs.Cuts.{cut, AreLines, joined};
+ghost use Rattle.line_cut_laws.specs.Numbers.{Low, numbers_text, AreShort};
 
 /// Lines that are joined are cut where they were joined.
 pub fn whole_lines()

@@ -3,7 +3,7 @@ use Rattle.std.proofs.Common.{◌≡◌, ℕ, zero, suc, ◌+◌, ◌<◌, ◌�
 use Rattle.std.specs.Prelude.{nat_lt, if◌then◌else◌}
 use Rattle.std.specs.Fmt.{digit_glyph, digits_onto, digits, decimal}
 use Rattle.std.proofs.lemmas.Bool.Decides.{nat_tests}
-use Rattle.line_cuts.specs.Cuts.{Inner}
+use Rattle.line_cut_laws.specs.Cuts.{Inner}
 
 abbrev pub High : List ℕ → Type 0
 High [] = Unit {0}
