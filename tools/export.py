@@ -84,8 +84,8 @@ class Export:
         if protocol == 0:
             self.refuse("protocol 0x0")
         place = "protocol {protocol} pref {pref} chain {chain} handle {handle}".format(**said)
-        words = [f"filter add dev eth0 {said['hook']} {place} flower", *(f"{it.name} {it.value}" for it in fields)]
-        return " ".join([*words, *self.action_words(said)])
+        words = [f"{it.name} {it.value}" for it in fields]
+        return " ".join([f"filter add dev eth0 {said['hook']} {place} flower", *words, *self.action_words(said)])
 
     def refuse(self, why: str) -> None:
         """Keeps why tc refuses the next line."""

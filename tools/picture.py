@@ -102,8 +102,8 @@ class Picture:
     def events(self) -> Iterator[str]:
         """A line for each edit, a cross for each refused line; those closer than two pixels share one."""
         near: dict[tuple[int, bool], list[Event]] = {}
-        drawn = (it for round in self.report.rounds for it in round.events if not self.low or it.point > self.low)
-        for event in drawn:
+        events = [it for round in self.report.rounds for it in round.events]
+        for event in (it for it in events if not self.low or it.point > self.low):
             near.setdefault((int(self.edge(event.point) / 2), event.is_edit), []).append(event)
         for (_, is_edit), events in near.items():
             told = "\n".join(map(event_text, events[:LISTED])) + "\n.." * (len(events) > LISTED)
