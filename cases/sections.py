@@ -2,8 +2,10 @@
 
 .ci/cases says which sections there are and what they mean.
 """
+import os
 import re
 
+HERE = os.path.dirname(os.path.realpath(__file__))
 
 def batch(lines):
     made = []
@@ -38,3 +40,18 @@ def cases_of(path):
             while section[1] and not section[1][-1]:
                 section[1].pop()
     return cases
+
+
+def short_batches(*more):
+    """Names and bytes of the batches of all cases (and of more files of cases) that are quickly applied, and of those of examples/."""
+    for path in [*(os.path.join(HERE, it) for it in sorted(os.listdir(HERE)) if it.endswith(".txt")), *more]:
+        for name, _, sections in cases_of(path):
+            data = batch(sections.get("batch", ("", []))[1])
+            if len(data) < 100_000:
+                yield name, data
+    examples = os.path.join(os.path.dirname(HERE), "examples")
+    for name in sorted(os.listdir(examples)):
+        path = os.path.join(examples, name, "rules.tc")
+        if os.path.exists(path):
+            with open(path, "rb") as file:
+                yield name, file.read()
