@@ -74,8 +74,8 @@ class Export:
         if protocol == 0:
             self.refuse("protocol 0x0")
         place = "protocol {protocol} pref {pref} chain {chain} handle {handle}".format(**said)
-        words = [f"{it.name} {it.value}" for it in fields]
-        return " ".join([f"filter add dev eth0 {said['hook']} {place} flower", *words, *self.action_words(said)])
+        front = f"filter add dev eth0 {said['hook']} {place} flower"
+        return " ".join([front, *(f"{it.name} {it.value}" for it in fields), *self.action_words(said)])
 
     def refuse(self, why: str) -> None:
         """Keeps why tc refuses the next line."""

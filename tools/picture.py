@@ -215,11 +215,10 @@ def visit_text(packet: Object, visits: list[int]) -> str:
     """A dot's tooltip: the packet, which of its visits these are, and the points."""
     points = sorted({packet["points"][it] for it in visits})
     sort = " (the hook's tables)" if visits == [0] else ""
-    first = visits[0] + 1
-    name = f"visit {first}{sort}" if len(visits) == 1 else f"{len(visits)} visits from {first} on"
+    name = f"visit {visits[0] + 1}" if len(visits) == 1 else f"visits {visits[0] + 1} to {visits[-1] + 1}"
     point = f"point {points[0]}" if len(points) == 1 else f"points {points[0]} to {points[-1]}"
-    line = (spell_object(packet) or "").split(" points ")[0]
-    return f"{line}: {name} at {point} of {len(packet['points'])} visits"
+    told = (spell_object(packet) or "").split(" points ")[0]
+    return f"{told}: {name} of {len(packet['points'])}{sort} at {point}"
 
 
 def put(name: str, content: str) -> None:

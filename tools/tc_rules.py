@@ -13,7 +13,7 @@ TAGS = (0x8100, 0x88A8)
 
 
 def is_foreign(kind: int | None, value: str) -> bool:
-    """Whether tc takes the name of an IP protocol only under another EtherType. The number is taken under both."""
+    """Whether tc takes the name of an IP protocol only under another EtherType. It takes the number so."""
     return {"icmp": IP, "icmpv6": IPV6}.get(value, kind) != kind
 
 
