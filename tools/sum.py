@@ -1,14 +1,15 @@
 """Adds the texts that walks of one batch wrote, as if their captures had been one.
 
-A packet's walk depends on the batch and on the packet alone, so the pieces of a capture may be walked apart,
-and what the actions counted adds up. Written are a refused line, the counters, the summary and `end`, as a
-walk of the whole would write them. The lines of packets are left out: their numbers are those of a piece.
+A packet's walk depends on the batch and on the packet alone, so the pieces of a capture may be walked
+apart, and what the actions counted adds up. Written are a refused line, the counters, the summary and
+`end`, as a walk of the whole would write them. The lines of packets are left out: their numbers are those
+of a piece.
 
-Each text is read to its end and held to its form: packets numbered from 1, as many as its summary says, and
-as many of them passed. A text without any line of a packet, as this tool and `gen` write it, is taken as
-well, so sums add up again. All texts have to be of one batch, as far as they show it: the same refused line,
-the same actions by serial, kind and index, and as many edits. What isn't noticed: a piece that is given twice
-or not at all, another hook, and another batch that makes the same actions.
+Each text is read to its end and held to its form: packets numbered from 1, as many as its summary says,
+and as many of them passed. A text without any line of a packet, as this tool and `gen` write it, is taken
+as well, so sums add up again. All texts have to be of one batch, as far as they show it: the same refused
+line, the same actions by serial, kind and index, and as many edits. What isn't noticed: a piece that is
+given twice or not at all, another hook, and another batch that makes the same actions.
 """
 import re
 import sys
@@ -150,7 +151,8 @@ def words(given: list[str]) -> list[str]:
         missing, and another hook."""
     parser = OneLineParser(prog="./clsact sum", description=about, epilog=more)
     parser.add_argument("FILE", nargs="+", help="what `walk`, `gen` or `sum` wrote")
-    return parser.parse_args(given).FILE
+    names: list[str] = parser.parse_args(given).FILE
+    return names
 
 
 def main(given: list[str]) -> int:

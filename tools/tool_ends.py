@@ -1,7 +1,7 @@
 """How the tools in this folder end, so that each of them ends alike.
 
-A fault in an input is one line on standard error, `FILE:LINE: WHAT`, and exit 2. A closed pipe and Ctrl-C end
-a tool as they end other programs, without a word. What isn't promised: a tool that is stopped may have
+A fault in an input is one line on standard error, `FILE:LINE: WHAT`, and exit 2. A closed pipe and Ctrl-C
+end a tool as they end other programs, without a word. What isn't promised: a tool that is stopped may have
 written a front of its text.
 """
 import argparse
