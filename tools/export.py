@@ -96,6 +96,10 @@ class Export:
 
 def write(name: str, objects: list[Object]) -> int:
     """Writes the state, and tells what stands against it."""
+    if objects[0]["type"] == "refused":
+        told = f"{shown(name)}:{objects[0]['line']}: refused, so nothing is exported; see `./clsact check`"
+        print(told, file=sys.stderr)
+        return 1
     export = Export(objects)
     for line in export.lines():
         print(line)
@@ -117,12 +121,7 @@ def main(words: list[str]) -> int:
     if answer.number > 1:
         print(answer.told, end="", file=sys.stderr)
         return answer.number
-    objects = list(answer.objects)
-    if objects[0]["type"] == "refused":
-        told = f"{shown(given.BATCH)}:{objects[0]['line']}: refused, so nothing is exported"
-        print(f"{told}; see `./clsact check`", file=sys.stderr)
-        return 1
-    return write(given.BATCH, objects)
+    return write(given.BATCH, list(answer.objects))
 
 
 if __name__ == "__main__":
