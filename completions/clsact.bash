@@ -1,6 +1,6 @@
-# Completion of clsact and ./clsact for bash: `source completions/clsact.bash`, or put it as clsact into the folder
-# bash-completion/completions below ~/.local/share. It goes by position: commands and hooks by their names, files by
-# the ends of their names. A name with another end is written out, or completed with Alt-/.
+# Completion of clsact and ./clsact for bash: `source completions/clsact.bash`, or put it as clsact into the
+# folder bash-completion/completions below ~/.local/share. It goes by position: commands and hooks by their
+# names, files by the ends of their names. A name with another end is written out, or completed with Alt-/.
 
 # Adds the files whose names end so, and the folders: all files where no end is given, and none for a slash.
 _clsact_files() {

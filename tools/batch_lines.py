@@ -12,6 +12,7 @@ from tool_ends import Fault, shown
 
 TYPES = {"ip": 0x800, "ipv4": 0x800, "ipv6": 0x86DD, "arp": 0x806, "802.1q": 0x8100, "802.1ad": 0x88A8}
 PREFS = ("pref", "prio", "priority", "preference")
+VALUES = ("index", "id", "protocol", "priority", "mark", "queue_mapping")
 WIDTHS = {"tcp_flags": 12, "ip_tos": 8, "ip_ttl": 8}
 
 
@@ -125,25 +126,32 @@ def lines_of(name: str) -> Iterator[Line]:
     return (line for number, raw in enumerate(lines, 1) if (line := line_from(number, raw)).words)
 
 
-def action_from(texts: list[str], at: int) -> Action:
+def words_of(texts: list[str], at: int) -> tuple[str, dict[str, int], int]:
+    """The control of an action from a place on, where the values of its words stand, and where it ends."""
+    control, words = "pipe", dict[str, int]()
+    while at < len(texts) and texts[at] != "action":
+        if texts[at] in VALUES:
+            words[texts[at]] = at + 1
+            at += 2
+        else:
+            control = {"pass": "ok", "shot": "drop"}.get(texts[at], texts[at])
+            at += {"jump": 2, "goto": 3}.get(control, 1)
+            words[control] = at - 1
+    return control, words, at
+
+
+def action_from(texts: list[str], first: int) -> Action:
     """The action whose kind or control stands at a place."""
-    first, operation, control, kind = at, "", "pipe", "gact"
+    kind, operation, at = "gact", "", first
     if texts[at] in ("gact", "vlan", "skbedit"):
         kind, at = texts[at], at + 1
     if kind == "vlan" and texts[at] != "index":
         operation, at = texts[at], at + 1
-    named, words, jump = not operation and texts[at] == "index", {}, 0
-    while at < len(texts) and texts[at] != "action":
-        if texts[at] in ("index", "id", "protocol", "priority", "mark", "queue_mapping"):
-            words[texts[at]] = at + 1
-            at += 2
-            continue
-        control = {"pass": "ok", "shot": "drop"}.get(texts[at], texts[at])
-        at += {"jump": 2, "goto": 3}.get(control, 1)
-        jump = number_of(texts[at - 1]) if control in ("jump", "goto") else 0
-        words |= {control: at - 1}
+    named = not operation and texts[at] == "index"
+    control, words, behind = words_of(texts, at)
+    jump = number_of(texts[words[control]]) if control in ("jump", "goto") else 0
     index = number_of(texts[words["index"]]) if "index" in words else 0
-    return Action(kind, named, operation, control, jump, index, words, first, at)
+    return Action(kind, named, operation, control, jump, index, words, first, behind)
 
 
 def take_options(request: Request, texts: list[str], at: int) -> int:

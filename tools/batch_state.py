@@ -4,6 +4,7 @@ The program alone judges lines. This follows those that it accepted, by the rule
 pref, handle and index a line gets, which actions it makes, binds and lets go. Its test holds the filters and
 actions that it comes to against the text of `show`. Not kept: serials, the order of filters, their values.
 """
+from collections import Counter
 from collections.abc import Iterator
 from dataclasses import dataclass, field
 
@@ -24,10 +25,21 @@ class Filter:
 
 @dataclass
 class Table:
-    """The filters of a chain and pref, by handle."""
+    """The filters of a chain and pref, by handle, and how many of them have each mask."""
 
     protocol: int | None
     filters: dict[int, Filter] = field(default_factory=dict)
+    masks: Counter[Mask] = field(default_factory=Counter)
+
+    def put(self, handle: int, filter: Filter) -> None:
+        self.filters[handle] = filter
+        self.masks[filter.mask] += 1
+
+    def take(self, handle: int) -> Filter:
+        """Takes a filter out."""
+        filter = self.filters.pop(handle)
+        self.masks -= Counter([filter.mask])
+        return filter
 
 
 @dataclass
@@ -121,9 +133,9 @@ class State:
         request.handle = request.handle or free_handle(table)
         for place, action in enumerate(request.actions):
             self.bind(request, action, place, change)
-        old = table.filters.get(request.handle)
-        table.filters[request.handle] = Filter(mask_of(request), change.taken)
-        self.unbind([old] if old else [], change)
+        old = [table.take(it) for it in (request.handle,) if it in table.filters]
+        table.put(request.handle, Filter(mask_of(request), change.taken))
+        self.unbind(old, change)
 
     def bind(self, request: Request, action: Action, place: int, change: Change) -> None:
         name = (action.kind, action.index or self.free_index(action.kind))
@@ -136,10 +148,10 @@ class State:
     def delete(self, request: Request, change: Change) -> None:
         """Deletes a filter, or all of a table, and the table with its last one."""
         tables = self.tables(request)
-        filters = tables[request.pref].filters
-        handles = [request.handle] if request.handle else list(filters)
-        self.unbind([filters.pop(it) for it in handles], change)
-        if not filters:
+        table = tables[request.pref]
+        handles = [request.handle] if request.handle else list(table.filters)
+        self.unbind([table.take(it) for it in handles], change)
+        if not table.filters:
             del tables[request.pref]
 
     def unbind(self, filters: list[Filter], change: Change) -> None:

@@ -13,13 +13,12 @@ from collections.abc import Iterator
 from batch_lines import Field, type_of
 from clsact_texts import Object, spell_object
 from program import ask, take_program
-from tc_rules import faults, needs_hexadecimal
+from tc_rules import faults
 from tool_ends import OneLineParser, end_with, shown
 
 TAGGED = ("vlan_id", "vlan_prio", "vlan_ethtype", "cvlan_id", "cvlan_prio", "cvlan_ethtype")
 BEHIND = ("ip_proto", "src_ip", "dst_ip", "src_port", "dst_port", "tcp_flags", "ip_tos", "ip_ttl")
 ORDER = ("dst_mac", "src_mac", *TAGGED, *BEHIND)
-PROTOCOLS = {"icmp": "0x1", "icmpv6": "0x3a"}
 Name = tuple[str, int]
 
 
@@ -32,21 +31,12 @@ def action_text(said: Object) -> str:
     return (spell_object(said) or "").split("\n")[0].removeprefix("actions add ")
 
 
-def inner_type(protocol: int | None, fields: dict[str, str]) -> int | None:
-    """The EtherType behind the tags that a filter speaks of."""
-    given = [fields[it] for it in ("cvlan_ethtype", "vlan_ethtype") if it in fields]
-    return type_of(given[0]) if given else protocol
-
-
 def fields_of(said: Object) -> list[Field]:
     """A filter's fields as tc reads them, and in the order in which it wants them."""
     fields = {name: str(value) for name, value in said["fields"].items()}
     if "ip_ttl" in fields:
         value, mask = fields["ip_ttl"].split("/")
         fields["ip_ttl"] = f"{value}/0x{int(mask):x}"
-    protocol = fields.get("ip_proto", "")
-    if needs_hexadecimal(inner_type(type_of(str(said["protocol"])), fields), protocol):
-        fields["ip_proto"] = PROTOCOLS[protocol]
     return [Field(it, fields[it], 0) for it in ORDER if it in fields]
 
 
@@ -84,8 +74,8 @@ class Export:
         if protocol == 0:
             self.refuse("protocol 0x0")
         place = "protocol {protocol} pref {pref} chain {chain} handle {handle}".format(**said)
-        words = [f"filter add dev eth0 {said['hook']} {place} flower", *(f"{it.name} {it.value}" for it in fields)]
-        return " ".join([*words, *self.action_words(said)])
+        front = f"filter add dev eth0 {said['hook']} {place} flower"
+        return " ".join([front, *(f"{it.name} {it.value}" for it in fields), *self.action_words(said)])
 
     def refuse(self, why: str) -> None:
         """Keeps why tc refuses the next line."""
@@ -106,6 +96,10 @@ class Export:
 
 def write(name: str, objects: list[Object]) -> int:
     """Writes the state, and tells what stands against it."""
+    if objects[0]["type"] == "refused":
+        told = f"{shown(name)}:{objects[0]['line']}: refused, so nothing is exported; see `./clsact check`"
+        print(told, file=sys.stderr)
+        return 1
     export = Export(objects)
     for line in export.lines():
         print(line)
@@ -127,12 +121,7 @@ def main(words: list[str]) -> int:
     if answer.number > 1:
         print(answer.told, end="", file=sys.stderr)
         return answer.number
-    objects = list(answer.objects)
-    if objects[0]["type"] == "refused":
-        told = f"{shown(given.BATCH)}:{objects[0]['line']}: refused, so nothing is exported"
-        print(f"{told}; see `./clsact check`", file=sys.stderr)
-        return 1
-    return write(given.BATCH, objects)
+    return write(given.BATCH, list(answer.objects))
 
 
 if __name__ == "__main__":

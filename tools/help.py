@@ -23,7 +23,8 @@ def word_of(given: list[str]) -> str:
     about = "Opens the manual page clsact(1), or that of a format, or writes what is said of a command."
     parser = OneLineParser(prog="./clsact help", description=about)
     parser.add_argument("WORD", nargs="?", default="", help="batch, job, report, or a command")
-    return parser.parse_args(given).WORD
+    word: str = parser.parse_args(given).WORD
+    return word
 
 
 def open_page(path: str) -> int:

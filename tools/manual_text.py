@@ -15,6 +15,8 @@ CLOSING = set(".,:;)]?!")
 OPENING = set("([")
 # What stands before and behind the words of a macro that may stand within a line.
 AROUND = {"Ar": ("", ""), "Cm": ("", ""), "Pa": ("", ""), "No": ("", ""), "Fl": ("-", ""), "Ql": ("'", "'")}
+MARKS = {"Oo": "[", "Oc": "]"}
+INLINE = {"Ns", "Op", "Xr", *MARKS}
 WIDTH = 78
 STEP = 6
 UNBROKEN: Any = {"break_long_words": False, "break_on_hyphens": False}
@@ -66,9 +68,10 @@ def set_macros(line: list[str], out: Words) -> None:
             out.add(f"{line.pop(0)}({line.pop(0)})")
         elif name in AROUND:
             set_words(*AROUND[name], taken(line), out)
-        elif name in CLOSING | OPENING:
-            out.add(name, name in CLOSING)
-            out.is_tight = name in OPENING
+        elif MARKS.get(name, name) in CLOSING | OPENING:
+            mark = MARKS.get(name, name)
+            out.add(mark, mark in CLOSING)
+            out.is_tight = mark in OPENING
         else:
             out.add(plain(name))
 
@@ -76,7 +79,7 @@ def set_macros(line: list[str], out: Words) -> None:
 def taken(line: list[str]) -> list[str]:
     """Takes the words up to the next macro or to closing marks at the line's end."""
     words = []
-    while line and line[0] not in AROUND and line[0] not in ("Ns", "Op", "Xr"):
+    while line and line[0] not in AROUND and line[0] not in INLINE:
         if all(it in CLOSING for it in line):
             break
         words.append(line.pop(0))
@@ -138,7 +141,7 @@ class Reader:
         known = getattr(self, f"macro_{name}", None)
         if known:
             known(rest)
-        elif name in AROUND or name in ("Op", "Xr"):
+        elif name in AROUND or name in INLINE:
             set_macros([name, *rest.split()], self.words)
         else:
             raise Fault(f"{shown(self.name)}:{self.number}: no such macro here: {name}")

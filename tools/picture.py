@@ -102,8 +102,8 @@ class Picture:
     def events(self) -> Iterator[str]:
         """A line for each edit, a cross for each refused line; those closer than two pixels share one."""
         near: dict[tuple[int, bool], list[Event]] = {}
-        drawn = (it for round in self.report.rounds for it in round.events if not self.low or it.point > self.low)
-        for event in drawn:
+        events = [it for round in self.report.rounds for it in round.events]
+        for event in (it for it in events if not self.low or it.point > self.low):
             near.setdefault((int(self.edge(event.point) / 2), event.is_edit), []).append(event)
         for (_, is_edit), events in near.items():
             told = "\n".join(map(event_text, events[:LISTED])) + "\n.." * (len(events) > LISTED)
@@ -215,11 +215,10 @@ def visit_text(packet: Object, visits: list[int]) -> str:
     """A dot's tooltip: the packet, which of its visits these are, and the points."""
     points = sorted({packet["points"][it] for it in visits})
     sort = " (the hook's tables)" if visits == [0] else ""
-    first = visits[0] + 1
-    name = f"visit {first}{sort}" if len(visits) == 1 else f"{len(visits)} visits from {first} on"
+    name = f"visit {visits[0] + 1}" if len(visits) == 1 else f"visits {visits[0] + 1} to {visits[-1] + 1}"
     point = f"point {points[0]}" if len(points) == 1 else f"points {points[0]} to {points[-1]}"
-    line = (spell_object(packet) or "").split(" points ")[0]
-    return f"{line}: {name} at {point} of {len(packet['points'])} visits"
+    told = (spell_object(packet) or "").split(" points ")[0]
+    return f"{told}: {name} of {len(packet['points'])}{sort} at {point}"
 
 
 def put(name: str, content: str) -> None:

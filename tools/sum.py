@@ -151,7 +151,8 @@ def words(given: list[str]) -> list[str]:
         missing, and another hook."""
     parser = OneLineParser(prog="./clsact sum", description=about, epilog=more)
     parser.add_argument("FILE", nargs="+", help="what `walk`, `gen` or `sum` wrote")
-    return parser.parse_args(given).FILE
+    names: list[str] = parser.parse_args(given).FILE
+    return names
 
 
 def main(given: list[str]) -> int:

@@ -12,16 +12,16 @@ IP, IPV6 = 0x800, 0x86DD
 TAGS = (0x8100, 0x88A8)
 
 
-def needs_hexadecimal(protocol: int | None, value: str) -> bool:
-    """Whether tc takes the name of an IP protocol only under another EtherType."""
-    return {"icmp": IP, "icmpv6": IPV6}.get(value, protocol) != protocol
+def is_foreign(kind: int | None, value: str) -> bool:
+    """Whether tc takes the name of an IP protocol only under another EtherType. It takes the number so."""
+    return {"icmp": IP, "icmpv6": IPV6}.get(value, kind) != kind
 
 
 def fault_of(field: Field, kind: int | None, tagged: bool, twice: bool) -> str:
     """What is wrong for tc with a field, behind fields that came to an EtherType; empty where nothing is."""
     if field.name.endswith("_ip") and kind != (IPV6 if ":" in field.value else IP):
         return "an address without its protocol"
-    if field.name == "ip_proto" and (kind not in (IP, IPV6) or needs_hexadecimal(kind, field.value)):
+    if field.name == "ip_proto" and (kind not in (IP, IPV6) or is_foreign(kind, field.value)):
         return "an IP protocol without its protocol"
     if field.name.endswith("_port") and field.value in ("0", "0x0", "0X0"):
         return "port 0"

@@ -5,6 +5,7 @@ end a tool as they end other programs, without a word. What isn't promised: a to
 written a front of its text.
 """
 import argparse
+import io
 import os
 import signal
 import sys
@@ -36,6 +37,9 @@ def end_with(tool: Callable[[list[str]], int]) -> NoReturn:
     """Runs the tool over the command line's words, and ends with its exit number."""
     signal.signal(signal.SIGPIPE, signal.SIG_DFL)
     signal.signal(signal.SIGINT, signal.SIG_DFL)
+    for stream in (sys.stdout, sys.stderr):
+        if isinstance(stream, io.TextIOWrapper):
+            stream.reconfigure(errors="backslashreplace")
     try:
         number = number_of(tool)
         sys.stdout.flush()

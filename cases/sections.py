@@ -1,0 +1,57 @@
+"""Reads files of worked cases: each case goes from a line `== NAME` to the next, and has sections from lines `-- NAME`.
+
+.ci/cases says which sections there are and what they mean.
+"""
+import os
+import re
+
+HERE = os.path.dirname(os.path.realpath(__file__))
+
+def batch(lines):
+    made = []
+    for line in lines:
+        repeated = re.match(r"repeat (\d+)\.\.(\d+) (.*)$", line)
+        if repeated:
+            pieces = [it.strip() for it in repeated[3].split(" | ")]
+            for n in range(int(repeated[1]), int(repeated[2])):
+                made += [it.format(n=n, high=n // 256, low=n % 256) for it in pieces]
+        else:
+            made.append(line)
+    return "".join(f"{it}\n" for it in made).encode()
+
+
+def cases_of(path):
+    """Name, words and sections of each case; a section has the words behind its name, and its lines. A file's name is part of its section's."""
+    cases = []
+    with open(path, encoding="utf-8") as file:
+        for line in file.read().splitlines():
+            if line.startswith("== "):
+                cases.append((line[3:], [], {}))
+                section = None
+            elif line.startswith("-- "):
+                section, *more = re.match(r"(file \S+|\S+)(?: (.*))?$", line[3:]).groups("")
+                cases[-1][2][section] = ("".join(more), [])
+            elif cases and section:
+                cases[-1][2][section][1].append(line)
+            elif cases and line:
+                cases[-1][1].extend(line.split(" "))
+    for _, _, sections in cases:
+        for section in sections.values():
+            while section[1] and not section[1][-1]:
+                section[1].pop()
+    return cases
+
+
+def short_batches(*more):
+    """Names and bytes of the batches of all cases (and of more files of cases) that are quickly applied, and of those of examples/."""
+    for path in [*(os.path.join(HERE, it) for it in sorted(os.listdir(HERE)) if it.endswith(".txt")), *more]:
+        for name, _, sections in cases_of(path):
+            data = batch(sections.get("batch", ("", []))[1])
+            if len(data) < 100_000:
+                yield name, data
+    examples = os.path.join(os.path.dirname(HERE), "examples")
+    for name in sorted(os.listdir(examples)):
+        path = os.path.join(examples, name, "rules.tc")
+        if os.path.exists(path):
+            with open(path, "rb") as file:
+                yield name, file.read()
