@@ -1,5 +1,5 @@
--- Which parameters a batch line can give. The greatest chain and jump are those of the kernel's
--- TC_ACT_EXT_VAL_MASK (include/uapi/linux/pkt_cls.h).
+-- Which parameters a batch line can give (tc-actions(8), tc-vlan(8), tc-skbedit(8)).
+use Rattle.act_kinds.specs.declared.limits.TheConstants.{CHAIN_MAX}
 use Rattle.std.specs.Prelude.{◌≡◌, ℕ, ◌<◌, ◌≤◌, ◌^◌, ◌⊎◌, Option, IfSome, IsSome}
 use Rattle.act_kinds.specs.declared.params.Control.{Control}
 use Rattle.act_kinds.specs.declared.params.Control.TheVariants as controls
@@ -10,7 +10,7 @@ use Rattle.act_kinds.specs.declared.params.Params.TheVariants as params
 
 -- a chain, or a place to jump to
 abbrev pub IsChain : ℕ → Type 0
-IsChain number = number ≤ 268435455
+IsChain number = number ≤ CHAIN_MAX
 
 -- IEEE 802.1Q, clause 9.5: the EtherTypes of a customer's and of a service's tag
 abbrev pub IsTpid : ℕ → Type 0

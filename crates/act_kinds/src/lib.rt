@@ -16,7 +16,9 @@
 
 mod acts;
 mod kinded;
+mod limits;
 mod params;
 
 pub use acts::act;
+pub use limits::CHAIN_MAX;
 pub use params::{Control, Kind, Params, VlanOp};

@@ -3,7 +3,7 @@
 use Rattle.std.specs.Prelude.{◌<◌, ◌≤◌, ℕ, ◌+◌, ◌-◌, Bool, true, false, ◌==◌, ◌||◌, nat_le, if◌then◌else◌}
 use Rattle.act_kinds.specs.declared.params.Control.{Control}
 use Rattle.act_kinds.specs.declared.params.Control.TheVariants as controls
-use Rattle.act_list.specs.declared.limits.TheConstants.{JUMPS_MAX}
+use Rattle.act_list.specs.declared.limits.TheConstants.{JUMPS_MAX, LIST_MAX}
 use Rattle.act_list.specs.declared.run.Ending.{Ending}
 use Rattle.act_list.specs.declared.run.Ending.TheVariants as endings
 use Rattle.act_list.specs.declared.run.Next.{Next}
@@ -52,4 +52,4 @@ moved run (over ending) = record run { ended = true }
 
 -- the position is one of the list, and no more is left than was given
 abbrev pub IsSound : ℕ → ℕ → ℕ → Type 0
-IsSound length at jumps = (at < length) × (length ≤ 16) × (jumps ≤ JUMPS_MAX)
+IsSound length at jumps = (at < length) × (length ≤ LIST_MAX) × (jumps ≤ JUMPS_MAX)

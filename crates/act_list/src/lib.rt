@@ -27,5 +27,5 @@ mod limits;
 mod run;
 
 pub use ending::ending_of;
-pub use limits::JUMPS_MAX;
+pub use limits::{JUMPS_MAX, LIST_MAX};
 pub use run::{Ending, ListRun, Next};

@@ -44,14 +44,15 @@ impl Model for ListRun {
 }
 
 impl ListRun {
+    ghost use Rattle.act_list.specs.declared.limits.TheConstants.{LIST_MAX};
     ghost use Rattle.std.specs.Prelude.{◌≡◌, ◌<◌, ◌≤◌, false};
     ghost use Rattle.act_kinds.specs.declared.params.Control.TheVariants as controls;
     ghost use Rattle.act_list.specs.Run.{over, after, begun, moved, told};
 
-    /// Begins a run of a list of that many actions, 1 to 16.
+    /// Begins a run of a list of that many actions, 1 to `LIST_MAX`.
     pub fn start(length: u32) -> ListRun
         requires some { 0 < length }
-        requires few { length ≤ 16 }
+        requires few { length ≤ LIST_MAX }
         ensures { result ≡ begun length }
     {
         ListRun {

@@ -1,4 +1,5 @@
 //! Doing what was planned.
+ghost use Rattle.filter_state.specs.declared.limits.TheConstants.{LINE_ACTIONS_MAX};
 ghost use Rattle.act_registry.specs.declared.limits.TheConstants.{ACTIONS_MAX, MADE_MAX};
 ghost use Rattle.std.specs.Prelude.{◌≡◌, ◌≤◌, ◌<◌, ◌+◌, length, None, IsSome};
 ghost use Rattle.act_kinds.specs.Params.{kind_of};
@@ -12,9 +13,9 @@ use crate::planned::PlannedAction;
 use act_kinds::{Kind, Params};
 use act_registry::Registry;
 
-/// Does the parts of a plan in order, which are at most 16.
+/// Does the parts of a plan in order, `LINE_ACTIONS_MAX` at most.
 pub(crate) fn carry_out(parts: &[PlannedAction], registry: &mut Registry<Params>)
-    requires short { length parts.now ≤ 16 }
+    requires short { length parts.now ≤ LINE_ACTIONS_MAX }
     requires fit { AreFit (made_of registry.old) parts.now }
     requires room { made_by parts.now ≤ registry.old.spare }
     requires few { length registry.old.entries + made_by parts.now ≤ ACTIONS_MAX }

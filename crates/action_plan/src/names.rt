@@ -1,4 +1,5 @@
 //! What a plan finds by kind and index: in the registry, or among what it is to make itself.
+ghost use Rattle.filter_state.specs.declared.limits.TheConstants.{LINE_ACTIONS_MAX};
 ghost use Rattle.std.specs.Prelude.{◌≡◌, ◌≤◌, ◌<◌, ◌+◌, length};
 ghost use Rattle.filter_state.specs.Actions.{free_index, serial_of};
 ghost use Rattle.action_plan.specs.Plans.{made_of, carried, AreFit, made_by, serial_to_make};
@@ -31,7 +32,7 @@ pub(crate) fn free_index(
     kind: Kind,
 ) -> u32
     requires made { made ≡ made_by parts.now }
-    requires few { length parts.now < 16 }
+    requires few { length parts.now < LINE_ACTIONS_MAX }
     requires fit { AreFit (made_of registry.now) parts.now }
     ensures { result ≡ free_index kind (carried (made_of registry.now) parts.now).actions }
 {
@@ -46,7 +47,7 @@ pub(crate) fn free_index(
 
 /// The serial of the next action that is made.
 pub(crate) fn next_serial(registry: &Registry<Params>, made: u32) -> u32
-    requires few { made ≤ 16 }
+    requires few { made ≤ LINE_ACTIONS_MAX }
     ensures { result ≡ registry.now.made + made + 1 }
 {
     let _ = registry.entries();

@@ -1,4 +1,5 @@
 //! A plan for the actions of a line.
+ghost use Rattle.filter_state.specs.declared.limits.TheConstants.{LINE_ACTIONS_MAX};
 ghost use Rattle.std.specs.Prelude.{◌≡◌, ◌≤◌, ◌<◌, ◌+◌, ◌∷◌, ◌++◌, [], length, IfOk, OnOk, OnErr};
 ghost use Rattle.act_kinds.specs.Params.{kind_of};
 ghost use Rattle.filter_state.specs.States.{Action};
@@ -17,7 +18,7 @@ use crate::serials::serials_of;
 use act_kinds::{Kind, Params};
 use act_registry::Registry;
 use arrayvec::ArrayVec;
-use filter_state::{ActionLine, Refusal};
+use filter_state::{ActionLine, LINE_ACTIONS_MAX, Refusal};
 use std::alloc::Global;
 use std::marker::Model;
 use tc_base::{NoMemory, Numbers};
@@ -26,11 +27,12 @@ use tc_base::{NoMemory, Numbers};
 /// where it stands.
 #[derive(Drop)]
 pub struct ActionPlan {
-    parts: ArrayVec<PlannedAction, 16>,
+    parts: ArrayVec<PlannedAction, LINE_ACTIONS_MAX>,
     made: u32,
 }
 
 impl Model for ActionPlan {
+    ghost use Rattle.filter_state.specs.declared.limits.TheConstants.{LINE_ACTIONS_MAX};
     ghost use Rattle.std.specs.Prelude.{◌≡◌, ◌≤◌, List, length};
     ghost use Rattle.action_plan.specs.declared.planned.PlannedAction.{PlannedAction};
     ghost use Rattle.action_plan.specs.Plans.{made_by};
@@ -39,7 +41,7 @@ impl Model for ActionPlan {
 
     ghost view = { λ p. p.parts.items };
 
-    ghost invariant = { λ p. (p.made ≡ made_by p.parts.items) × (length p.parts.items ≤ 16) };
+    ghost invariant = { λ p. (p.made ≡ made_by p.parts.items) × (length p.parts.items ≤ LINE_ACTIONS_MAX) };
 }
 
 impl ActionPlan {
@@ -60,7 +62,7 @@ impl ActionPlan {
     pub fn fill(&mut self, registry: &Registry<Params>, lines: &[ActionLine]) -> Result<(), Refusal>
         requires empty { self.old ≡ [] }
         requires lines { AreFilterActions lines.now }
-        requires few { length lines.now ≤ 16 }
+        requires few { length lines.now ≤ LINE_ACTIONS_MAX }
         ensures { PlanTold (made_of registry.now)
             (resolved (record { so_far = made_of registry.now; serials = [] }) lines.now)
             (plan_or self.new result) }
@@ -81,10 +83,10 @@ impl ActionPlan {
         PlannedActions::of_parts(alloc, &self.parts)
     }
 
-    /// How many actions the plan makes, of the 16 at most that it has.
+    /// How many actions the plan makes, of the `LINE_ACTIONS_MAX` at most that it has.
     pub fn made(&self) -> u32
         ensures made { result ≡ made_by self.now }
-        ensures short { length self.now ≤ 16 }
+        ensures short { length self.now ≤ LINE_ACTIONS_MAX }
     {
         self.made
     }
@@ -99,7 +101,7 @@ impl ActionPlan {
     // Plans one action more.
     fn add(&mut self, registry: &Registry<Params>, line: &ActionLine) -> Result<(), Refusal>
         requires line { IsFilterAction line.now }
-        requires few { length self.old < 16 }
+        requires few { length self.old < LINE_ACTIONS_MAX }
         requires fit { AreFit (made_of registry.now) self.old }
         ensures told { AddTold (planned_by (carried (made_of registry.now) self.old) line.now) self.old
             self.new result }
@@ -112,7 +114,7 @@ impl ActionPlan {
 
     // What is to be done for one action more.
     fn next(&self, registry: &Registry<Params>, line: &ActionLine) -> Result<PlannedAction, Refusal>
-        requires few { length self.now < 16 }
+        requires few { length self.now < LINE_ACTIONS_MAX }
         requires fit { AreFit (made_of registry.now) self.now }
         ensures { result ≡ planned_by (carried (made_of registry.now) self.now) line.now }
     {
@@ -140,7 +142,7 @@ impl ActionPlan {
         index: u32,
         params: Option<Params>,
     ) -> Result<PlannedAction, Refusal>
-        requires few { length self.now < 16 }
+        requires few { length self.now < LINE_ACTIONS_MAX }
         ensures { result ≡ made_or_refused (carried (made_of registry.now) self.now) kind index params }
     {
         let Some(params) = params else {
@@ -155,7 +157,7 @@ impl ActionPlan {
     }
 
     fn push(&mut self, part: PlannedAction)
-        requires few { length self.old < 16 }
+        requires few { length self.old < LINE_ACTIONS_MAX }
         ensures { self.new ≡ self.old ++ (part ∷ []) }
     {
         self.parts.push(part);

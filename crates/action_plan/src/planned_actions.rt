@@ -1,4 +1,5 @@
 //! A plan that is kept until it is carried out.
+ghost use Rattle.filter_state.specs.declared.limits.TheConstants.{LINE_ACTIONS_MAX};
 ghost use Rattle.act_registry.specs.declared.limits.TheConstants.{ACTIONS_MAX, MADE_MAX};
 ghost use Rattle.std.specs.Prelude.{◌≡◌, ◌≤◌, ◌<◌, ◌+◌, length, IfOk};
 ghost use Rattle.filter_state.specs.States.{Action};
@@ -14,13 +15,14 @@ use std::alloc::Global;
 use std::marker::Model;
 use tc_base::NoMemory;
 
-/// What is to be done for the actions of a line, in order: at most 16.
+/// What is to be done for the actions of a line, in order: `LINE_ACTIONS_MAX` at most.
 #[derive(Drop)]
 pub struct PlannedActions {
     parts: Vec<PlannedAction>,
 }
 
 impl Model for PlannedActions {
+    ghost use Rattle.filter_state.specs.declared.limits.TheConstants.{LINE_ACTIONS_MAX};
     ghost use Rattle.std.specs.Prelude.{◌≤◌, List, length};
     ghost use Rattle.action_plan.specs.declared.planned.PlannedAction.{PlannedAction};
 
@@ -28,7 +30,7 @@ impl Model for PlannedActions {
 
     ghost view = { λ p. p.parts.items };
 
-    ghost invariant = { λ p. length p.parts.items ≤ 16 };
+    ghost invariant = { λ p. length p.parts.items ≤ LINE_ACTIONS_MAX };
 }
 
 impl PlannedActions {
@@ -36,7 +38,7 @@ impl PlannedActions {
         alloc: Global,
         parts: &[PlannedAction],
     ) -> Result<PlannedActions, NoMemory>
-        requires { length parts.now ≤ 16 }
+        requires { length parts.now ≤ LINE_ACTIONS_MAX }
         ensures { IfOk result (λ plan. plan ≡ parts.now) }
     {
         Ok(PlannedActions {
@@ -47,7 +49,7 @@ impl PlannedActions {
     /// How many actions the line has.
     pub fn len(&self) -> usize
         ensures length { result ≡ length self.now }
-        ensures short { length self.now ≤ 16 }
+        ensures short { length self.now ≤ LINE_ACTIONS_MAX }
     {
         self.parts.len()
     }

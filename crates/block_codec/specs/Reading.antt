@@ -1,4 +1,5 @@
 -- What is looked at before words are read, and the things that they then are (this project's own).
+use Rattle.act_kinds.specs.declared.limits.TheConstants.{CHAIN_MAX}
 use Rattle.act_registry.specs.declared.limits.TheConstants.{MADE_MAX}
 use Rattle.block_codec.specs.declared.places.TheConstants.{ROWS}
 use Rattle.std.specs.Prelude.{◌≡◌, ℕ, ◌+◌, ◌*◌, ◌/◌, ◌%◌, ◌^◌, ◌<◌, ◌≤◌, ◌==◌, List, map, take, slice_index}
@@ -75,7 +76,7 @@ protocol_in number = if number == 65536 then protocols.All else protocols.Ether 
 pub record HasTable (words : List ℕ) : Type 0 where
   pub kind : slice_index words 0 ≡ 3
   pub pref : (1 ≤ slice_index words 1 / 2 ^ 32) × (slice_index words 1 / 2 ^ 32 ≤ 65535)
-  pub chain : slice_index words 2 % 2 ^ 32 ≤ 268435455
+  pub chain : slice_index words 2 % 2 ^ 32 ≤ CHAIN_MAX
   pub protocol : slice_index words 2 / 2 ^ 32 ≤ 65536
   pub few : slice_index words 3 ≤ 16
   pub masks : All (λ word. IsMaskName (mask_in word)) (slice_range words 4 (4 + slice_index words 3))

@@ -8,10 +8,7 @@ ghost use Rattle.block_codec.specs.ReadingParameters.{control_in, priority_in, v
 ghost use Rattle.block_codec.specs.ReadingParameters.{params_in};
 
 use crate::block::{both_halves, high_half, low_half};
-use act_kinds::{Control, Params, VlanOp};
-
-// The greatest number of a chain and of a place to jump to.
-pub(crate) const CHAIN_MAX: u32 = 268_435_455;
+use act_kinds::{CHAIN_MAX, Control, Params, VlanOp};
 
 // The kinds of actions.
 const GACT: u64 = 1;

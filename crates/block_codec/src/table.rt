@@ -8,7 +8,7 @@ ghost use Rattle.block_codec.specs.Reading.{HasTable, protocol_in};
 use crate::block::{LINK, Named, both_halves, high_half, is_blank_from, low_half, number_before};
 use crate::mask_slots::MaskSlots;
 use crate::names::{is_mask, mask_in, mask_word};
-use crate::parameters::CHAIN_MAX;
+use act_kinds::CHAIN_MAX;
 use tc_base::Proto;
 
 // The kind of block.

@@ -1,5 +1,6 @@
 -- How the forty words of a block read (this project's own): as the one thing whose words they are, or as
 -- nothing.
+use Rattle.act_kinds.specs.declared.limits.TheConstants.{CHAIN_MAX}
 use Rattle.act_registry.specs.declared.limits.TheConstants.{MADE_MAX}
 use Rattle.block_codec.specs.declared.places.TheConstants.{ACTION_SLOTS, MASK_SLOTS, ROWS}
 use Rattle.std.specs.Prelude.{ℕ, zero, suc, ◌+◌, ◌/◌, ◌%◌, ◌^◌, ◌==◌, ◌&&◌, Bool, true, nat_lt, nat_le, List}
@@ -80,7 +81,7 @@ abbrev pub is_table : List ℕ → Bool
 is_table words =
     slice_index words 0 == 3
     && (nat_le 1 (slice_index words 1 / 2 ^ 32) && (nat_le (slice_index words 1 / 2 ^ 32) 65535
-    && (nat_le (slice_index words 2 % 2 ^ 32) 268435455
+    && (nat_le (slice_index words 2 % 2 ^ 32) CHAIN_MAX
     && (nat_le (slice_index words 2 / 2 ^ 32) 65536
     && (nat_le (slice_index words 3) 16
     && (list_all is_mask_word (slice_range words 4 (4 + slice_index words 3))
@@ -92,8 +93,8 @@ table_in words = if is_table words then Some (table_read words) else None
 -- ---- an action
 -- a chain or a place to jump to is within its limit
 abbrev pub is_within : Control → Bool
-is_within (controls.Jump place) = nat_le place 268435455
-is_within (controls.Goto chain) = nat_le chain 268435455
+is_within (controls.Jump place) = nat_le place CHAIN_MAX
+is_within (controls.Goto chain) = nat_le chain CHAIN_MAX
 is_within control = true
 
 abbrev pub is_storable : Params → Bool

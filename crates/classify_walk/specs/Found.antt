@@ -1,4 +1,5 @@
 -- A mask that was found by its serial, and the filter of it that a frame meets.
+use Rattle.filter_state.specs.declared.limits.TheConstants.{LINE_ACTIONS_MAX}
 use Rattle.std.specs.Prelude.{◌≡◌, ℕ, ◌≤◌, ◌==◌, Bool, List, [], length, Option, Some, None}
 use Rattle.std.specs.List.{list_any}
 use Rattle.tc_base.specs.declared.hook.Hook.{Hook}
@@ -54,9 +55,9 @@ abbrev pub actions_told : Option Filter → Answer
 actions_told (Some filter) = told_actions filter.actions
 actions_told None = told_no_filter
 
--- each filter has 16 actions at most
+-- each filter has no more actions than a line may have
 abbrev pub FewActions : PlainMask → Type 0
-FewActions mask = Each (λ (filter : Filter). length filter.actions ≤ 16) mask.filters
+FewActions mask = Each (λ (filter : Filter). length filter.actions ≤ LINE_ACTIONS_MAX) mask.filters
 
 -- fourteen words in the mask and in each key, and no stray bit
 pub record AreTidy (mask : PlainMask) : Type 0 where

@@ -1,4 +1,5 @@
 //! A mask by its name, and its filter for a frame.
+ghost use Rattle.filter_state.specs.declared.limits.TheConstants.{LINE_ACTIONS_MAX};
 ghost use Rattle.std.specs.Prelude.{◌≡◌, ◌≤◌, ℕ, [], false, length, map, find, is_some, Some, None};
 ghost use Rattle.std.specs.Prelude.{IsSomeAnd, IfSome, IfNone};
 ghost use Rattle.std.specs.List.{list_any};
@@ -130,7 +131,7 @@ fn words_of(key: &Key<14>) -> &[u64]
 // Tells the actions of a filter.
 fn tell_actions(serials: &[u32], into: &mut Hit)
     requires empty { into.old ≡ [] }
-    requires few { length serials.now ≤ 16 }
+    requires few { length serials.now ≤ LINE_ACTIONS_MAX }
     ensures { action_serials into.new ≡ serials.now }
 {
     for serial in serials {

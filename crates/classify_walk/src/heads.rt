@@ -1,6 +1,6 @@
 //! The tables of a hook, told to a walk.
 ghost use Rattle.std.specs.Prelude.{◌≡◌, ◌<◌, ◌≤◌, [], true, length, map, Some};
-ghost use Rattle.filter_state.specs.declared.limits.TheConstants.{TABLES_MAX};
+ghost use Rattle.filter_state.specs.declared.limits.TheConstants.{MASKS_MAX, TABLES_MAX};
 ghost use Rattle.hook_lists.specs.States.{both_of, AreKept};
 ghost use Rattle.filter_tables.specs.Rows.{tables_on};
 ghost use Rattle.filter_tables.specs.Seen.{plain_table};
@@ -17,7 +17,7 @@ use visit_room::{HeadRoom, MaskName, TableHead};
 // Where a mask stands, in one number: its hook, its place in its table, and the table's place in its hook.
 fn slot_of(hook: Hook, table: usize, mask: usize) -> u32
     requires table { table < TABLES_MAX }
-    requires mask { mask < 16 }
+    requires mask { mask < MASKS_MAX }
 {
     let side = match hook {
         Hook::Ingress => 0,
@@ -97,7 +97,7 @@ fn tell_anew(lists: &Lists, hook: Hook, into: &mut HeadRoom)
 // Tells the masks of the table that was told last.
 fn tell_masks(masks: &[MaskList], hook: Hook, table: usize, into: &mut HeadRoom)
     requires table { table < TABLES_MAX }
-    requires few { length masks.now ≤ 16 }
+    requires few { length masks.now ≤ MASKS_MAX }
     requires bare { last_masks into.old.tables ≡ Some [] }
     ensures { heads_told into.new.tables
         ≡ with_masks_behind (serials_of (map plain_mask masks.now)) (heads_told into.old.tables) }

@@ -11,10 +11,12 @@
 
 mod batch;
 mod job;
+mod limits;
 mod packets;
 #[cfg(test)]
 mod tests;
 
 pub use batch::gen_batch;
 pub use job::gen_job;
+pub use limits::GEN_MAX;
 pub use packets::gen_packets;

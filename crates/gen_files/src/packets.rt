@@ -1,4 +1,5 @@
 //! The packets of the capture.
+ghost use Rattle.gen_files.specs.declared.limits.TheConstants.{GEN_MAX};
 ghost use Rattle.std.specs.Prelude.{◌≡◌, ◌≤◌, ◌<◌, ◌*◌, ◌++◌, [], length, IfOk, OnOk};
 ghost use Rattle.pcap_io.specs.Captures.{AreShort};
 ghost use Rattle.gen_files.specs.Generated.{frame_front, frame_back, frame_to, packets_of};
@@ -34,7 +35,7 @@ fn make_frame(frame: &mut Vec<u8>, index: u32) -> Result<(), AllocError>
 /// `NoMemory`: memory was refused.
 pub fn gen_packets(alloc: Global, filters: u32) -> Result<Packets, NoMemory>
     requires some { 1 ≤ filters }
-    requires few { filters ≤ 4096 }
+    requires few { filters ≤ GEN_MAX }
     ensures packets { IfOk result (λ packets. packets ≡ packets_of filters) }
     ensures short { IfOk result (λ packets. AreShort packets) }
 {

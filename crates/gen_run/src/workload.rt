@@ -1,4 +1,5 @@
 //! All that `gen` makes.
+ghost use Rattle.gen_files.specs.declared.limits.TheConstants.{GEN_MAX};
 ghost use Rattle.std.specs.Prelude.{◌≡◌, ◌≤◌, ℕ, length, false, IfOk};
 ghost use Rattle.tc_base.specs.declared.hook.Hook.TheVariants.{Ingress};
 ghost use Rattle.pcap_io.specs.Captures.{AreShort};
@@ -37,7 +38,7 @@ pub struct Generated {
 /// A batch for at most 4,096 filters has far fewer commands than a run may have. An empty function that
 /// carries this law.
 pub fn few_commands()
-    ensures { (filters : ℕ) → filters ≤ 4096 → length (commands_of (batch_text filters)) ≤ COMMANDS_MAX }
+    ensures { (filters : ℕ) → filters ≤ GEN_MAX → length (commands_of (batch_text filters)) ≤ COMMANDS_MAX }
 {}
 
 /// The packets of the capture, and what comes of their walks.
@@ -50,7 +51,7 @@ struct Walks {
 // Applies the generated batch, and walks the generated packets.
 fn walk_all(alloc: Global, filters: u32, batch: &[u8]) -> Result<Walks, NoMemory>
     requires some { 1 ≤ filters }
-    requires few { filters ≤ 4096 }
+    requires few { filters ≤ GEN_MAX }
     requires batch { batch.now ≡ batch_text filters }
     ensures packets { IfOk result (λ w. w.packets ≡ packets_of filters) }
     ensures short { IfOk result (λ w. AreShort w.packets) }
@@ -85,7 +86,7 @@ fn bytes_of(alloc: Global, packets: Packets) -> Result<Vec<u8>, NoMemory>
 /// `NoMemory`: memory was refused.
 pub fn generate(alloc: Global, filters: u32, front: &str) -> Result<Generated, NoMemory>
     requires some { 1 ≤ filters }
-    requires few { filters ≤ 4096 }
+    requires few { filters ≤ GEN_MAX }
     ensures { IfOk result (λ made. (ran : Ran) × IsRunOf filters ran
         × IsGenerated filters front.now ran made) }
 {

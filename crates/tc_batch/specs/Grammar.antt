@@ -2,6 +2,7 @@
 -- tc-flower(8), tc-vlan(8), tc-skbedit(8), tc-actions(8), in this project's own selection).
 --
 -- A rule is a set of lists of words, and takes as its last argument but one what may follow it.
+use Rattle.filter_state.specs.declared.limits.TheConstants.{LINE_ACTIONS_MAX}
 use Rattle.std.specs.Prelude.{◌≡◌, ℕ, zero, suc, true, false, List, [], ◌∷◌, ◌++◌, Option, Some, None}
 use Rattle.std.specs.Prelude.{is_some, IsSomeAnd, codes, ◌⊎◌}
 use Rattle.std.specs.Str.{bytes_eq}
@@ -139,9 +140,9 @@ ActionList (suc n) head edit actions words =
     ⊎ Then (codes "action")
     (Action sites.Filter (λ action. ActionList n head edit (actions ++ (action ∷ [])))) words
 
--- behind the fields of a filter: its actions, 16 at most
+-- behind the fields of a filter: its actions, `LINE_ACTIONS_MAX` at most
 abbrev pub AfterFields : Edit → Head → List (List ℕ) → Type 0
-AfterFields edit head words = ActionList 16 head edit [] words
+AfterFields edit head words = ActionList LINE_ACTIONS_MAX head edit [] words
 
 -- behind "flower": fields and actions, or the end of a del
 abbrev pub AfterFlower : FilterVerb → Hook → Options → Edit → List (List ℕ) → Type 0

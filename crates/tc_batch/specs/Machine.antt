@@ -1,4 +1,5 @@
 -- The reading of a line word by word: the state after each word, and the edit of a line that ends in a state.
+use Rattle.filter_state.specs.declared.limits.TheConstants.{LINE_ACTIONS_MAX}
 use Rattle.std.specs.Prelude.{ℕ, ◌-◌, Bool, true, false, List, [], ◌∷◌, ◌++◌, Option, Some, None, is_some}
 use Rattle.std.specs.Prelude.{codes, if◌then◌else◌, ◌==◌}
 use Rattle.std.specs.Option.{option_map, option_and_then}
@@ -96,7 +97,7 @@ on_listed head actions more word =
 -- a word behind `flower`: the name of a field, or `action`
 abbrev pub on_field : Head → List ℕ → Option State
 on_field head word =
-    on_name (head_refuses head) (State.FieldValue head) (on_listed head [] 16 word) (field_name word)
+    on_name (head_refuses head) (State.FieldValue head) (on_listed head [] LINE_ACTIONS_MAX word) (field_name word)
 
 -- the state after the first word of a control
 abbrev pub after_control : Context → Params → ControlWord → State

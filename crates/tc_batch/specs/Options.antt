@@ -1,4 +1,5 @@
 -- What may stand between a hook and `flower`, and the edits that come of it.
+use Rattle.act_kinds.specs.declared.limits.TheConstants.{CHAIN_MAX}
 use Rattle.std.specs.Prelude.{ℕ, Bool, true, false, ◌&&◌, not, List, Option, Some, None, is_some}
 use Rattle.std.specs.Prelude.{if◌then◌else◌}
 use Rattle.std.specs.Option.{option_map, unwrap_or}
@@ -17,7 +18,7 @@ use Rattle.tc_batch.specs.Keywords.{option_name}
 
 -- a chain, or a place to jump to
 abbrev pub chain_number : List ℕ → Option ℕ
-chain_number word = number_between 0 268435455 word
+chain_number word = number_between 0 CHAIN_MAX word
 
 -- a handle of a filter, or an index of an action
 abbrev pub index_number : List ℕ → Option ℕ

@@ -1,10 +1,11 @@
 //! What was read of a line.
+ghost use Rattle.filter_state.specs.declared.limits.TheConstants.{LINE_ACTIONS_MAX};
 ghost use Rattle.std.specs.Prelude.{◌≡◌, []};
 ghost use Rattle.tc_batch.specs.Fields.{filter_head, filter_line, filter_edit};
 
 use crate::fields::Fields;
 use crate::options::Options;
-use filter_state::{ActionLines, Edit, FilterLine};
+use filter_state::{ActionLines, Edit, FilterLine, LINE_ACTIONS_MAX};
 use std::alloc::Global;
 use tc_base::{Hook, Proto};
 
@@ -28,8 +29,8 @@ pub struct Draft {
     pub more: u32,
 }
 
-/// The greatest number of actions of a filter.
-const MOST_ACTIONS: u32 = 16;
+/// How many actions a filter may still be given at first.
+const MOST_ACTIONS: u32 = LINE_ACTIONS_MAX as u32;
 
 impl Draft {
     pub(crate) fn new(alloc: Global) -> Self {
@@ -57,7 +58,7 @@ impl Draft {
     pub(crate) fn begin_actions(&mut self, alloc: Global)
         ensures head { self.new.head ≡ self.old.head }
         ensures actions { self.new.actions ≡ [] }
-        ensures more { self.new.more ≡ 16 }
+        ensures more { self.new.more ≡ LINE_ACTIONS_MAX }
     {
         self.actions = ActionLines::new(alloc);
         self.more = MOST_ACTIONS;

@@ -3,6 +3,7 @@
 //! Each function goes on to the stage after a word, and answers whether a line goes on with it. Where none
 //! does, the stage means nothing. A stage is written where it stands, since it is too large to be handed on
 //! word by word.
+ghost use Rattle.filter_state.specs.declared.limits.TheConstants.{LINE_ACTIONS_MAX};
 ghost use Rattle.std.specs.Prelude.{◌≡◌, [], if◌then◌else◌, Some, None};
 ghost use Rattle.std.specs.Option.{option_map};
 ghost use Rattle.tc_batch.specs.declared.draft.Draft.{Draft};
@@ -179,7 +180,7 @@ pub(crate) fn go_on_listed(draft: &mut Draft, stage: &mut Stage, word: &[u8]) ->
 
 fn end_fields(alloc: Global, draft: &mut Draft, stage: &mut Stage, word: &[u8]) -> bool
     ensures { option_map (state_of draft.new) (if result then Some stage.new else None)
-        ≡ on_listed draft.old.head [] 16 word.now }
+        ≡ on_listed draft.old.head [] LINE_ACTIONS_MAX word.now }
 {
     draft.begin_actions(alloc);
     go_on_listed(draft, stage, word)

@@ -2,13 +2,14 @@
 ghost use Rattle.std.specs.Prelude.{◌≡◌};
 ghost use Rattle.tc_batch.specs.Options.{chain_number, index_number, pref_number};
 
+use act_kinds::CHAIN_MAX;
 use line_words::read_number_between;
 
 // A chain, or a place to jump to.
 pub(crate) fn read_chain(word: &[u8]) -> Option<u32>
     ensures { result ≡ chain_number word.now }
 {
-    read_number_between(word, 0, 268_435_455)
+    read_number_between(word, 0, CHAIN_MAX)
 }
 
 // A handle of a filter, or an index of an action.

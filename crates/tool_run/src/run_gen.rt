@@ -1,4 +1,5 @@
 //! The command `gen`.
+ghost use Rattle.gen_files.specs.declared.limits.TheConstants.{GEN_MAX};
 ghost use Rattle.std.specs.Prelude.{◌≡◌, ◌⊎◌, ◌≤◌, ◌++◌, string_bytes, IfOk, IfErr, OnOk};
 ghost use Rattle.tc_base.specs.Outside.{Appended, AppendsUpTo, OthersStay, Stands};
 ghost use Rattle.tool_words.specs.Command.{Gen};
@@ -92,7 +93,7 @@ pub fn run_gen<S: Shelf, O: Sink>(
     out: &mut O,
 ) -> Result<bool, Status>
     requires some { 1 ≤ count }
-    requires few { count ≤ 4096 }
+    requires few { count ≤ GEN_MAX }
     ensures done { IfOk result (λ refused. Made (S.held shelf.old) (S.held shelf.new) (O.written out.old)
         (O.written out.new) count front.now (status_after refused)) }
     ensures cause { IfErr result (CausedTo S.held S.read_faults S.failed_name S.write_faults O.faults

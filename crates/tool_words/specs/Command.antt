@@ -1,4 +1,5 @@
 -- What the words of the command line ask for. The five shapes are this project's own.
+use Rattle.gen_files.specs.declared.limits.TheConstants.{GEN_MAX}
 use Rattle.std.specs.Prelude.{ℕ, Bool, true, false, ◌&&◌, ◌==◌, nat_le, List, [], ◌∷◌, length, Option, Some}
 use Rattle.std.specs.Prelude.{None, if◌then◌else◌, codes, map, string_bytes, String}
 use Rattle.std.specs.List.{list_all}
@@ -31,7 +32,7 @@ above_zero None = None
 above_zero (Some n) = if nat_le 1 n then Some n else None
 
 abbrev pub count_of : List ℕ → Option ℕ
-count_of word = above_zero (decimal_of word 4096)
+count_of word = above_zero (decimal_of word GEN_MAX)
 
 -- a byte that may stand in the names of made files: printable, and no `#`, which would begin a comment
 abbrev pub is_name_byte : ℕ → Bool

@@ -1,4 +1,5 @@
 -- A command, as what it asks for.
+use Rattle.gen_files.specs.declared.limits.TheConstants.{GEN_MAX}
 use Rattle.std.specs.Prelude.{ℕ, ◌≤◌, List}
 use Rattle.tc_base.specs.declared.hook.Hook.{Hook}
 use Rattle.tool_words.specs.declared.command.Command.{Command}
@@ -15,7 +16,7 @@ request (commands.Gen count front) = Gen count front.now
 
 -- `gen` is asked for 1 to 4,096 filters
 abbrev pub HasFewFilters : Command → Type 0
-HasFewFilters (commands.Gen count front) = (1 ≤ count) × (count ≤ 4096)
+HasFewFilters (commands.Gen count front) = (1 ≤ count) × (count ≤ GEN_MAX)
 HasFewFilters command = Unit {0}
 
 -- the files of a walk

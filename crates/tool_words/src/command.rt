@@ -1,3 +1,4 @@
+ghost use Rattle.gen_files.specs.declared.limits.TheConstants.{GEN_MAX};
 ghost use Rattle.std.specs.Prelude.{◌≡◌, ◌≤◌, IfSome};
 ghost use Rattle.std.specs.List.{list_all};
 ghost use Rattle.std.specs.Option.{option_map};
@@ -6,6 +7,7 @@ ghost use Rattle.tool_words.specs.Command.{request_of_one, request_of_two, reque
 ghost use Rattle.tool_words.specs.Command.{verb_of};
 ghost use Rattle.tool_words.specs.Requests.{request, HasFewFilters};
 
+use gen_files::GEN_MAX;
 use tc_base::Hook;
 use tc_words::read_decimal;
 
@@ -54,9 +56,9 @@ fn hook_named(word: &str) -> Option<Hook>
 
 fn count_named(word: &str) -> Option<u32>
     ensures value { result ≡ count_of word.now }
-    ensures within { IfSome result (λ count. (1 ≤ count) × (count ≤ 4096)) }
+    ensures within { IfSome result (λ count. (1 ≤ count) × (count ≤ GEN_MAX)) }
 {
-    match read_decimal(word.as_bytes(), 4096) {
+    match read_decimal(word.as_bytes(), GEN_MAX) {
         None => None,
         Some(count) => { if count >= 1 { Some(count) } else { None } }
     }
@@ -99,7 +101,7 @@ fn with_one<'a>(verb: &str, name: &'a str) -> Option<Command<'a>>
 }
 
 fn gen_command<'a>(count: Option<u32>, front: &'a str) -> Option<Command<'a>>
-    requires { IfSome count (λ count. (1 ≤ count) × (count ≤ 4096)) }
+    requires { IfSome count (λ count. (1 ≤ count) × (count ≤ GEN_MAX)) }
     ensures value { option_map request result ≡ gen_request count front.now }
     ensures few { IfSome result HasFewFilters }
 {

@@ -1,6 +1,6 @@
 -- The walk of a packet: where it stands, what it asks there, and where it stands after the answer (after the
--- kernel's tcf_classify and tcf_action_exec, net/sched/cls_api.c and act_api.c; the limits and the order of
--- masks are this project's own).
+-- kernel's tcf_classify and tcf_action_exec, net/sched/cls_api.c and act_api.c; the limit of visits and the
+-- order of masks are this project's own).
 use Rattle.std.specs.Prelude.{ℕ, Bool, true, ◌+◌, ◌-◌, ◌==◌, ◌&&◌, nat_lt, List, [], ◌∷◌, ◌++◌, length}
 use Rattle.std.specs.Prelude.{get_or, Option, Some, None, if◌then◌else◌}
 use Rattle.tc_base.specs.declared.hook.Hook.{Hook}
