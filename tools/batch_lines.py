@@ -116,14 +116,19 @@ def line_from(number: int, raw: bytes) -> Line:
     return Line(number, text, words)
 
 
+def lines_in(data: bytes) -> Iterator[Line]:
+    """The lines of a batch that have words."""
+    lines = data.split(b"\n")
+    return (line for number, raw in enumerate(lines, 1) if (line := line_from(number, raw)).words)
+
+
 def lines_of(name: str) -> Iterator[Line]:
-    """The lines of a batch file that have words."""
+    """The lines of a file that have words."""
     try:
         with open(name, "rb") as file:
-            lines = file.read().split(b"\n")
+            return lines_in(file.read())
     except OSError as error:
         raise Fault(f"{shown(name)}: cannot read: {error.strerror}") from None
-    return (line for number, raw in enumerate(lines, 1) if (line := line_from(number, raw)).words)
 
 
 def words_of(texts: list[str], at: int) -> tuple[str, dict[str, int], int]:

@@ -4,18 +4,18 @@ The program judges: it is asked to `show` the batch, and its refusal is told as 
 with the line, carets under the bad word (under all words where the state refused it), and the cure from
 docs/FORMATS.md. Columns count characters from 1. Warnings have the names of the sections of docs/LINUX.md;
 they change no exit number, which is that of `show`. What isn't promised: that a batch without warnings does
-the same on Linux. A batch is read twice, so it has to be a file.
+the same on Linux.
 """
 import re
 import sys
 from collections.abc import Iterator
 
-from batch_lines import Line, lines_of, request_of, seen_text
+from batch_lines import Line, lines_in, request_of, seen_text
 from batch_state import State
 from clsact_texts import Object, reason_of
 from cures import cure_of_reason, cure_of_word
 from linux_warnings import Look, Seen, Warned, warned_before, warned_behind, warned_refused
-from program import Answer, ask, take_program
+from program import Answer, show, take_program
 from tool_ends import OneLineParser, end_with, shown
 
 
@@ -70,11 +70,11 @@ def warnings(lines: list[Line], said: Object) -> Iterator[tuple[Line, Warned]]:
         seen.take(look.request, change)
 
 
-def tell(name: str, answer: Answer, is_warned: bool) -> None:
+def tell(name: str, answer: Answer, data: bytes, is_warned: bool) -> None:
     """Tells all of a batch that the program took as one."""
     objects = list(answer.objects)
     said: Object = next((it for it in objects if it["type"] == "refused"), {})
-    lines = list(lines_of(name))
+    lines = list(lines_in(data))
     for line, warned in warnings(lines, said) if is_warned else []:
         print(warning(name, line, warned))
     if said:
@@ -94,11 +94,11 @@ def main(words: list[str]) -> int:
     parser.add_argument("--no-warnings", action="store_true", help="tell only what is refused")
     take_program(parser)
     given = parser.parse_args(words)
-    answer = ask(given.program, "show", given.BATCH)
+    answer, data = show(given.program, given.BATCH)
     if answer.number > 1:
         print(answer.told, end="", file=sys.stderr)
     else:
-        tell(given.BATCH, answer, not given.no_warnings)
+        tell(given.BATCH, answer, data, not given.no_warnings)
     return answer.number
 
 

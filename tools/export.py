@@ -12,7 +12,7 @@ from collections.abc import Iterator
 
 from batch_lines import Field, type_of
 from clsact_texts import Object, spell_object
-from program import ask, take_program
+from program import show, take_program
 from tc_rules import faults
 from tool_ends import OneLineParser, end_with, shown
 
@@ -117,7 +117,7 @@ def main(words: list[str]) -> int:
     parser.add_argument("BATCH", help="a file of tc lines")
     take_program(parser)
     given = parser.parse_args(words)
-    answer = ask(given.program, "show", given.BATCH)
+    answer, _ = show(given.program, given.BATCH)
     if answer.number > 1:
         print(answer.told, end="", file=sys.stderr)
         return answer.number
