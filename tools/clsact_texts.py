@@ -8,9 +8,9 @@ Forms are those of docs/FORMATS.md: `walk`, `show`, `gen`, the report of a run, 
 answers. What isn't promised: that a text which has these lines is one that the program would write.
 """
 import re
-from collections.abc import Callable, Iterator
+from collections.abc import Callable, Iterable, Iterator
 from dataclasses import dataclass
-from typing import Any, BinaryIO
+from typing import Any
 
 from tool_ends import Fault
 
@@ -237,9 +237,9 @@ def reason_of(said: Object) -> str:
     return (spell_object(said) or "").split(" ", 6)[-1]
 
 
-def lines_of(file: BinaryIO, name: str) -> Iterator[tuple[int, str]]:
-    """The lines of a file with their numbers, each of them whole and of ASCII."""
-    for number, line in enumerate(iter(lambda: file.readline(LONGEST), b""), 1):
+def lines_of(raw: Iterable[bytes], name: str) -> Iterator[tuple[int, str]]:
+    """The lines of a text with their numbers, each of them whole and of ASCII."""
+    for number, line in enumerate(raw, 1):
         if not line.endswith(b"\n"):
             raise Fault(f"{name}:{number}: the text is cut within this line")
         if not line.isascii():
@@ -251,10 +251,10 @@ def foreign(name: str, number: int) -> Fault:
     return Fault(f"{name}:{number}: no text of the program has such a line")
 
 
-def objects_of(file: BinaryIO, name: str) -> Iterator[tuple[int, Object]]:
-    """What a text says, with the numbers of its lines. The text is held to have its last line."""
+def objects_of(raw: Iterable[bytes], name: str) -> Iterator[tuple[int, Object]]:
+    """What the lines of a text say, with their numbers. The text is held to have its last line."""
     number, ended = 0, False
-    lines = lines_of(file, name)
+    lines = lines_of(raw, name)
     for number, line in lines:
         if ended:
             raise Fault(f"{name}:{number}: a line stands behind the text's end")

@@ -9,10 +9,11 @@ import io
 import os
 import signal
 import sys
-from collections.abc import Callable
+from collections.abc import Callable, Iterator
 from typing import NoReturn
 
 FAULT = 2
+STDIN = "standard input"
 
 
 class Fault(Exception):
@@ -26,6 +27,24 @@ class OneLineParser(argparse.ArgumentParser):
         usage = " ".join(self.format_usage().split())
         print(f"{usage} ({shown(message)})", file=sys.stderr)
         sys.exit(FAULT)
+
+
+def take_no_words(parser: OneLineParser, words: list[str], example: str) -> None:
+    """Reads the command line of a tool that has its text from standard input, and no words."""
+    parser.epilog = f"Example: {example}"
+    _, more = parser.parse_known_args(words)
+    if more:
+        parser.error(f"the text comes on standard input: {example}")
+
+
+def input_lines(longest: int = -1) -> Iterator[bytes]:
+    """The lines of standard input, a longer one in pieces."""
+    if sys.stdin is None:
+        raise Fault(f"{STDIN}: cannot read: it is closed, or a folder")
+    try:
+        yield from iter(lambda: sys.stdin.buffer.readline(longest), b"")
+    except OSError as error:
+        raise Fault(f"{STDIN}: cannot read: {error.strerror}") from None
 
 
 def shown(name: str) -> str:
