@@ -1,15 +1,16 @@
 """A job file with its batches, and a report of it, put side by side: which line each event is about.
 
-Both are held to their forms in docs/FORMATS.md and to one another as far as a reader of the report needs it:
-rounds, controls and lines are the job's, edits are counted from 1, and no point is past the edits of its
-round. Whether the report is lawful isn't looked at, and captures aren't read. Files have the names that the
-job gives them, from the folder in which the tool runs.
+Both are held to their forms in docs/FORMATS.md and to one another as far as their words show it: rounds,
+controls, workers, captures and lines are the job's, edits are counted from 1, no point is past the edits of
+its round, and what report_checks.py says. Whether the report is lawful isn't looked at, and captures aren't
+read. Files have the names that the job gives them, from the folder in which the tool runs.
 """
 import re
 from dataclasses import dataclass, field
 
-from batch_lines import lines_of
+from batch_lines import Line, lines_of
 from clsact_texts import Object, objects_of
+from report_checks import event_fault, packet_fault
 from tool_ends import Fault, shown
 
 COUNT = "([1-9][0-9]{0,9})"
@@ -35,17 +36,24 @@ class Round:
     point: int
     events: list[Event] = field(default_factory=list)
     packets: list[Object] = field(default_factory=list)
+    last: dict[int, int] = field(default_factory=dict)
 
 
-Batches = dict[int, str]
+@dataclass
+class JobRound:
+    """A round of a job: its batches by control, and whether it has a capture."""
+
+    batches: dict[int, str] = field(default_factory=dict)
+    has_capture: bool = False
 
 
 class Job:
     """The batches of each round, by control, and their lines."""
 
     def __init__(self, name: str) -> None:
-        self.name, self.rounds = shown(name), list[Batches]()
-        self.lines: dict[str, dict[int, str]] = {}
+        self.name, self.rounds = shown(name), list[JobRound]()
+        self.workers, self.controls = 0, 0
+        self.lines: dict[str, dict[int, Line]] = {}
         self.number, expected = 0, "head"
         for line in lines_of(name):
             self.number = line.number
@@ -57,31 +65,45 @@ class Job:
         """Takes a line where another was expected, and says what is expected behind it."""
         for sort, pattern, behind in JOB_LINES:
             found = re.fullmatch(pattern, line)
-            if found and sort == expected or found and expected == "body" and sort in BODY:
-                self.keep(sort, found)
+            is_due = sort == expected or expected == "body" and sort in BODY
+            if found and is_due and self.keeps(sort, found):
                 return behind
         raise Fault(f"{self.name}:{self.number}: no job goes on with this line")
 
-    def keep(self, sort: str, found: re.Match[str]) -> None:
+    def keeps(self, sort: str, found: re.Match[str]) -> bool:
+        """Keeps what a line says, where it may stand there: a round has its batches by rising control, then
+        one capture at most."""
         if sort == "round":
-            self.rounds.append({})
-        elif sort == "batch":
-            if not self.rounds:
-                raise Fault(f"{self.name}:{self.number}: a batch stands before the first round")
-            self.rounds[-1][int(found[1])] = found[2]
+            self.rounds.append(JobRound())
+        elif sort in ("workers", "controls"):
+            setattr(self, sort, int(found[1]))
+        elif sort in ("batch", "capture"):
+            return bool(self.rounds) and self.keeps_in(self.rounds[-1], sort, found)
+        return True
 
-    def text(self, batch: str, number: int) -> str | None:
-        """A line of a batch, without the spaces around it."""
+    def keeps_in(self, round: JobRound, sort: str, found: re.Match[str]) -> bool:
+        if round.has_capture:
+            return False
+        if sort == "capture":
+            round.has_capture = True
+            return True
+        if not max(round.batches, default=0) < int(found[1]) <= self.controls:
+            return False
+        round.batches[int(found[1])] = found[2]
+        return True
+
+    def line(self, batch: str, number: int) -> Line | None:
+        """A line of a batch."""
         if batch not in self.lines:
-            self.lines[batch] = {it.number: it.text.strip() for it in lines_of(batch)}
+            self.lines[batch] = {it.number: it for it in lines_of(batch)}
         return self.lines[batch].get(number)
 
 
 BODY = ("round", "batch", "capture", "end")
 JOB_LINES = (
     ("head", "clsact job 1", "workers"),
-    ("workers", "workers [1-8]", "controls"),
-    ("controls", "controls [1-4]", "body"),
+    ("workers", "workers ([1-8])", "controls"),
+    ("controls", "controls ([1-4])", "body"),
     ("round", "round", "body"),
     ("batch", f"batch ([1-4]) {NAME}( force)?", "body"),
     ("capture", f"capture (?:ingress|egress) {NAME} {NAME}", "body"),
@@ -96,6 +118,7 @@ class Report:
         self.name, self.job = shown(name), job
         self.rounds: list[Round] = []
         self.point, self.is_open, self.number = 0, False, 0
+        self.seen: dict[int, int] = {}
         self.summary: Object = {}
         for self.number, said in read(name):
             getattr(self, "take_" + said["type"].replace(" ", "_"), self.take_other)(said)
@@ -134,18 +157,32 @@ class Report:
 
     def take_event(self, said: Object) -> None:
         """An event of the round, with the line that it is about."""
-        batches = self.job.rounds[len(self.rounds) - 1] if self.is_open else {}
+        batches = self.job.rounds[len(self.rounds) - 1].batches if self.is_open else {}
         batch = batches.get(said["control"])
-        text = self.job.text(batch, said["line"]) if batch else None
-        if batch is None or text is None:
+        line = self.job.line(batch, said["line"]) if batch else None
+        if batch is None or line is None:
             raise self.fault(f"the job's round has no line {said['line']} for control {said['control']}")
-        self.rounds[-1].events.append(Event(self.point, said["type"] == "edit", said, batch, text))
+        if self.rounds[-1].packets:
+            raise self.fault("an event stands behind the packets of its round")
+        self.hold(event_fault(said, line, self.rounds[-1].last.get(said["control"], 0)))
+        self.rounds[-1].last[said["control"]] = line.number
+        is_edit, text = said["type"] == "edit", line.text.strip()
+        self.rounds[-1].events.append(Event(self.point, is_edit, said, batch, text))
+
+    def hold(self, fault: str) -> None:
+        if fault:
+            raise self.fault(fault)
 
     def take_packet(self, said: Object) -> None:
         if not self.is_open or "points" not in said or "worker" not in said:
             raise self.fault("this packet isn't one of a round, with its worker and its points")
         if max(said["points"]) > self.point:
             raise self.fault(f"point {max(said['points'])} is past the {self.point} edits of the round")
+        if not self.job.rounds[len(self.rounds) - 1].has_capture:
+            raise self.fault("the job's round has no capture")
+        floor = max(self.rounds[-1].before, self.seen.get(said["worker"], 0))
+        self.hold(packet_fault(said, len(self.rounds[-1].packets) + 1, self.job.workers, floor))
+        self.seen[said["worker"]] = max(said["points"])
         self.rounds[-1].packets.append(said)
 
     def take_summary(self, said: Object) -> None:

@@ -1,7 +1,7 @@
 """Writes a text of the program as JSON lines: an object an event, packet, counter, summary, action, filter.
 
 The text comes on standard input: that of `walk`, `show` or `gen`, the report of a run, or the answer to one.
-docs/FORMATS.md has a table of the objects; `./clsact text` makes the same text of them. The text is read whole
+docs/FORMATS.md has a table of the objects; `./clsact text` makes the same text of them. The text is read
 before the first object is written, so nothing is written of a damaged one; a long one takes memory to match.
 Not looked at: whether the numbers of different lines agree.
 """
