@@ -1,6 +1,7 @@
 # Completion of clsact and ./clsact for bash: `source completions/clsact.bash`, or put it as clsact into the
 # folder bash-completion/completions below ~/.local/share. It goes by position: commands and hooks by their
-# names, files by the ends of their names. A name with another end is written out, or completed with Alt-/.
+# names, files by the ends of their names, and any file behind `<` and `>`. A name with another end is written
+# out, or completed with Alt-/. A name with a `$` is the shell's own, which knows what stands behind it.
 
 # Adds the files whose names end so, and the folders: all files where no end is given, and none for a slash.
 _clsact_files() {
@@ -22,15 +23,43 @@ _clsact_words() {
     done < <(compgen -W "$*" -- "$word")
 }
 
+# Sets at and command: the place of the word without redirections, and the command before it. Fails where the word
+# is itself the name behind a redirection.
+_clsact_place() {
+    local number is_name=
+    at=0 command=
+    for ((number = 1; number <= COMP_CWORD; number++)); do
+        if [ "$is_name" ]; then
+            is_name=
+            [ "$number" = "$COMP_CWORD" ] && return 1
+        elif [[ ${COMP_WORDS[number]} =~ ^[\<\>\&\|]+$ ]]; then
+            is_name=yes
+        else
+            ((++at))
+            [ "$at" = 1 ] && command=${COMP_WORDS[number]}
+        fi
+    done
+    [ ! "$is_name" ]
+}
+
 _clsact() {
-    local word=${COMP_WORDS[COMP_CWORD]} command=${COMP_WORDS[1]-}
+    local word=${COMP_WORDS[COMP_CWORD]} command at
     local commands="walk show gen run recheck check json text export picture sum help"
     COMPREPLY=()
-    if [ "$COMP_CWORD" = 1 ]; then
+    if [[ $word == *\$* ]]; then
+        compopt -o default 2>/dev/null
+        return
+    fi
+    if ! _clsact_place; then
+        [[ $word =~ ^[\<\>\&\|]+$ ]] && word=
+        _clsact_files "$word"
+        return
+    fi
+    if [ "$at" = 1 ]; then
         _clsact_words "$word" "$commands"
         return
     fi
-    case $command:$COMP_CWORD in
+    case $command:$at in
         walk:2) _clsact_words "$word" ingress egress ;;
         walk:3 | show:2 | export:2) _clsact_files "$word" .tc ;;
         walk:4 | walk:5) _clsact_files "$word" .pcap ;;

@@ -15,6 +15,9 @@ from tool_ends import Fault
 FORMATS = CLSACT.removesuffix("clsact") + "docs/FORMATS.md"
 OPTIONS = ("protocol", "chain", "handle", *PREFS)
 NUMBERS = ("chain", "handle", "index", "jump", "id", "mark", "queue_mapping", "priority", *PREFS)
+KINDS = ("u32", "matchall", "basic", "bpf", "fw", "route", "flow", "cgroup", "rsvp", "tcindex")
+CONTROLS = ("ok", "pass", "drop", "shot", "continue", "pipe", "reclassify", "jump", "goto")
+FLAGS = ("skip_hw", "skip_sw", "verbose", "classid", "flowid", "indev", "hw_tc", "no_percpu", "estimator")
 NUMBER_FIELDS = ("vlan_id", "cvlan_id", "vlan_prio", "cvlan_prio", "src_port", "dst_port")
 OTHER_FIELDS = ("dst_mac", "src_mac", "ip_proto", "src_ip", "dst_ip", "tcp_flags", "ip_tos", "ip_ttl")
 FIELDS = NUMBER_FIELDS + OTHER_FIELDS
@@ -56,39 +59,90 @@ class Bad:
         """Whether the word before it is a name, so that it stands where a value is due."""
         return self.last in (*OPTIONS, *NUMBERS, *FIELDS, *TYPES) and self.before[0] != "qdisc"
 
-    def lacks(self) -> bool:
-        """Whether the action before the word lacks what it needs."""
-        is_tag = self.action[:1] == ["vlan"] and self.action[1:2] != ["pop"] and "id" not in self.action
-        return self.action[:1] == ["skbedit"] and len(self.action) == 1 or is_tag and len(self.action) > 1
+    def is_of(self, *names: str) -> bool:
+        """Whether the word stands where the value of one of these names is due."""
+        return self.is_value() and self.last in names
+
+    def is_of_action(self, kind: str, *names: str) -> bool:
+        """The same, where the names are those of an action of this kind."""
+        return self.action[:1] == [kind] and self.is_of(*names)
+
+    def lacks_id(self) -> bool:
+        """Whether a tag without its id stands before the word."""
+        is_tag = self.action[:1] == ["vlan"] and self.action[1:2] in (["push"], ["modify"])
+        return is_tag and "id" not in self.action and not self.is_value()
+
+    def is_option(self) -> bool:
+        """Whether the word stands among the options of a filter."""
+        return self.starts("filter") and self.at > 4 and "flower" not in self.before
+
+    def is_field(self) -> bool:
+        """Whether the word stands where a field or an action may."""
+        return self.starts("filter") and "flower" in self.before and "action" not in self.before
 
 
 ROWS: list[tuple[str, Callable[[Bad], bool]]] = [
-    ("one past the last", lambda it: not it.word),
+    ("none, or any, behind `skbedit` alone", lambda it: it.action == ["skbedit"]),
+    ("none, or any, in `vlan push` or `vlan modify` without `id`", lambda it: it.lacks_id()),
+    ("none, behind a name", lambda it: not it.word and (it.is_value() or it.last == "dev")),
+    ("none, behind `action` or `vlan`",
+     lambda it: not it.word and it.last in ("action", "vlan") and it.before[1] in ("add", "replace")),
+    ("none, in a del", lambda it: not it.word and it.starts("filter", "del") and it.at > 4),
+    ("none, in `actions change` or `actions del`",
+     lambda it: not it.word and it.starts("actions") and it.before[1:2] in (["change"], ["del"])),
+    ("none, where `flower` may stand", lambda it: not it.word and it.is_option()),
+    ("none, in another line", lambda it: not it.word),
     ("`tc`, the first word", lambda it: it.at == 0 and it.word == "tc"),
     ("the first word of the first line, with three odd bytes before it",
      lambda it: it.line == 1 and it.at == 0 and it.word.startswith("\ufeff")),
     ("`\\` at a line's end", lambda it: it.word == "\\" and it.at == len(it.texts) - 1),
+    ("another first word", lambda it: it.at == 0),
+    ("another second word, as `show` or `delete`", lambda it: it.at == 1),
     ("`parent`", lambda it: it.word == "parent"),
     ("`ingress`, `handle` of a `qdisc` line",
      lambda it: it.starts("qdisc") and it.word in ("ingress", "egress", "handle", "root")),
     ("`eth1`", lambda it: it.last == "dev" and it.at == 3),
     ("`protocol`, `pref` behind `eth0`",
      lambda it: it.starts("filter") and it.at == 4 and it.word in OPTIONS),
+    ("another word behind `eth0`", lambda it: it.starts("filter") and it.at == 4),
     ("`ingress` behind `protocol` or `pref`",
      lambda it: it.starts("filter") and it.word in ("ingress", "egress") and it.last != "dev"),
     ("`action`", lambda it: it.word == "action" and it.before.count("action") == 16),
+    ("`action` behind an action of an `actions` line",
+     lambda it: it.starts("actions") and it.word == "action" and bool(it.action)),
     ("`goto` behind `actions`", lambda it: it.starts("actions") and it.word == "goto"),
     ("`index` behind `actions add action gact`",
      lambda it: it.starts("actions", "add", "action") and it.action in ([], ["gact"]) and it.word == "index"),
-    ("`pipe` or `index` behind `skbedit`, `vlan push`, `vlan modify`",
-     lambda it: it.lacks() and not it.is_value()),
+    ("`mirred`, `police`, and other words behind `action`", lambda it: it.last == "action"),
     ("`flower` of a replace or a del",
      lambda it: it.starts("filter") and it.word == "flower" and it.before[1:2] != ["add"]),
     ("a name that stood before", lambda it: not it.is_value() and it.has_stood()),
+    ("a field behind an action",
+     lambda it: bool(it.action) and it.word in (*FIELDS, *TYPES[1:]) and not it.is_value()),
     ("`src_port`, `dst_port`, `tcp_flags`", lambda it: it.word in PORTS and not it.is_value()),
-    ("a protocol or EtherType", lambda it: it.is_value() and it.last in TYPES),
-    ("a number", lambda it: it.is_value() and it.last in NUMBERS + NUMBER_FIELDS),
-    ("a field's value", lambda it: it.is_value() and it.last in FIELDS),
+    ("a protocol or EtherType", lambda it: it.is_of(*TYPES)),
+    ("the `priority` of a tag", lambda it: it.is_of_action("vlan", "priority")),
+    ("the `priority` of skbedit", lambda it: it.is_of_action("skbedit", "priority")),
+    ("the number of pref", lambda it: it.is_of(*PREFS)),
+    ("the number of `handle` or `index`", lambda it: it.is_of("handle", "index")),
+    ("the number of `chain` or `jump`", lambda it: it.is_of("chain", "jump")),
+    ("the number of `id`", lambda it: it.is_of("id")),
+    ("the number of `mark`", lambda it: it.is_of("mark")),
+    ("the number of `queue_mapping`, `src_port`, `dst_port`",
+     lambda it: it.is_of("queue_mapping", "src_port", "dst_port")),
+    ("the number of `vlan_id`, `cvlan_id`", lambda it: it.is_of("vlan_id", "cvlan_id")),
+    ("the number of `vlan_prio`, `cvlan_prio`", lambda it: it.is_of("vlan_prio", "cvlan_prio")),
+    ("a MAC address", lambda it: it.is_of("dst_mac", "src_mac")),
+    ("an IP address", lambda it: it.is_of("src_ip", "dst_ip")),
+    ("the value of `ip_proto`", lambda it: it.is_of("ip_proto")),
+    ("the value of `tcp_flags`", lambda it: it.is_of("tcp_flags")),
+    ("the value of `ip_tos`", lambda it: it.is_of("ip_tos")),
+    ("the value of `ip_ttl`", lambda it: it.is_of("ip_ttl")),
+    ("`u32`, `matchall`, and other kinds of filter", lambda it: it.is_option() and it.word in KINDS),
+    ("another word before `flower`", lambda it: it.is_option()),
+    ("`skip_hw`, `skip_sw`, and other flags of tc's flower", lambda it: it.is_field() and it.word in FLAGS),
+    ("a control without `action`", lambda it: it.is_field() and it.word in CONTROLS),
+    ("another word among the fields", lambda it: it.is_field()),
     ("any other word", lambda it: True),
 ]
 
