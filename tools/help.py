@@ -30,15 +30,27 @@ def word_of(given: list[str]) -> str:
 def open_page(path: str) -> int:
     """Opens the page with man, or writes it where there is no man or where it won't."""
     reader = shutil.which("man")
-    if reader:
-        sys.stdout.flush()
-        shows = subprocess.Popen([reader, "-l", path], stderr=subprocess.DEVNULL)
-        signal.signal(signal.SIGINT, signal.SIG_IGN)
-        if shows.wait() == 0:
-            return 0
-        signal.signal(signal.SIGINT, signal.SIG_DFL)
-    sys.stdout.write(text_of(pieces_of(path)))
+    shown_by_man = reader and (opened(reader, path) if sys.stdout.isatty() else written(reader, path))
+    if not shown_by_man:
+        sys.stdout.write(text_of(pieces_of(path)))
     return 0
+
+
+def opened(reader: str, path: str) -> bool:
+    """Whether man showed the page on the terminal."""
+    shows = subprocess.Popen([reader, "-l", path], stderr=subprocess.DEVNULL)
+    signal.signal(signal.SIGINT, signal.SIG_IGN)
+    number = shows.wait()
+    signal.signal(signal.SIGINT, signal.SIG_DFL)
+    return number == 0
+
+
+def written(reader: str, path: str) -> bool:
+    """Whether man made a text of the page. It is written here, since man doesn't tell where that fails."""
+    ran = subprocess.run([reader, "-l", path], stdout=subprocess.PIPE, stderr=subprocess.DEVNULL, check=False)
+    if ran.returncode == 0:
+        sys.stdout.buffer.write(ran.stdout)
+    return ran.returncode == 0
 
 
 def main(given: list[str]) -> int:
