@@ -13,6 +13,7 @@ from tool_ends import Fault, shown
 TYPES = {"ip": 0x800, "ipv4": 0x800, "ipv6": 0x86DD, "arp": 0x806, "802.1q": 0x8100, "802.1ad": 0x88A8}
 PREFS = ("pref", "prio", "priority", "preference")
 VALUES = ("index", "id", "protocol", "priority", "mark", "queue_mapping")
+SETTINGS = ("id", "protocol", "priority", "mark", "queue_mapping", "jump", "goto")
 WIDTHS = {"tcp_flags": 12, "ip_tos": 8, "ip_ttl": 8}
 
 
@@ -51,6 +52,7 @@ class Action:
     words: dict[str, int]
     first: int
     behind: int
+    does: frozenset[tuple[str, str]]
 
 
 @dataclass(frozen=True)
@@ -156,7 +158,9 @@ def action_from(texts: list[str], first: int) -> Action:
     control, words, behind = words_of(texts, at)
     jump = number_of(texts[words[control]]) if control in ("jump", "goto") else 0
     index = number_of(texts[words["index"]]) if "index" in words else 0
-    return Action(kind, named, operation, control, jump, index, words, first, behind)
+    does = {("operation", operation), ("control", control)}
+    does |= {(name, texts[place].lower()) for name, place in words.items() if name in SETTINGS}
+    return Action(kind, named, operation, control, jump, index, words, first, behind, frozenset(does))
 
 
 def take_options(request: Request, texts: list[str], at: int) -> int:
