@@ -1,5 +1,5 @@
 -- Each line of a report ends with its one 0x0A.
-use Rattle.std.proofs.Common.{◌≡◌, ℕ, ◌+◌, ◌==◌, ◌&&◌, ◌/◌, ◌%◌, Bool, true, false, List, [], ◌∷◌, ◌++◌, length, map, refl, sym, subst, arith}
+use Rattle.std.proofs.Common.{◌≡◌, ℕ, ◌+◌, ◌==◌, ◌&&◌, ◌/◌, ◌%◌, Bool, true, false, List, [], ◌∷◌, ◌++◌, length, map, Option, Some, None, refl, sym, subst, arith}
 use Rattle.std.specs.Prelude.{codes, not, nat_lt, if◌then◌else◌}
 use Rattle.std.specs.List.{list_all, flat_map, join_with_byte}
 use Rattle.std.specs.Fmt.{decimal}
@@ -15,7 +15,8 @@ use Rattle.filter_state.specs.declared.refusal.Refusal.{Refusal}
 use Rattle.filter_state.specs.declared.refusal.Refusal.TheVariants as refusals
 use Rattle.walk_rules.specs.declared.verdict.Verdict.{Verdict}
 use Rattle.walk_rules.specs.declared.verdict.Verdict.TheVariants as verdicts
-use Rattle.line_texts.specs.Texts.{handle_text, hex_text, two_digits, ether_type_text, protocol_text, class_text}
+use Rattle.std.specs.Option.{unwrap_or}
+use Rattle.line_texts.specs.Texts.{handle_text, hex_text, two_digits, four_digits, marked, ether_type_text, protocol_text, class_text}
 use Rattle.tc_batch.specs.KindNames.{kind_text}
 use Rattle.tc_report.specs.Refusals.{refusal_words, syntax_words, place_words, refused_line}
 use Rattle.batch_walk.specs.declared.closing.Summary.{Summary}
@@ -96,11 +97,20 @@ if_inner false xs ys first second = second
 two_inner : (n : ℕ) → Inner (two_digits n)
 two_inner n = (char_by (nat_lt (n / 16) 10) (n / 16), (char_by (nat_lt (n % 16) 10) (n % 16), tt))
 
+named_inner : (b : Bool) (name : List ℕ) (rest : Option (List ℕ)) (other : List ℕ) → Inner name
+    → Inner (unwrap_or rest other) → Inner (unwrap_or (if b then Some name else rest) other)
+named_inner true name rest other first second = first
+named_inner false name rest other first second = second
+
 ether_inner : (n : ℕ) → Inner (ether_type_text n)
 unfolding ether_type_text
 ether_inner n =
-    if_inner (n == 0x0800) _ _ (tested (codes "ip") refl) (if_inner (n == 0x86DD) _ _ (tested (codes "ipv6") refl) (if_inner (n == 0x0806) _ _ (tested (codes "arp") refl)
-    (if_inner (n == 0x8100) _ _ (tested (codes "802.1Q") refl) (if_inner (n == 0x88A8) _ _ (tested (codes "802.1ad") refl)
+    let other = marked (four_digits n) in
+    named_inner (n == 0x0800) (codes "ip") _ other (tested (codes "ip") refl)
+    (named_inner (n == 0x86DD) (codes "ipv6") _ other (tested (codes "ipv6") refl)
+    (named_inner (n == 0x0806) (codes "arp") _ other (tested (codes "arp") refl)
+    (named_inner (n == 0x8100) (codes "802.1Q") _ other (tested (codes "802.1Q") refl)
+    (named_inner (n == 0x88A8) (codes "802.1ad") None other (tested (codes "802.1ad") refl)
     (refl, (refl, inner_append (two_digits (n / 256)) (two_digits (n % 256)) (two_inner (n / 256)) (two_inner (n % 256))))))))
 
 protocol_inner : (protocol : Proto) → Inner (protocol_text protocol)
