@@ -1,0 +1,3 @@
+pub mod MetRows
+pub mod Turns
+pub mod Chains
