@@ -1,3 +1,4 @@
 pub mod MetRows
+pub mod Looking
 pub mod Turns
-pub mod Chains
+pub mod Following

@@ -45,7 +45,7 @@ each_at P [] at = tt
 each_at P (x ∷ xs) at = (at 0 x refl, each_at P xs (λ place y there. at (suc place) y there))
 
 -- ---- one mask of a table
-pub mask_of : (kept : Kept) (t : PlainTable) → IsTableOf kept t → (place : ℕ) (m : PlainMask) → item_at t.masks place ≡ Some m → IsMaskOf kept m.serial m
+abbrev pub mask_of : (kept : Kept) (t : PlainTable) → IsTableOf kept t → (place : ℕ) (m : PlainMask) → item_at t.masks place ≡ Some m → IsMaskOf kept m.serial m
 mask_of kept t is place m there = record {
   kept = is.kept;
   hook = is.hook;
