@@ -1,5 +1,5 @@
 -- What follows the list of a filter, a table, and the tables of a chain.
-use Rattle.std.proofs.Common.{◌≡◌, ◌∙◌, ℕ, zero, suc, ◌+◌, ◌-◌, ◌<◌, true, false, Bool, cond, List, [], ◌∷◌, length, get_or, drop, Option, Some, None, refl, sym, ap, subst, arith}
+use Rattle.std.proofs.Common.{◌≡◌, ◌∙◌, ℕ, zero, suc, ◌+◌, ◌-◌, ◌<◌, true, false, cond, List, [], ◌∷◌, length, get_or, drop, refl, sym, ap, arith}
 use Rattle.std.specs.Prelude.{map}
 use Rattle.std.proofs.lemmas.List.{drop_more}
 use Rattle.act_list.specs.declared.limits.TheConstants.{JUMPS_MAX}
@@ -8,11 +8,15 @@ use Rattle.filter_state.specs.States.{State}
 use Rattle.filter_tables.specs.declared.filter_table.FilterTable.{FilterTable}
 use Rattle.filter_tables.specs.Seen.{plain_table}
 use Rattle.walk_rules.specs.declared.verdict.Verdict.TheVariants as verdicts
+use Rattle.walk_rules.specs.declared.limits.TheConstants.{VISITS_MAX, RESTARTS_MAX}
 use Rattle.walk_rules.specs.Questions.{Head}
+use Rattle.walk_rules.specs.Heads.{heads_on}
 use Rattle.walk_rules.specs.Walks.{Outcome}
 use Rattle.walk_rules.specs.Steps.{tries}
-use Rattle.walk_rules.specs.Plain.{Carried, ends_with, run_list, after_end, filter_outcome, decider, table_outcome, tables_outcome, chain_outcome}
+use Rattle.walk_rules.specs.Plain.{Carried, ends_with, run_list, after_end, filter_outcome, decider, table_outcome, tables_outcome, chain_outcome, plain_walk}
 use Rattle.head_laws.specs.Heads.{head_of}
+use Rattle.tc_base.specs.declared.hook.Hook.{Hook}
+use Rattle.plain_walk.specs.Courses.{begun}
 
 -- ---- a list that isn't empty
 pub some_filter : (s : State) (restart : ℕ → ℕ → Carried → Outcome) (next : ℕ → Carried → Outcome) (left : ℕ) (carried : Carried) (actions : List ℕ) → 0 < length actions →
@@ -60,3 +64,9 @@ one_restart s heads zero chain left carried some = absurd (some refl)
 one_restart s heads (suc restarts) chain left carried some =
     let same : restarts ≡ suc restarts - 1 = omega arith in
     ap (λ r. chain_outcome s heads r chain left carried) same
+
+pub plain_opened : (s : State) (hook : Hook) (bytes : List ℕ) (left : ℕ) (carried : Carried) → left ≡ VISITS_MAX - 1 → carried ≡ begun bytes →
+    plain_walk s hook bytes ≡ chain_outcome s (heads_on hook s) RESTARTS_MAX 0 left carried
+unfolding plain_walk
+plain_opened s hook bytes left carried is same =
+    ap (λ n. chain_outcome s (heads_on hook s) RESTARTS_MAX 0 n (begun bytes)) (sym is) ∙ ap (chain_outcome s (heads_on hook s) RESTARTS_MAX 0 left) (sym same)

@@ -1,7 +1,8 @@
 -- What a look-up finds in a table is what decides there in each state that the lists spell.
-use Rattle.std.proofs.Common.{◌≡◌, ◌∙◌, ℕ, zero, suc, ◌+◌, ◌-◌, ◌<◌, nat_lt, cond, true, false, List, [], ◌∷◌, length, Option, Some, None, option_map, refl, sym, ap, subst, arith}
-use Rattle.std.specs.Prelude.{map}
+use Rattle.std.proofs.Common.{◌≡◌, ◌∙◌, ℕ, suc, ◌+◌, ◌-◌, ◌<◌, nat_lt, cond, true, false, List, [], ◌∷◌, length, Option, Some, None, option_map, refl, sym, ap, subst, arith}
+use Rattle.std.specs.Prelude.{◌≤◌}
 use Rattle.std.proofs.lemmas.Bool.Decides.{nat_tests}
+use Rattle.std.proofs.lemmas.Option.{none-some}
 use Rattle.tc_base.specs.declared.hook.Hook.{Hook}
 use Rattle.flow_fields.specs.Values.{values_of}
 use Rattle.flow_dissect.specs.Fields.{frame_values}
@@ -16,6 +17,10 @@ use Rattle.filter_tables.specs.Rows.{row_of, tables_on}
 use Rattle.hook_lists.specs.declared.kept.Kept.{Kept}
 use Rattle.hook_lists.specs.States.{both_of, state_of}
 use Rattle.filter_lists.specs.Spells.{Spells}
+use Rattle.filter_state.proofs.Pairs.{each_weaker}
+use Rattle.filter_index.specs.Listed.{has_key}
+use Rattle.flow_mask.specs.Masks.{each_and}
+use Rattle.act_list.specs.declared.limits.TheConstants.{LIST_MAX}
 use Rattle.order_laws.proofs.Same.{order_same}
 use Rattle.order_laws.proofs.Soundness.{sound_same}
 use Rattle.row_lookup_laws.proofs.Heads.{first_and}
@@ -35,7 +40,8 @@ use Rattle.classify_walk.specs.Found.{IsMaskOf}
 use Rattle.classify_walk.proofs.EvenKeys.{all_even}
 use Rattle.classify_walk.proofs.MetFilters.{found_is_met}
 use Rattle.classify_walk.proofs.MetFilters as filters
-use Rattle.classify_walk.proofs.StandingFilters.{each_mapped, its_rows, are_tidy}
+use Rattle.classify_walk.specs.Answered.{StandsAction}
+use Rattle.classify_walk.proofs.StandingFilters.{each_mapped, found_holds, IsRowOf, its_rows, filters_are, are_tidy}
 use Rattle.plain_walk.specs.Lookups.{met_in, or_else, first_met, up_to, looked_at}
 use Rattle.plain_walk.specs.Places.{IsTableOf}
 
@@ -150,3 +156,26 @@ left_table s restart next left after carried looked actions is =
     let rest : left - looked ≡ after = omega arith in
     ap (λ b. cond b (ends_with verdicts.Drop carried) (decided_by s restart next (left - looked) carried actions)) test
     ∙ ap (λ n. decided_by s restart next n carried actions) rest
+
+-- ---- the filter that is found
+-- its actions stand in the lists, and are few
+abbrev pub FitsList : Kept → Filter → Type 0
+FitsList kept f = (length f.actions ≤ LIST_MAX) × Each (StandsAction kept) f.actions
+
+either_has : (P : Filter → Type 0) (found other : Option Filter) (f : Filter) → or_else found other ≡ Some f → (found ≡ Some f → P f) → (other ≡ Some f → P f) → P f
+either_has P (Some g) other f is here later = here is
+either_has P None other f is here later = later is
+
+met_has : (P : Filter → Type 0) (words : List ℕ) (masks : List PlainMask) (f : Filter) → Each (λ m. met_in words m ≡ Some f → P f) masks → first_met words masks ≡ Some f → P f
+met_has P words [] f all is = absurd (none-some f is)
+met_has P words (m ∷ masks) f all is = either_has P (met_in words m) (first_met words masks) f is all.0 (met_has P words masks f all.1)
+
+pub met_fits : (kept : Kept) (t : PlainTable) → IsTableOf kept t → (words : List ℕ) (f : Filter) → first_met words t.masks ≡ Some f → FitsList kept f
+met_fits kept t is words f found =
+    met_has (FitsList kept) words t.masks f
+    (each_at (λ m. met_in words m ≡ Some f → FitsList kept f) t.masks
+    (λ place m there met.
+    let mask = mask_of kept t is place m there in
+    found_holds (FitsList kept) (has_key (each_and words m.mask)) m.filters f met
+    (each_weaker (IsRowOf kept m.serial m mask) (FitsList kept) (λ g row. (row.most, row.live)) m.filters (filters_are kept m.serial m mask))))
+    found

@@ -16,7 +16,12 @@ use filter_lists::Lists;
 
 /// Runs a list of actions on the frame, each for one visit: how the list ends, or `None` where the visits
 /// were spent before.
-pub(crate) fn run_list(course: &mut Course, lists: &Lists, serials: &[u32], came: &[u8]) -> Option<Ending>
+pub(crate) fn run_list(
+    course: &mut Course,
+    lists: &Lists,
+    serials: &[u32],
+    came: &[u8],
+) -> Option<Ending>
     requires some { 0 < length serials.now }
     requires few { length serials.now ≤ LIST_MAX }
     requires stand { Each (StandsAction lists.now) serials.now }

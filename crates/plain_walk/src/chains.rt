@@ -1,17 +1,17 @@
 //! The way through the tables of a hook.
 ghost use Rattle.std.specs.Prelude.{◌≡◌, ◌≤◌, ℕ, List, ◌∷◌, length};
+ghost use Rattle.frame_edit.specs.declared.limits.TheConstants.{FRAME_MAX};
 ghost use Rattle.act_list.specs.declared.limits.TheConstants.{LIST_MAX};
 ghost use Rattle.filter_state.specs.States.{State};
 ghost use Rattle.filter_state.specs.Sound.{Each};
 ghost use Rattle.filter_tables.specs.Seen.{plain_table};
 ghost use Rattle.filter_lists.specs.Spells.{Spells};
-ghost use Rattle.walk_rules.specs.declared.limits.TheConstants.{RESTARTS_MAX};
 ghost use Rattle.walk_rules.specs.Questions.{Head};
 ghost use Rattle.walk_rules.specs.Walks.{Outcome};
 ghost use Rattle.walk_rules.specs.Heads.{heads_on};
 ghost use Rattle.walk_rules.specs.Steps.{tries};
 ghost use Rattle.walk_rules.specs.Plain.{Carried, ends_with, decider, filter_outcome, table_outcome};
-ghost use Rattle.walk_rules.specs.Plain.{tables_outcome, chain_outcome};
+ghost use Rattle.walk_rules.specs.Plain.{tables_outcome, plain_walk};
 ghost use Rattle.head_laws.specs.Heads.{head_of};
 ghost use Rattle.classify_walk.specs.Answered.{StandsAction};
 ghost use Rattle.plain_walk.specs.Courses.{frame_from, carried_from, IsCourse};
@@ -34,14 +34,13 @@ pub(crate) enum ChainEnd {
     Restart(u32),
 }
 
-/// Takes the frame through the tables of a hook, from chain 0 on.
+/// Takes a frame through the tables of a hook, from chain 0 on.
 pub(crate) fn walk(course: &mut Course, lists: &Lists, hook: Hook, came: &[u8]) -> Verdict
-    requires { IsCourse came.now course.old }
-    ensures plain { (s : State) → Spells lists.now s
-        → chain_outcome s (heads_on hook s) RESTARTS_MAX 0 course.old.left (carried_from came.now course.old)
-        ≡ ends_with result (carried_from came.now course.new) }
-    ensures course { IsCourse came.now course.new }
+    requires { length came.now ≤ FRAME_MAX }
+    ensures { (s : State) → Spells lists.now s
+        → ends_with result (carried_from came.now course.new) ≡ plain_walk s hook came.now }
 {
+    course.begin(came);
     let mut chain = 0;
     let mut restarts = RESTARTS_MAX;
     loop {
@@ -108,7 +107,12 @@ fn tries(table: &FilterTable, chain: u32, ether: u16) -> bool
 }
 
 // Takes the frame through a table that is tried.
-fn search_table(course: &mut Course, lists: &Lists, table: &FilterTable, came: &[u8]) -> Option<ChainEnd>
+fn search_table(
+    course: &mut Course,
+    lists: &Lists,
+    table: &FilterTable,
+    came: &[u8],
+) -> Option<ChainEnd>
     requires table { IsTableOf lists.now (plain_table table.now) }
     requires course { IsCourse came.now course.old }
     ensures plain { (s : State) → Spells lists.now s

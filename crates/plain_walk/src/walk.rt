@@ -55,7 +55,6 @@ impl PlainWalk {
         ensures { (s : State) → Spells lists.now s
             → walked_from bytes.now self.new ≡ plain_walk s hook bytes.now }
     {
-        self.course.begin(bytes);
         self.verdict = walk(&mut self.course, lists, hook, bytes);
     }
 

@@ -13,6 +13,6 @@ abbrev pub invariant-loop-table : goal.invariant-loop-table
 invariant-loop-table l = record {
   course : IsCourse l.came l.course;
   leads : (s : State) → Spells l.lists s → (restart : ℕ → ℕ → Carried → Outcome) →
-      tables_outcome s restart l.chain (heads_on l.hook s) l.fn.course.left (carried_from l.came l.fn.course)
+      tables_outcome s restart l.chain (heads_on l.fn.hook s) l.fn.course.left (carried_from l.came l.fn.course)
       ≡ tables_outcome s restart l.chain (heads_from l.table-index l.tables) l.course.left (carried_from l.came l.course);
 }
