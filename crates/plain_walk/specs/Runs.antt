@@ -11,7 +11,8 @@ use Rattle.plain_walk.specs.declared.course.Course.{Course}
 use Rattle.plain_walk.specs.Courses.{frame_from, carried_from}
 
 -- the state's action of that serial ran
-pub record HasRun (s : State) (serial : ℕ) (came : List ℕ) (old new : Course) (control : Control) : Type 0 where
+pub record HasRun (s : State) (serial : ℕ) (came : List ℕ) (old new : Course)
+    (control : Control) : Type 0 where
   pub action : Action
   pub live : first_where (has_serial serial) s.actions ≡ Some action
   pub gave : control ≡ control_given action.params (frame_from came old)

@@ -76,6 +76,19 @@ impl PlainWalk {
         }
     }
 
+    /// The frame's bytes as they are, of a frame that came with these.
+    pub fn bytes<'a>(&'a self, came: &'a [u8]) -> &'a [u8]
+        requires { length came.now ≤ FRAME_MAX }
+        ensures bytes { result.now ≡ (walked_from came.now self.now).frame.bytes }
+        ensures short { length result.now ≤ FRAME_MAX }
+    {
+        if self.course.is_edited {
+            self.course.frame.bytes()
+        } else {
+            came
+        }
+    }
+
     /// The metadata of the packet.
     pub fn meta(&self) -> Meta
         ensures { result ≡ self.now.meta }

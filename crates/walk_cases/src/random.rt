@@ -60,8 +60,7 @@ fn agrees(
     }
     let plain = &mut walks.plain;
     plain.run(lists, hook, bytes);
-    let after = plain.edited().unwrap_or(bytes);
-    Ok(is_twin(plain.verdict(), after, plain.meta(), plain.executed(), &met))
+    Ok(is_twin(plain.verdict(), plain.bytes(bytes), plain.meta(), plain.executed(), &met))
 }
 
 // Whether ten frames agree at a random hook each.

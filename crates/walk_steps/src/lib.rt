@@ -13,8 +13,8 @@
 //! points and as many executions. No other call takes memory. The frame is dissected when it is loaded, and
 //! again only after an action that may change its bytes.
 //!
-//! A walk that needs no visits, since its lists stay as they are, has the room for what ran from here, and the
-//! test of a table's protocol.
+//! A walk that needs no visits, since its lists stay as they are, has from here the room for what ran, and
+//! the test of a table's protocol.
 //!
 //! One thread walks with a `Walk` at a time. A walk remembers names that it was told, and `Visits` is asked
 //! only for those: which names are known is part of its contract, so that whoever answers may keep things in

@@ -100,6 +100,7 @@ impl ExecutionRoom {
     }
 
     /// Puts an execution behind the others.
+    #[inline]
     pub fn push(&mut self, serial: u32, frame_length: u32)
         requires room { length self.old < VISITS_MAX }
         requires short { frame_length ≤ FRAME_MAX }

@@ -13,6 +13,7 @@ use visit_room::{HeadRoom, Hit, TableHead};
 use walk_rules::Verdict;
 
 /// Whether a table of that protocol takes frames of that EtherType.
+#[inline]
 pub fn admits(protocol: Proto, ether: u16) -> bool
     ensures { result ≡ admits protocol ether }
 {
