@@ -55,12 +55,24 @@ fn agrees(
     let visiting = &mut walks.visiting;
     walk_still(visiting, lists, 0, hook, bytes);
     let frame = visiting.frame();
-    if !is_twin(visiting.verdict(), frame.bytes(), frame.meta(), visiting.executed(), &met) {
+    if !is_twin(
+        visiting.verdict(),
+        frame.bytes(),
+        frame.meta(),
+        visiting.executed(),
+        &met,
+    ) {
         return Ok(false);
     }
     let plain = &mut walks.plain;
     plain.run(lists, hook, bytes);
-    Ok(is_twin(plain.verdict(), plain.bytes(bytes), plain.meta(), plain.executed(), &met))
+    Ok(is_twin(
+        plain.verdict(),
+        plain.bytes(bytes),
+        plain.meta(),
+        plain.executed(),
+        &met,
+    ))
 }
 
 // Whether ten frames agree at a random hook each.
