@@ -1,8 +1,8 @@
 //! How the walk of a packet ended.
 
 use frame_edit::Meta;
+use plain_walk::PlainWalk;
 use walk_rules::Verdict;
-use walk_steps::Walk;
 
 /// How the walk of a packet ended.
 #[derive(Clone, Copy, Debug, PartialEq, Eq)]
@@ -15,18 +15,20 @@ pub struct PacketEnd {
 }
 
 impl PacketEnd {
-    ghost use Rattle.std.specs.Prelude.{◌≡◌, IfSome};
-    ghost use Rattle.walk_rules.specs.Walks.{outcome_of};
+    ghost use Rattle.frame_edit.specs.declared.limits.TheConstants.{FRAME_MAX};
+    ghost use Rattle.std.specs.Prelude.{◌≡◌, ◌≤◌, length};
+    ghost use Rattle.plain_walk.specs.Walked.{walked_from};
     ghost use Rattle.capture_walk.specs.Captures.{end_of};
 
-    /// How this walk ended.
-    pub(crate) fn of_walk(walk: &Walk) -> PacketEnd
-        ensures { IfSome (outcome_of walk.now.standing) (λ outcome. result ≡ end_of outcome) }
+    /// How this walk of a packet with these bytes ended.
+    pub(crate) fn of_walk(walk: &PlainWalk, came: &[u8]) -> PacketEnd
+        requires { length came.now ≤ FRAME_MAX }
+        ensures { result ≡ end_of (walked_from came.now walk.now) }
     {
         PacketEnd {
             verdict: walk.verdict(),
-            length: walk.frame().bytes().len() as u32,
-            meta: walk.frame().meta(),
+            length: walk.bytes(came).len() as u32,
+            meta: walk.meta(),
         }
     }
 }

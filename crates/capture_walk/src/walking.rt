@@ -1,24 +1,23 @@
 //! The walks of a capture.
 ghost use Rattle.frame_edit.specs.declared.limits.TheConstants.{FRAME_MAX};
-ghost use Rattle.std.specs.Prelude.{◌≡◌, ◌≤◌, ◌++◌, length, map, IfOk, IfSome, OnOk};
+ghost use Rattle.std.specs.Prelude.{◌≡◌, ◌≤◌, ◌++◌, length, map, IfOk, OnOk};
 ghost use Rattle.pcap_io.specs.Captures.{AreShort};
 ghost use Rattle.pcap_io.specs.Places.{packet_of};
 ghost use Rattle.filter_state.specs.States.{State};
 ghost use Rattle.filter_lists.specs.Spells.{Spells};
-ghost use Rattle.walk_rules.specs.Walks.{outcome_of};
+ghost use Rattle.plain_walk.specs.Walked.{walked_from};
 ghost use Rattle.capture_walk.specs.declared.limits.TheConstants.{PACKETS_MAX};
 ghost use Rattle.capture_walk.specs.Captures.{outcomes_of, end_of, passed, counts_of, executed_in};
 ghost use Rattle.capture_walk.specs.Captures.{passed_one, regrown};
 
 use crate::counts::{Count, add_executed, no_counts};
 use crate::ends::PacketEnd;
-use classify_walk::walk_still;
 use filter_lists::Lists;
 use pcap_io::{PacketView, Packets};
+use plain_walk::PlainWalk;
 use std::alloc::Global;
 use tc_base::{Hook, NoMemory};
 use walk_rules::Verdict;
-use walk_steps::Walk;
 
 /// What the walks of a capture leave.
 #[derive(Drop)]
@@ -33,11 +32,11 @@ pub struct WalkedCapture {
 
 impl WalkedCapture {
     ghost use Rattle.frame_edit.specs.declared.limits.TheConstants.{FRAME_MAX};
-    ghost use Rattle.std.specs.Prelude.{◌≡◌, ◌+◌, ◌≤◌, ℕ, [], length, IfOk, IfSome, OnOk};
+    ghost use Rattle.std.specs.Prelude.{◌≡◌, ◌+◌, ◌≤◌, ℕ, [], length, IfOk, OnOk};
     ghost use Rattle.pcap_io.specs.Captures.{AreShort};
     ghost use Rattle.pcap_io.specs.Places.{packet_of};
     ghost use Rattle.filter_state.specs.Sound.{Each};
-    ghost use Rattle.walk_rules.specs.Walks.{outcome_of};
+    ghost use Rattle.plain_walk.specs.Walked.{walked_from};
     ghost use Rattle.capture_walk.specs.Captures.{no_counts, AreFew};
     ghost use Rattle.capture_walk.specs.Room.{HasRoomForRun};
     ghost use Rattle.capture_walk.specs.Adding.{IsAdded};
@@ -56,16 +55,16 @@ impl WalkedCapture {
     }
 
     // Adds what the walk of this packet leaves.
-    fn add(&mut self, walk: &Walk, packet: PacketView<'_>) -> Result<(), NoMemory>
+    fn add(&mut self, walk: &PlainWalk, packet: PacketView<'_>) -> Result<(), NoMemory>
         requires room { Each HasRoomForRun self.old.counts.items }
         requires short { length packet.bytes.now ≤ FRAME_MAX }
-        ensures added { OnOk result
-            (IfSome (outcome_of walk.now.standing) (IsAdded (packet_of packet.entry) self.old self.new)) }
+        ensures added { OnOk result (IsAdded (packet_of packet.entry) self.old self.new
+            (walked_from (packet_of packet.entry).bytes walk.now)) }
         ensures short { OnOk result (AreShort self.old.passed → AreShort self.new.passed) }
         ensures few { OnOk result ((walks : ℕ) → AreFew walks self.old.counts.items
             → AreFew (walks + 1) self.new.counts.items) }
     {
-        self.ends.push(PacketEnd::of_walk(walk))?;
+        self.ends.push(PacketEnd::of_walk(walk, packet.bytes))?;
         add_executed(&mut self.counts, walk.executed());
         keep(&mut self.passed, walk, packet)
     }
@@ -90,27 +89,27 @@ pub fn walk_capture(
     ensures counts { IfOk result (λ w. (s : State) → Spells lists.now s
         → w.counts.items ≡ counts_of s.actions_made (executed_in (outcomes_of s hook packets.now))) }
 {
-    let mut walk = Walk::with_room(alloc)?;
+    let mut walk = PlainWalk::with_room(alloc)?;
     let mut walked = WalkedCapture::with_room(alloc, packets, lists.actions().made())?;
     for index in 0..packets.len() {
         let packet = packets.get(index);
-        walk_still(&mut walk, lists, 0, hook, packet.bytes);
+        walk.run(lists, hook, packet.bytes);
         walked.add(&walk, packet)?;
     }
     Ok(walked)
 }
 
 // Puts the packet behind those that passed, as its walk left it, unless it was dropped.
-fn keep(passed: &mut Packets, walk: &Walk, packet: PacketView<'_>) -> Result<(), NoMemory>
+fn keep(passed: &mut Packets, walk: &PlainWalk, packet: PacketView<'_>) -> Result<(), NoMemory>
     requires { length packet.bytes.now ≤ FRAME_MAX }
-    ensures kept { OnOk result (IfSome (outcome_of walk.now.standing)
-        (λ outcome. passed.new ≡ passed.old ++ passed_one (packet_of packet.entry) outcome)) }
+    ensures kept { OnOk result (passed.new ≡ passed.old
+        ++ passed_one (packet_of packet.entry) (walked_from (packet_of packet.entry).bytes walk.now)) }
     ensures short { OnOk result (AreShort passed.old → AreShort passed.new) }
 {
     if let Verdict::Drop = walk.verdict() {
         return Ok(());
     }
-    let bytes = walk.frame().bytes();
+    let bytes = walk.bytes(packet.bytes);
     passed.push(PacketView {
         seconds: packet.seconds,
         fraction: packet.fraction,

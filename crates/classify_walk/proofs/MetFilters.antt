@@ -70,7 +70,7 @@ first_step : (hook : Hook) (t : PlainTable) (m : PlainMask) (b : Bool) (f : Filt
 first_step hook t m true f o p e = refl
 first_step hook t m false f o p e = e
 
-first_met : (hook : Hook) (t : PlainTable) (m : PlainMask) (values : List ℕ) (filters : List Filter) →
+pub first_met : (hook : Hook) (t : PlainTable) (m : PlainMask) (values : List ℕ) (filters : List Filter) →
     first_where (meets values) (map (row_of hook t m) filters) ≡ option_map (row_of hook t m) (find (is_met values m) filters)
 first_met hook t m values [] = refl
 first_met hook t m values (f ∷ filters) =

@@ -36,7 +36,7 @@ first_step : (b : Bool) (e : Entry Params) (o : Option Action) (p : Option (Entr
 first_step true e o p same = refl
 first_step false e o p same = same
 
-first_action : (serial : ℕ) (es : List (Entry Params)) → first_where (has_serial serial) (actions_of es) ≡ option_map action_of (entry_of serial es)
+pub first_action : (serial : ℕ) (es : List (Entry Params)) → first_where (has_serial serial) (actions_of es) ≡ option_map action_of (entry_of serial es)
 first_action serial [] = refl
 first_action serial (e ∷ es) = first_step (entries.has_serial serial e) e (first_where (has_serial serial) (actions_of es)) (entry_of serial es) (first_action serial es)
 

@@ -48,10 +48,10 @@ actions_hold P None holds = tt
 actions_hold P (Some f) holds = holds f refl
 
 -- ---- the filters of the mask
-abbrev IsRowOf : (kept : Kept) (serial : ℕ) (m : PlainMask) → IsMaskOf kept serial m → Filter → Type 0
+abbrev pub IsRowOf : (kept : Kept) (serial : ℕ) (m : PlainMask) → IsMaskOf kept serial m → Filter → Type 0
 IsRowOf kept serial m is f = let stands = is.stands in IsRow (state_of kept) (row_of is.hook stands.table m f)
 
-its_rows : (kept : Kept) (serial : ℕ) (m : PlainMask) (is : IsMaskOf kept serial m) → let stands = is.stands in filter (of_mask serial) (all_rows (both_of kept)) ≡ rows_of_mask is.hook stands.table m
+pub its_rows : (kept : Kept) (serial : ℕ) (m : PlainMask) (is : IsMaskOf kept serial m) → let stands = is.stands in filter (of_mask serial) (all_rows (both_of kept)) ≡ rows_of_mask is.hook stands.table m
 its_rows kept serial m is =
     let stands = is.stands in
     let within = stands.within in
@@ -60,7 +60,7 @@ its_rows kept serial m is =
     ap (λ n. filter (of_mask n) (all_rows (both_of kept))) (sym within.named)
     ∙ mask_rows (both_of kept) is.hook stands.place within.place stands.table m kept_is.whole sound.together stands.there within.there
 
-filters_are : (kept : Kept) (serial : ℕ) (m : PlainMask) (is : IsMaskOf kept serial m) → Each (IsRowOf kept serial m is) m.filters
+pub filters_are : (kept : Kept) (serial : ℕ) (m : PlainMask) (is : IsMaskOf kept serial m) → Each (IsRowOf kept serial m is) m.filters
 filters_are kept serial m is =
     let stands = is.stands in
     let kept_is = is.kept in

@@ -6,27 +6,44 @@ use crate::twin::{self, Met};
 use batch_run::{line_past_limit, run_batch};
 use classify_walk::walk_still;
 use filter_lists::Lists;
+use frame_edit::Meta;
+use plain_walk::PlainWalk;
 use std::alloc::Global;
 use tc_base::{Hook, NoMemory};
 use tc_words::lines;
 use walk_rules::Verdict;
 use walk_steps::Walk;
 
-// Whether a walk that has ended met the same: verdict, bytes, metadata and executions.
-fn is_twin(walk: &Walk, met: &Met) -> bool {
-    let meta = walk.frame().meta();
-    matches!(walk.verdict(), Verdict::Drop) == met.dropped
-        && walk.frame().bytes() == met.frame.bytes.as_slice()
+// A walk by visits, and one without.
+#[derive(Drop)]
+struct Walks {
+    visiting: Walk,
+    plain: PlainWalk,
+}
+
+impl Walks {
+    fn with_room(alloc: Global) -> Result<Walks, NoMemory> {
+        Ok(Walks {
+            visiting: Walk::with_room(alloc)?,
+            plain: PlainWalk::with_room(alloc)?,
+        })
+    }
+}
+
+// Whether a walk that left this met the same.
+fn is_twin(verdict: Verdict, bytes: &[u8], meta: Meta, executed: &[(u32, u32)], met: &Met) -> bool {
+    matches!(verdict, Verdict::Drop) == met.dropped
+        && bytes == met.frame.bytes.as_slice()
         && meta.priority == met.frame.priority
         && meta.mark == met.frame.mark
         && meta.queue == met.frame.queue
-        && walk.executed() == met.executed.as_slice()
+        && executed == met.executed.as_slice()
 }
 
-// Whether the walk of a short frame is the twin's.
+// Whether both walks of a short frame are the twin's.
 fn agrees(
     alloc: Global,
-    walk: &mut Walk,
+    walks: &mut Walks,
     lists: &Lists,
     hook: Hook,
     bytes: &[u8],
@@ -34,15 +51,34 @@ fn agrees(
     if bytes.len() > 262_144 {
         return Ok(false);
     }
-    walk_still(walk, lists, 0, hook, bytes);
     let met = twin::walk(alloc, lists, hook, bytes)?;
-    Ok(is_twin(walk, &met))
+    let visiting = &mut walks.visiting;
+    walk_still(visiting, lists, 0, hook, bytes);
+    let frame = visiting.frame();
+    if !is_twin(
+        visiting.verdict(),
+        frame.bytes(),
+        frame.meta(),
+        visiting.executed(),
+        &met,
+    ) {
+        return Ok(false);
+    }
+    let plain = &mut walks.plain;
+    plain.run(lists, hook, bytes);
+    Ok(is_twin(
+        plain.verdict(),
+        plain.bytes(bytes),
+        plain.meta(),
+        plain.executed(),
+        &met,
+    ))
 }
 
 // Whether ten frames agree at a random hook each.
 fn ten_agree(
     alloc: Global,
-    walk: &mut Walk,
+    walks: &mut Walks,
     dice: &mut Dice,
     lists: &Lists,
 ) -> Result<bool, NoMemory> {
@@ -53,7 +89,7 @@ fn ten_agree(
         } else {
             Hook::Ingress
         };
-        if !agrees(alloc, walk, lists, hook, &bytes)? {
+        if !agrees(alloc, walks, lists, hook, &bytes)? {
             return Ok(false);
         }
     }
@@ -63,7 +99,7 @@ fn ten_agree(
 // Whether each line of a batch is accepted, and the walks over what it leaves agree.
 fn batch_agrees(
     alloc: Global,
-    walk: &mut Walk,
+    walks: &mut Walks,
     dice: &mut Dice,
     text: &[u8],
 ) -> Result<bool, NoMemory> {
@@ -72,16 +108,16 @@ fn batch_agrees(
         return Ok(false);
     }
     let run = run_batch(alloc, &texts)?;
-    Ok(run.stop.is_none() && ten_agree(alloc, walk, dice, &run.lists)?)
+    Ok(run.stop.is_none() && ten_agree(alloc, walks, dice, &run.lists)?)
 }
 
 #[test]
 fn random_walks_are_their_twins(rt: HostRuntime) -> Result<(), NoMemory> {
     let mut dice = Dice { seed: 2026 };
-    let mut walk = Walk::with_room(rt.alloc())?;
+    let mut walks = Walks::with_room(rt.alloc())?;
     for _ in 0..400_usize {
         let text = batch(rt.alloc(), &mut dice)?;
-        assert!(rt; batch_agrees(rt.alloc(), &mut walk, &mut dice, &text)?);
+        assert!(rt; batch_agrees(rt.alloc(), &mut walks, &mut dice, &text)?);
     }
     Ok(())
 }
@@ -90,10 +126,10 @@ fn random_walks_are_their_twins(rt: HostRuntime) -> Result<(), NoMemory> {
 #[test]
 fn long_walks_are_their_twins(rt: HostRuntime) -> Result<(), NoMemory> {
     let mut dice = Dice { seed: 1 };
-    let mut walk = Walk::with_room(rt.alloc())?;
+    let mut walks = Walks::with_room(rt.alloc())?;
     for tables in 225..229_usize {
         let text = long_batch(rt.alloc(), tables)?;
-        assert!(rt; batch_agrees(rt.alloc(), &mut walk, &mut dice, &text)?);
+        assert!(rt; batch_agrees(rt.alloc(), &mut walks, &mut dice, &text)?);
     }
     Ok(())
 }

@@ -13,6 +13,9 @@
 //! points and as many executions. No other call takes memory. The frame is dissected when it is loaded, and
 //! again only after an action that may change its bytes.
 //!
+//! A walk that needs no visits, since its lists stay as they are, has from here the room for what ran, and
+//! the test of a table's protocol.
+//!
 //! One thread walks with a `Walk` at a time. A walk remembers names that it was told, and `Visits` is asked
 //! only for those: which names are known is part of its contract, so that whoever answers may keep things in
 //! slots.
@@ -28,5 +31,7 @@ mod stops;
 mod visits;
 mod walk;
 
+pub use rooms::ExecutionRoom;
+pub use stops::admits;
 pub use visits::Visits;
 pub use walk::{Progress, Walk, run};

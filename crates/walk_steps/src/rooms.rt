@@ -61,7 +61,7 @@ impl PointRoom {
 
 /// The executions of a walk, in order: the serial of the action, and the frame's length before it.
 #[derive(Drop)]
-pub(crate) struct ExecutionRoom {
+pub struct ExecutionRoom {
     executed: Vec<(u32, u32)>,
 }
 
@@ -83,7 +83,8 @@ impl ExecutionRoom {
     ghost use Rattle.std.specs.Prelude.{◌≡◌, ◌<◌, ◌≤◌, ◌++◌, ◌∷◌, [], length, IfOk};
     ghost use Rattle.walk_steps.specs.Told.{IsShortRun};
 
-    pub(crate) fn with_room(alloc: Global) -> Result<ExecutionRoom, NoMemory>
+    /// Room for what 65,536 visits run. No other call takes memory.
+    pub fn with_room(alloc: Global) -> Result<ExecutionRoom, NoMemory>
         ensures { IfOk result (λ r. r ≡ []) }
     {
         Ok(ExecutionRoom {
@@ -91,13 +92,16 @@ impl ExecutionRoom {
         })
     }
 
-    pub(crate) fn clear(&mut self)
+    /// Forgets what ran.
+    pub fn clear(&mut self)
         ensures { self.new ≡ [] }
     {
         self.executed.clear();
     }
 
-    pub(crate) fn push(&mut self, serial: u32, frame_length: u32)
+    /// Puts an execution behind the others.
+    #[inline]
+    pub fn push(&mut self, serial: u32, frame_length: u32)
         requires room { length self.old < VISITS_MAX }
         requires short { frame_length ≤ FRAME_MAX }
         ensures { self.new ≡ self.old ++ ((serial, frame_length) ∷ []) }
@@ -108,7 +112,8 @@ impl ExecutionRoom {
         }
     }
 
-    pub(crate) fn executed(&self) -> &[(u32, u32)]
+    /// What ran, in order.
+    pub fn executed(&self) -> &[(u32, u32)]
         ensures same { result.now ≡ self.now }
         ensures short { IsShortRun result.now }
     {

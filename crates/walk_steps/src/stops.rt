@@ -12,7 +12,9 @@ use tc_base::Proto;
 use visit_room::{HeadRoom, Hit, TableHead};
 use walk_rules::Verdict;
 
-fn admits(protocol: Proto, ether: u16) -> bool
+/// Whether a table of that protocol takes frames of that EtherType.
+#[inline]
+pub fn admits(protocol: Proto, ether: u16) -> bool
     ensures { result ≡ admits protocol ether }
 {
     match protocol {

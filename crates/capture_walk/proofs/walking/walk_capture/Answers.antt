@@ -1,8 +1,7 @@
-use Rattle.std.proofs.Common.{◌∙◌, List, Option, sym, ap, subst, IfSome, arith}
+use Rattle.std.proofs.Common.{◌∙◌, List, sym, ap, subst, arith}
 use Rattle.pcap_io.specs.Captures.{AreShort}
 use Rattle.pcap_io.specs.Places.{packet_of}
 use Rattle.pcap_io.specs.declared.capture.Packet.{Packet}
-use Rattle.walk_rules.specs.Walks.{Outcome}
 use Rattle.capture_walk.specs.declared.counts.Count.{Count}
 use Rattle.capture_walk.specs.Captures.{no_counts, AreFew}
 use Rattle.capture_walk.specs.Adding.{IsAdded}
@@ -23,8 +22,8 @@ loop-index-init c = record {
   short = subst (λ (packets : List Packet). AreShort packets) (sym c.in_ok-walked.ensures.passed) (λ k d within. absurd (omega arith));
 }
 
-pub walk_still-requires : goal.walk_still-requires
-walk_still-requires c =
+pub run-requires : goal.run-requires
+run-requires c =
     short-at c.args.packets.now c.loop-index.index (packet_of c.get-packet.result) c.requires.short c.get-packet.ensures
 
 pub add-requires-clause-room : goal.add-requires-clause-room
@@ -40,8 +39,7 @@ loop-index-preserved c =
     record {
       walked = λ s spelled.
           walked-more s c.args.hook c.args.packets.now c.loop-index.index p c.loop-index.walked c.add.new.self c.get-packet.ensures
-          (subst (λ (outcome : Option Outcome). IfSome outcome (IsAdded p c.loop-index.walked c.add.new.self)) (c.walk_still.ensures.plain s spelled)
-          c.in_ok-add.ensures.added)
+          (subst (IsAdded p c.loop-index.walked c.add.new.self) (c.run.ensures s spelled) c.in_ok-add.ensures.added)
           (c.loop-index.invariant.walked s spelled);
       few = c.in_ok-add.ensures.few c.loop-index.index c.loop-index.invariant.few;
       short = c.in_ok-add.ensures.short c.loop-index.invariant.short;

@@ -1,0 +1,4 @@
+pub mod MetRows
+pub mod Looking
+pub mod Turns
+pub mod Following

@@ -1,0 +1,60 @@
+use Rattle.std.proofs.Common.{◌≡◌, ◌∙◌, ◌+◌, List, Some, sym, ap, subst, arith}
+use Rattle.std.specs.Prelude.{map}
+use Rattle.std.proofs.lemmas.List.{drop_all}
+use Rattle.filter_tables.specs.Plain.{PlainTable}
+use Rattle.filter_tables.specs.Places.{item_at}
+use Rattle.filter_tables.specs.Seen.{plain_table}
+use Rattle.walk_rules.specs.Plain.{tables_outcome}
+use Rattle.head_laws.specs.Heads.{head_of}
+use Rattle.head_laws.proofs.ListedHeads.{heads_listed}
+use Rattle.classify_walk.proofs.Searching.{item_lent}
+use Rattle.plain_walk.specs.Courses.{carried_from}
+use Rattle.plain_walk.proofs.Following.{heads_from, heads_more}
+use Rattle.plain_walk.proofs.chains.walk_chain.Goals as goal
+
+pub loop-table-init : goal.loop-table-init
+loop-table-init c = record {
+  course = c.requires;
+  leads = λ s spelled restart.
+      ap (λ heads. tables_outcome s restart c.args.chain heads c.args.course.now.left (carried_from c.args.came.now c.args.course.now))
+      (sym (heads_listed c.args.lists.now s c.args.hook c.tables-tables.ensures.kept spelled) ∙ ap (map head_of) (sym c.tables-tables.ensures.tables));
+}
+
+pub pass_table-requires-clause-table : goal.pass_table-requires-clause-table
+pass_table-requires-clause-table c = record {
+  kept = c.tables-tables.ensures.kept;
+  hook = c.args.hook;
+  place = c.loop-table.table-index;
+  there = subst (λ (ts : List PlainTable). item_at ts c.loop-table.table-index ≡ Some (plain_table c.table-item.result)) c.tables-tables.ensures.tables
+      (item_lent plain_table c.tables-tables.result.now c.loop-table.table-index c.table-item.result c.loop-table-test.true c.table-item.is);
+}
+
+pub returns-in-Some-clause-plain : goal.returns-in-Some-clause-plain
+returns-in-Some-clause-plain c = λ s spelled restart.
+    let tables = c.tables-tables.result.now in
+    let place = c.loop-table.table-index in
+    c.loop-table.invariant.leads s spelled restart
+    ∙ ap (λ heads. tables_outcome s restart c.args.chain heads c.loop-table.course.left (carried_from c.args.came.now c.loop-table.course))
+    (heads_more tables place c.table-item.result c.loop-table-test.true c.table-item.is)
+    ∙ c.in-Some.ensures.plain s spelled restart (heads_from (place + 1) tables)
+
+pub loop-table-preserved : goal.loop-table-preserved
+loop-table-preserved c =
+    let tables = c.tables-tables.result.now in
+    let place = c.loop-table.table-index in
+    record {
+      course = c.pass_table.ensures.course;
+      leads = λ s spelled restart.
+          c.loop-table.invariant.leads s spelled restart
+          ∙ ap (λ heads. tables_outcome s restart c.args.chain heads c.loop-table.course.left (carried_from c.args.came.now c.loop-table.course))
+          (heads_more tables place c.table-item.result c.loop-table-test.true c.table-item.is)
+          ∙ c.in_default.ensures.plain s spelled restart (heads_from (place + 1) tables);
+    }
+
+pub returns-clause-plain : goal.returns-clause-plain
+returns-clause-plain c = λ s spelled restart.
+    let tables = c.tables-tables.result.now in
+    let place = c.loop-table.table-index in
+    c.loop-table.invariant.leads s spelled restart
+    ∙ ap (λ ts. tables_outcome s restart c.args.chain (map head_of (map plain_table ts)) c.loop-table.course.left (carried_from c.args.came.now c.loop-table.course))
+    (drop_all place tables (omega (arith, c.loop-table-test.false)))
