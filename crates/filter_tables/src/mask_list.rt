@@ -37,12 +37,7 @@ impl Model for MaskList {
 
 impl MaskList {
     /// A mask with its first filter. `filters` is empty and has room. It takes no memory.
-    pub(crate) fn new(
-        serial: u32,
-        mask: Key<14>,
-        mut filters: Filters,
-        filter: Filter,
-    ) -> MaskList
+    pub(crate) fn new(serial: u32, mask: Key<14>, mut filters: Filters, filter: Filter) -> MaskList
         requires empty { filters.filters ≡ [] }
         requires place { 0 < filters.spare }
         ensures { plain_mask result ≡ new_mask serial mask.words filter }
