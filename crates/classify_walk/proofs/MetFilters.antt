@@ -88,7 +88,3 @@ met_actions hook t m values = ap actions_or_none (first_met hook t m values m.fi
 pub told_is : (found : Option Filter) (result : Bool) (into : List ActionName) → result ≡ is_some found → action_serials into ≡ actions_in found → filter_told result into ≡ actions_told found
 told_is None result into is serials = ap (λ b. filter_told b into) is
 told_is (Some f) result into is serials = ap (λ b. filter_told b into) is ∙ ap told_actions serials
-
-pub met_is : (words masked : List ℕ) (m : PlainMask) (found : Option Filter) → AreEven words m → AreTidy m → masked ≡ each_and words m.mask → find (has_key masked) m.filters ≡ found →
-    find (is_met (values_of words) m) m.filters ≡ found
-met_is words masked m found even tidy under is = sym (found_is_met words m even tidy) ∙ ap (λ key. find (has_key key) m.filters) (sym under) ∙ is

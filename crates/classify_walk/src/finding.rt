@@ -20,7 +20,6 @@ ghost use Rattle.classify_walk.specs.Found.{FewActions, AreTidy};
 
 use filter_lists::{FilterTable, Lists, MaskList};
 use flow_fields::Key;
-use flow_mask::masked;
 use tc_base::Hook;
 use visit_room::{ActionName, Hit, MaskName};
 
@@ -65,7 +64,7 @@ fn mask_at(lists: &Lists, mask: MaskName) -> Option<&MaskList>
     };
     let table = lists.tables(hook).get((mask.slot >> 5) as usize)?;
     let list = table.masks.as_slice().get((mask.slot >> 1 & 15) as usize)?;
-    if list.serial == mask.serial {
+    if list.serial() == mask.serial {
         Some(list)
     } else {
         None
@@ -91,15 +90,14 @@ fn mask_in(masks: &[MaskList], serial: u32) -> Option<&MaskList>
     ensures missing { IfNone result (list_any (is_mask serial) (map plain_mask masks.now) ≡ false) }
 {
     for list in masks {
-        if list.serial == serial {
+        if list.serial() == serial {
             return Some(list);
         }
     }
     None
 }
 
-// Whether the mask has a filter that a frame of that key meets, found by the key's words under the mask; its
-// actions are told.
+// Whether the mask has a filter that a frame of that key meets; its actions are told.
 fn find_actions(list: &MaskList, key: &Key<14>, into: &mut Hit) -> bool
     requires empty { into.old ≡ [] }
     requires few { FewActions (plain_mask list.now) }
@@ -111,7 +109,7 @@ fn find_actions(list: &MaskList, key: &Key<14>, into: &mut Hit) -> bool
         (find (is_met (values_of key.now.words) (plain_mask list.now)) list.now.filters.filters) }
 {
     let _words = words_of(key);
-    match list.filters.with_key(&masked(key, &list.mask)) {
+    match list.met(key) {
         None => false,
         Some(filter) => {
             tell_actions(filter.actions.as_slice(), into);

@@ -74,7 +74,7 @@ fn masks_are_told(masks: &[MaskList], names: &[MaskName]) -> bool
         return false;
     }
     for (place, mask) in masks.iter().enumerate() {
-        if names[place].serial != mask.serial {
+        if names[place].serial != mask.serial() {
             return false;
         }
     }
@@ -104,7 +104,7 @@ fn tell_masks(masks: &[MaskList], hook: Hook, table: usize, into: &mut HeadRoom)
 {
     for (place, mask) in masks.iter().enumerate() {
         into.push_mask(MaskName {
-            serial: mask.serial,
+            serial: mask.serial(),
             slot: slot_of(hook, table, place),
         });
     }

@@ -26,9 +26,12 @@
 //! spread evenly over the index, whose hash is the same in each run.
 #![tactic(auto)]
 
+mod digests;
 mod filter;
 mod filters;
 mod room;
+mod sieve;
 
 pub use filter::Filter;
 pub use filters::Filters;
+pub use sieve::Sieve;

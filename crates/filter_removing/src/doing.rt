@@ -106,6 +106,6 @@ fn let_all_go(kept: &mut Kept, masks: &[MaskList])
         (length (filters_in (map plain_mask masks.now))) kept.old kept.new }
 {
     for mask in masks {
-        let_mask_go(kept, mask.filters.slots());
+        let_mask_go(kept, mask.filters().slots());
     }
 }

@@ -172,7 +172,7 @@ fn stays(kept: &Kept, line: &FilterLine, old: &Old) -> bool
         → IsOld kept.now old.now table mask filter → result ≡ is_same line.now mask filter }
 {
     let own = mask_at(&table_at(kept, old.hook, old.table).masks, old.mask);
-    match own.filters.with_handle(old.handle) {
+    match own.filters().with_handle(old.handle) {
         Some(filter) => has_match(own, filter, line),
         None => false,
     }
@@ -181,7 +181,7 @@ fn stays(kept: &Kept, line: &FilterLine, old: &Old) -> bool
 fn has_match(own: &MaskList, filter: &Filter, line: &FilterLine) -> bool
     ensures { result ≡ is_same line.now (plain_mask own.now) filter.now }
 {
-    own.mask.words == line.mask.words && filter.key.words == line.key.words
+    own.mask().words == line.mask.words && filter.key.words == line.key.words
 }
 
 // Behind the filters of the mask at that place.
@@ -199,7 +199,7 @@ fn move_to(
     ensures change { IfOk result (λ change. HasChange kept.old kept.new line.now old.now actions change) }
 {
     reserve_filter(kept, old, to)?;
-    let serial = mask_at(&table_at(kept, old.hook, old.table).masks, to).serial;
+    let serial = mask_at(&table_at(kept, old.hook, old.table).masks, to).serial();
     Ok(Change::Moves {
         to,
         arrival: arrival_for(kept, line, old, serial, actions),

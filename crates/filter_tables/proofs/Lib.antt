@@ -8,3 +8,4 @@ pub mod Swept
 pub mod TableOrder
 pub mod TableFinds
 pub mod TableChanges
+pub mod Sieved

@@ -4,6 +4,7 @@ pub mod Changes
 pub mod Room
 pub mod Whole
 pub mod Rows
+pub mod SievedMask
 pub mod SeenMask
 pub mod Seen
 pub mod SeenRoom

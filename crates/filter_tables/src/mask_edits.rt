@@ -19,14 +19,14 @@ use tc_base::{NoMemory, Numbers};
 pub(crate) fn is_mask(list: &MaskList, mask: &Key<14>) -> bool
     ensures { result ≡ has_words mask.now.words (plain_mask list.now) }
 {
-    list.mask.words == mask.words
+    list.mask().words == mask.words
 }
 
 /// Whether a filter of the mask has that handle.
 pub(crate) fn holds(list: &MaskList, handle: u32) -> bool
     ensures { result ≡ has_handle_in handle (plain_mask list.now) }
 {
-    list.filters.with_handle(handle).is_some()
+    list.filters().with_handle(handle).is_some()
 }
 
 /// The place of the mask with those words.
@@ -49,14 +49,7 @@ pub(crate) fn reserve_at(lists: &mut Vec<MaskList>, at: usize) -> Result<(), NoM
     ensures masks { map plain_mask lists.new.items ≡ map plain_mask lists.old.items }
     ensures room { OnOk result (0 < spare_at (map filter_room lists.new.items) at) }
 {
-    reserve_one(&mut lists[at])
-}
-
-fn reserve_one(list: &mut MaskList) -> Result<(), NoMemory>
-    ensures mask { plain_mask list.new ≡ plain_mask list.old }
-    ensures room { OnOk result (0 < filter_room list.new) }
-{
-    list.filters.reserve()
+    lists[at].reserve()
 }
 
 /// Puts a filter behind those of the mask at that place.
@@ -71,16 +64,7 @@ pub(crate) fn put_at(lists: &mut Vec<MaskList>, at: usize, filter: Filter)
         ≡ change_at at (more_filter filter) (map plain_mask lists.old.items) }
     ensures len { length lists.new.items ≡ length lists.old.items }
 {
-    put_one(&mut lists[at], filter);
-}
-
-fn put_one(list: &mut MaskList, filter: Filter)
-    requires room { 0 < filter_room list.old }
-    requires handle { has_handle_in filter.handle (plain_mask list.old) ≡ false }
-    requires key { has_key_in filter.key.words (plain_mask list.old) ≡ false }
-    ensures mask { plain_mask list.new ≡ more_filter filter (plain_mask list.old) }
-{
-    list.filters.push(filter);
+    lists[at].put(filter);
 }
 
 /// Puts a mask with its first filter behind the others.
@@ -88,7 +72,7 @@ pub(crate) fn push_mask(
     lists: &mut Vec<MaskList>,
     serial: u32,
     mask: Key<14>,
-    mut filters: Filters,
+    filters: Filters,
     filter: Filter,
 )
     requires room { length lists.old.items < vec_capacity lists.old }
@@ -98,12 +82,7 @@ pub(crate) fn push_mask(
         ++ (new_mask serial mask.words filter ∷ []) }
     ensures len { length lists.new.items ≡ length lists.old.items + 1 }
 {
-    filters.push(filter);
-    lists.push_reserved(MaskList {
-        serial,
-        mask,
-        filters,
-    });
+    lists.push_reserved(MaskList::new(serial, mask, filters, filter));
 }
 
 /// Takes the filter with that handle out of the mask at that place, which stays even if it is left empty.
@@ -119,16 +98,7 @@ pub(crate) fn take_at(lists: &mut Vec<MaskList>, at: usize, handle: u32) -> Filt
     ensures len { length lists.new.items ≡ length lists.old.items }
     ensures capacity { vec_capacity lists.new ≡ vec_capacity lists.old }
 {
-    take_one(&mut lists[at], handle)
-}
-
-fn take_one(list: &mut MaskList, handle: u32) -> Filter
-    requires { has_handle_in handle (plain_mask list.old) ≡ true }
-    ensures taken { find (has_handle handle) (plain_mask list.old).filters ≡ Some result }
-    ensures mask { plain_mask list.new ≡ less_filter handle (plain_mask list.old) }
-    ensures spare { filter_room list.old ≤ filter_room list.new }
-{
-    list.filters.take(handle)
+    lists[at].take(handle)
 }
 
 /// Gives the filter with that handle, in the mask at that place, other actions.
@@ -139,16 +109,7 @@ pub(crate) fn act_at(lists: &mut Vec<MaskList>, at: usize, handle: u32, actions:
     ensures masks { map plain_mask lists.new.items
         ≡ change_at at (other_actions handle actions) (map plain_mask lists.old.items) }
 {
-    act_one(&mut lists[at], handle, actions)
-}
-
-fn act_one(list: &mut MaskList, handle: u32, actions: Numbers) -> Numbers
-    requires { has_handle_in handle (plain_mask list.old) ≡ true }
-    ensures old { option_map (λ f. f.actions) (find (has_handle handle) (plain_mask list.old).filters)
-        ≡ Some result }
-    ensures mask { plain_mask list.new ≡ other_actions handle actions (plain_mask list.old) }
-{
-    list.filters.set_actions(handle, actions)
+    lists[at].set_actions(handle, actions)
 }
 
 /// Takes the mask at that place out, if no filter is left in it.
@@ -156,7 +117,7 @@ pub(crate) fn sweep(lists: &mut Vec<MaskList>, at: usize)
     requires { at < length lists.old.items }
     ensures { map plain_mask lists.new.items ≡ swept at (map plain_mask lists.old.items) }
 {
-    if lists[at].filters.is_empty() {
+    if lists[at].filters().is_empty() {
         lists.remove(at);
     }
 }

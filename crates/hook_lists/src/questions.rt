@@ -118,7 +118,7 @@ pub fn check_match(
     let Some(at) = masks.find_mask(mask) else {
         return Ok(());
     };
-    match other_with_key(&mask_at(masks, at).filters, left, key) {
+    match other_with_key(mask_at(masks, at).filters(), left, key) {
         Some(handle) => Err(Refusal::Exists { handle }),
         None => Ok(()),
     }

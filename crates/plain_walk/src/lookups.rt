@@ -1,15 +1,11 @@
 //! The filter of a table that decides.
-ghost use Rattle.std.specs.Prelude.{◌≡◌, ◌≤◌, map, find, length};
-ghost use Rattle.std.specs.Option.{option_copied};
-ghost use Rattle.flow_mask.specs.Masks.{each_and};
-ghost use Rattle.filter_index.specs.Listed.{has_key};
+ghost use Rattle.std.specs.Prelude.{◌≡◌, ◌≤◌, map, length};
 ghost use Rattle.filter_tables.specs.SeenMask.{plain_mask};
 ghost use Rattle.plain_walk.specs.Lookups.{IsLookedUp};
 
 use filter_index::Filter;
 use filter_lists::MaskList;
 use flow_fields::Key;
-use flow_mask::masked;
 
 /// What the look-ups in a table's masks come to.
 #[derive(Clone, Copy)]
@@ -30,21 +26,13 @@ pub(crate) fn look_up<'a>(masks: &'a [MaskList], key: &Key<14>, left: &mut usize
         if place == *left {
             return LookUp::Spent;
         }
-        if let Some(filter) = met(list, key) {
+        if let Some(filter) = list.met(key) {
             *left -= place + 1;
             return LookUp::Met(filter);
         }
     }
     *left -= masks.len();
     LookUp::Missed
-}
-
-// The filter of the mask that a frame of that key meets.
-fn met<'a>(list: &'a MaskList, frame: &Key<14>) -> Option<&'a Filter>
-    ensures { option_copied result
-        ≡ find (has_key (each_and frame.now.words list.now.mask.words)) list.now.filters.filters }
-{
-    list.filters.with_key(&masked(frame, &list.mask))
 }
 
 /// The words of a key: fourteen, by its type.

@@ -84,7 +84,7 @@ fn push_words(
         Some(filter.handle),
     )?;
     push_word(line, "flower")?;
-    push_fields(line, &filter.key, &mask.mask)?;
+    push_fields(line, &filter.key, mask.mask())?;
     push_all_bound(line, actions, filter.actions.as_slice())?;
     Ok(())
 }
@@ -143,7 +143,7 @@ fn push_slots(
         (rows_of_mask hook (plain_table table.now) (plain_mask mask.now))) }
     ensures line { OnOk result (sheet.new.line.items ≡ []) }
 {
-    let slots = mask.filters.slots();
+    let slots = mask.filters().slots();
     for slot in slots {
         push_slot(sheet, actions, hook, table, mask, slot)?;
     }

@@ -119,7 +119,7 @@ fn walk_table(met: &mut Met, lists: &Lists, masks: &[MaskList]) -> Result<Then, 
         return Ok(Then::Drop);
     }
     for mask in masks {
-        if mask.serial == oldest {
+        if mask.serial() == oldest {
             if let Some(filter) = filter_for(mask, &key) {
                 return run_list(met, lists, filter.actions.as_slice());
             }
@@ -132,8 +132,8 @@ fn walk_table(met: &mut Met, lists: &Lists, masks: &[MaskList]) -> Result<Then, 
 fn oldest_with(masks: &[MaskList], key: &Key<14>) -> u32 {
     let mut oldest = u32::MAX;
     for mask in masks {
-        if mask.serial < oldest && filter_for(mask, key).is_some() {
-            oldest = mask.serial;
+        if mask.serial() < oldest && filter_for(mask, key).is_some() {
+            oldest = mask.serial();
         }
     }
     oldest
@@ -142,7 +142,7 @@ fn oldest_with(masks: &[MaskList], key: &Key<14>) -> u32 {
 // A visit for each mask up to that serial, if so many are left.
 fn look_at(met: &mut Met, masks: &[MaskList], oldest: u32) -> bool {
     for mask in masks {
-        if mask.serial <= oldest {
+        if mask.serial() <= oldest {
             if met.left == 0 {
                 return false;
             }
@@ -153,9 +153,9 @@ fn look_at(met: &mut Met, masks: &[MaskList], oldest: u32) -> bool {
 }
 
 fn filter_for<'a>(mask: &'a MaskList, key: &Key<14>) -> Option<&'a Filter> {
-    for slot in mask.filters.slots() {
+    for slot in mask.filters().slots() {
         if let Some(filter) = slot {
-            if has_fields(key, &mask.mask, &filter.key) {
+            if has_fields(key, mask.mask(), &filter.key) {
                 return Some(filter);
             }
         }

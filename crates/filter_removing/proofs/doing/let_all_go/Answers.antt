@@ -1,5 +1,5 @@
-use Rattle.std.proofs.Common.{drop, map, ◌+◌}
-use Rattle.filter_index.specs.Listed.{those_there}
+use Rattle.std.proofs.Common.{drop, map, ◌+◌, ◌∙◌, ap}
+use Rattle.filter_index.specs.Listed.{FilterRoom, those_there}
 use Rattle.filter_tables.specs.SeenMask.{plain_mask}
 use Rattle.filter_removing.specs.Leaving.{filters_in}
 use Rattle.filter_removing.proofs.Going.{going_last, going_on, going_bound}
@@ -12,7 +12,7 @@ let_mask_go-requires-clause-bound c =
     let i = c.loop-mask.mask-index in
     let own = those_there c.slots.result.now in
     going_bound (filters_in (map plain_mask masks)) (filters_in (map plain_mask (drop i masks))) own (filters_in (map plain_mask (drop (i + 1) masks))) c.args.kept.now c.loop-mask.kept
-    (mask_there masks i c.mask-item.result own c.loop-mask-test.true c.mask-item.is c.slots.ensures.filters) c.loop-mask.invariant
+    (mask_there masks i c.mask-item.result own c.loop-mask-test.true c.mask-item.is (c.slots.ensures.filters ∙ ap (λ (room : FilterRoom). room.filters) c.filters.ensures)) c.loop-mask.invariant
 
 pub loop-mask-preserved : goal.loop-mask-preserved
 loop-mask-preserved c =
@@ -20,7 +20,7 @@ loop-mask-preserved c =
     let i = c.loop-mask.mask-index in
     let own = those_there c.slots.result.now in
     going_on (filters_in (map plain_mask masks)) (filters_in (map plain_mask (drop i masks))) own (filters_in (map plain_mask (drop (i + 1) masks))) c.args.kept.now c.loop-mask.kept
-    c.let_mask_go.new.kept (mask_there masks i c.mask-item.result own c.loop-mask-test.true c.mask-item.is c.slots.ensures.filters) c.loop-mask.invariant c.let_mask_go.ensures
+    c.let_mask_go.new.kept (mask_there masks i c.mask-item.result own c.loop-mask-test.true c.mask-item.is (c.slots.ensures.filters ∙ ap (λ (room : FilterRoom). room.filters) c.filters.ensures)) c.loop-mask.invariant c.let_mask_go.ensures
 
 pub returns : goal.returns
 returns c =

@@ -9,17 +9,17 @@ index_mut-requires c =
     let within = place_within plain_mask (has_handle_in c.args.handle) c.args.lists.now.items c.args.at c.requires in
     omega (arith, within, c.args.lists.now.ok.0)
 
-pub act_one-requires : goal.act_one-requires
-act_one-requires c = place_passes plain_mask (has_handle_in c.args.handle) c.args.lists.now.items c.args.at c.index_mut.result.now c.requires c.index_mut.ensures.value
+pub set_actions-requires : goal.set_actions-requires
+set_actions-requires c = place_passes plain_mask (has_handle_in c.args.handle) c.args.lists.now.items c.args.at c.index_mut.result.now c.requires c.index_mut.ensures.value
 
 pub returns-clause-old : goal.returns-clause-old
 returns-clause-old c = λ m e.
     let within = place_within plain_mask (has_handle_in c.args.handle) c.args.lists.now.items c.args.at c.requires in
     let here = item_read plain_mask c.args.lists.now.items c.args.at c.index_mut.result.now within c.index_mut.ensures.value in
     let same : m ≡ plain_mask c.index_mut.result.now = cc in
-    rw same c.act_one.ensures.old
+    rw same c.set_actions.ensures.old
 
 pub returns-clause-masks : goal.returns-clause-masks
 returns-clause-masks c =
     let within = place_within plain_mask (has_handle_in c.args.handle) c.args.lists.now.items c.args.at c.requires in
-    map_changed plain_mask (other_actions c.args.handle c.args.actions) c.args.lists.now.items c.args.at c.index_mut.result.now c.act_one.new.list within c.index_mut.ensures.value c.act_one.ensures.mask
+    map_changed plain_mask (other_actions c.args.handle c.args.actions) c.args.lists.now.items c.args.at c.index_mut.result.now c.set_actions.new.self within c.index_mut.ensures.value c.set_actions.ensures.mask

@@ -1,9 +1,16 @@
-use Rattle.std.proofs.Common.{sym, ◌∙◌, ap}
+use Rattle.std.proofs.Common.{ℕ, List, Option, sym, ◌∙◌, ap}
+use Rattle.std.specs.Prelude.{find}
+use Rattle.filter_index.specs.Listed.{FilterRoom, has_key}
 use Rattle.filter_tables.specs.Seen.{plain_table}
 use Rattle.filter_tables.specs.SeenMask.{plain_mask}
+use Rattle.row_lookup_laws.specs.Asked.{unless_left_out}
 use Rattle.hook_lists.proofs.Asked.{IsAt, existing, exists_found, exists_unmasked, exists_nowhere}
 use Rattle.hook_lists.proofs.Sought.{place_within}
 use Rattle.hook_lists.proofs.questions.check_match.Goals as goal
+
+-- the filter of a key, unless it is the one to be left out
+abbrev other_in : Option ℕ → List ℕ → FilterRoom → Option ℕ
+other_in left key room = unless_left_out left (find (has_key key) room.filters)
 
 pub returns-in_default : goal.returns-in_default
 returns-in_default c =
@@ -29,7 +36,7 @@ returns-in-Some-other_with_key c =
     let at : IsAt c.args.kept.now c.args.hook c.args.chain c.args.pref c.in-Some.place t = record { found = sym c.requires.place ∙ c.in-Some.is; there = c.table_at.ensures } in
     sym (exists_found c.args.kept.now c.args.hook c.args.chain c.args.pref c.in-Some.place c.in-Some-find_mask.at c.args.left c.args.mask.now.words c.args.key.now.words t m c.requires.kept at
     (sym c.find_mask.ensures ∙ c.in-Some-find_mask.is) c.mask_at.ensures
-    ∙ ap existing (sym c.other_with_key.ensures ∙ c.in-Some-other_with_key.is))
+    ∙ ap existing (ap (other_in c.args.left c.args.key.now.words) (sym c.filters.ensures) ∙ sym c.other_with_key.ensures ∙ c.in-Some-other_with_key.is))
 
 pub returns-in-None : goal.returns-in-None
 returns-in-None c =
@@ -38,4 +45,4 @@ returns-in-None c =
     let at : IsAt c.args.kept.now c.args.hook c.args.chain c.args.pref c.in-Some.place t = record { found = sym c.requires.place ∙ c.in-Some.is; there = c.table_at.ensures } in
     sym (exists_found c.args.kept.now c.args.hook c.args.chain c.args.pref c.in-Some.place c.in-Some-find_mask.at c.args.left c.args.mask.now.words c.args.key.now.words t m c.requires.kept at
     (sym c.find_mask.ensures ∙ c.in-Some-find_mask.is) c.mask_at.ensures
-    ∙ ap existing (sym c.other_with_key.ensures ∙ c.in-None.is))
+    ∙ ap existing (ap (other_in c.args.left c.args.key.now.words) (sym c.filters.ensures) ∙ sym c.other_with_key.ensures ∙ c.in-None.is))

@@ -1,4 +1,5 @@
 use Rattle.std.proofs.Common.{◌∙◌, ap, ◌++◌, sym, arith}
+use Rattle.filter_index.specs.Listed.{FilterRoom}
 use Rattle.filter_tables.specs.Rows.{row_of}
 use Rattle.filter_tables.specs.Seen.{plain_table}
 use Rattle.filter_tables.specs.SeenMask.{plain_mask}
@@ -13,7 +14,7 @@ returns-clause-text c =
     c.loop-slot.invariant.1
     ∙ ap (λ t. c.args.sheet.now.text.items ++ t)
     (rows_shown (filter_shown (naming c.args.actions.now.entries)) (row_of c.args.hook (plain_table c.args.table.now) (plain_mask c.args.mask.now)) c.slots-slots.result.now c.loop-slot.slot-index _
-    (omega (arith, c.loop-slot-test.false)) c.slots-slots.ensures.filters)
+    (omega (arith, c.loop-slot-test.false)) (c.slots-slots.ensures.filters ∙ ap (λ (room : FilterRoom). room.filters) c.filters.ensures))
 
 pub loop-slot-preserved : goal.loop-slot-preserved
 loop-slot-preserved c = (
