@@ -1,12 +1,14 @@
 -- What is written for a header and for a packet stands there.
-use Rattle.std.proofs.Common.{◌≡◌, ℕ, ◌+◌, ◌^◌, ◌<◌, ◌≤◌, Bool, true, false, List, ◌++◌, length, take, drop, get_or, [], ◌∷◌, refl, sym, ap, ◌∙◌, append_assoc, arith}
+use Rattle.std.proofs.Common.{◌≡◌, ℕ, ◌+◌, ◌^◌, ◌<◌, Bool, true, false, List, ◌++◌, length, take, drop, get_or, [], ◌∷◌, refl, sym, ap, ◌∙◌, append_assoc, arith}
 use Rattle.std.specs.List.{flat_map}
 use Rattle.std.proofs.lemmas.List.{length-append, drop-drop, drop_at, take_all, take_more, flat_map_more}
 use Rattle.byteorder.specs.Numbers.{big_number-reads_back, little_number-reads_back}
 use Rattle.pcap_io.specs.declared.capture.Packet.{Packet}
 use Rattle.pcap_io.specs.Layout.{number_in, bytes_in, kind_of}
-use Rattle.pcap_io.specs.Captures.{IsHeader, IsPacketAt}
+use Rattle.pcap_io.specs.Captures.{IsHeader}
+use Rattle.pcap_io.specs.Places.{length_at, packet_in, IsWithin}
 use Rattle.pcap_io.specs.Written.{header_bytes, record_bytes, packet_bytes}
+use Rattle.pcap_io.proofs.Places.{same_made}
 
 pub header_stands : (big nanos : Bool) → IsHeader (header_bytes big nanos) big nanos
 unfolding kind_of
@@ -50,10 +52,10 @@ behind_four false a b c d rest = refl
 drop-append-add : (n : ℕ) (old more : List ℕ) → drop (length old + n) (old ++ more) ≡ drop n more
 drop-append-add n old more = sym (drop-drop n (length old) (old ++ more)) ∙ ap (drop n) (drop_at old more (length old) refl)
 
--- a packet that is written behind other bytes stands there
-pub packet_stands : (big : Bool) (old : List ℕ) (p : Packet) → length p.bytes ≤ 262144 → p.seconds < 2 ^ 32 → p.fraction < 2 ^ 32 → p.original < 2 ^ 32
-    → IsPacketAt big (old ++ packet_bytes big p) (length old) p
-packet_stands big old p short seconds fraction original =
+-- what is read of a packet that is written behind other bytes
+pub packet_in-end : (big : Bool) (old : List ℕ) (p : Packet) → length p.bytes < 2 ^ 32 → p.seconds < 2 ^ 32 → p.fraction < 2 ^ 32 → p.original < 2 ^ 32
+    → IsWithin big (old ++ packet_bytes big p) (length old) × (packet_in big (old ++ packet_bytes big p) (length old) ≡ p)
+packet_in-end big old p short seconds fraction original =
     let len = length-packet_bytes big p in
     let all = length-append old (packet_bytes big p) in
     let o = bytes_in big 4 p.original ++ p.bytes in
@@ -62,15 +64,16 @@ packet_stands big old p short seconds fraction original =
     let written = packet_bytes big p in
     let from : (n : ℕ) → drop (length old + n) (old ++ written) ≡ drop n written = λ n. drop-append-add n old written in
     let number : List ℕ → ℕ = number_in big 4 in
-    record {
-      whole = omega arith;
-      within = short;
-      seconds = sym (ap number (drop_at old written (length old) refl) ∙ number_in-bytes_in big p.seconds f seconds);
-      fraction = sym (ap number (from 4 ∙ behind_one big p.seconds f) ∙ number_in-bytes_in big p.fraction c fraction);
-      captured = sym (ap number (from 8 ∙ behind_two big p.seconds p.fraction c) ∙ number_in-bytes_in big (length p.bytes) o (omega arith));
-      original = sym (ap number (from 12 ∙ behind_three big p.seconds p.fraction (length p.bytes) o) ∙ number_in-bytes_in big p.original p.bytes original);
-      content = sym (ap (take (length p.bytes)) (from 16 ∙ behind_four big p.seconds p.fraction (length p.bytes) p.original p.bytes) ∙ take_all (length p.bytes) p.bytes (omega arith));
-    }
+    let captured : length_at big (old ++ written) (length old) ≡ length p.bytes = ap number (from 8 ∙ behind_two big p.seconds p.fraction c) ∙ number_in-bytes_in big (length p.bytes) o (omega arith) in
+    let bytes = ap (λ (n : ℕ). take n (drop (length old + 16) (old ++ written))) captured
+    ∙ ap (take (length p.bytes)) (from 16 ∙ behind_four big p.seconds p.fraction (length p.bytes) p.original p.bytes) ∙ take_all (length p.bytes) p.bytes (omega arith) in (
+      omega arith,
+      same_made _ _ _ _ _ _ _ _
+          (ap number (drop_at old written (length old) refl) ∙ number_in-bytes_in big p.seconds f seconds)
+          (ap number (from 4 ∙ behind_one big p.seconds f) ∙ number_in-bytes_in big p.fraction c fraction)
+          (ap number (from 12 ∙ behind_three big p.seconds p.fraction (length p.bytes) o) ∙ number_in-bytes_in big p.original p.bytes original)
+          bytes,
+    )
 
 -- four numbers and then the bytes are a packet's bytes
 pub packet_bytes-from_record : (big : Bool) (old : List ℕ) (p : Packet) → (old ++ record_bytes big p) ++ p.bytes ≡ old ++ packet_bytes big p

@@ -1,6 +1,7 @@
 ghost use Rattle.std.specs.Prelude.{◌≡◌};
 ghost use Rattle.pcap_io.specs.declared.fault.CaptureFault.TheVariants as faults;
 
+use std::alloc::{AllocError, AllocFailed};
 use tc_base::NoMemory;
 
 /// Why bytes are no capture: their first fault, or want of memory.
@@ -26,6 +27,22 @@ impl From<NoMemory> for CaptureFault {
     ghost from_gives = { λ _ e. e ≡ faults.NoMemory };
 
     fn from(_: NoMemory) -> Self {
+        CaptureFault::NoMemory
+    }
+}
+
+impl From<AllocError> for CaptureFault {
+    ghost from_gives = { λ _ e. e ≡ faults.NoMemory };
+
+    fn from(_: AllocError) -> Self {
+        CaptureFault::NoMemory
+    }
+}
+
+impl From<AllocFailed<u32>> for CaptureFault {
+    ghost from_gives = { λ _ e. e ≡ faults.NoMemory };
+
+    fn from(_: AllocFailed<u32>) -> Self {
         CaptureFault::NoMemory
     }
 }

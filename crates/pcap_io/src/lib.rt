@@ -1,14 +1,15 @@
-//! Captures in the file format of libpcap, version 2.4, with Ethernet frames: `read` gives what some
-//! bytes say or their first fault, and `write` gives the bytes of a capture.
+//! Captures in the file format of libpcap, version 2.4, with Ethernet frames: `read_whole` and `read` give
+//! what some bytes say or their first fault, and `write` gives the bytes of a capture.
 //!
 //! The format is laid out by offsets, so that is how `specs/Captures.antt` states it: a header of 24
 //! bytes, and then records that stand one behind the other up to the end of the bytes. `one_reading`
 //! shows that bytes are one capture at most, that bytes with a fault are none, and that bytes have one
-//! first fault at most. So an answer of `read` is the only right one.
+//! first fault at most. So an answer of the two is the only right one.
 //!
-//! A capture may have a million packets. `Packets` therefore keeps the bytes of all of them in one
-//! buffer beside a list of places: no memory is taken for a single packet, and a frame is lent, not
-//! copied. Contracts see none of this; for them it is a list of `Packet`.
+//! A capture may have a million packets. `Packets` therefore keeps all of them in one buffer, each as its
+//! record and then its bytes, beside the places where they begin, 4 bytes each. `read_whole` takes over the
+//! buffer of the file and copies no byte; a frame is lent, and its numbers are read from its record. So a
+//! buffer has less than 4 GiB. Contracts see none of this; for them it is a list of `Packet`.
 //!
 //! Every call takes plain values and keeps no state, so each may be called from any thread. A value
 //! of `Packets` belongs to one thread at a time, or is read by many.
@@ -23,6 +24,7 @@ mod layout;
 mod packet_iter;
 mod packets;
 mod reading;
+mod records;
 #[cfg(test)]
 mod tests;
 mod writing;
@@ -33,5 +35,5 @@ pub use law::one_reading;
 pub use layout::{PACKET_MAX, SNAP_LENGTH};
 pub use packet_iter::PacketIter;
 pub use packets::Packets;
-pub use reading::read;
+pub use reading::{read, read_whole};
 pub use writing::write;

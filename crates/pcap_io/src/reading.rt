@@ -1,42 +1,20 @@
-ghost use Rattle.std.specs.Prelude.{◌≡◌, ◌+◌, ◌<◌, ◌≤◌, ℕ, length, drop, Bool, true, IfOk, IfErr};
+ghost use Rattle.std.specs.Prelude.{◌≡◌, ◌<◌, ◌≤◌, ◌^◌, length, map, Bool, true, IfOk, IfErr};
 ghost use Rattle.std.specs.Prelude.{MatchResult};
 ghost use Rattle.std.specs.Option.{option_map};
 ghost use Rattle.pcap_io.specs.Layout.{number_in, kind_of};
-ghost use Rattle.pcap_io.specs.Places.{packet_of};
+ghost use Rattle.pcap_io.specs.Places.{length_at, packet_in, ArePlaced};
 ghost use Rattle.pcap_io.specs.Captures.{IsCapture, IsHeader, IsPacketAt, StandFrom, PacketFault};
 ghost use Rattle.pcap_io.specs.Captures.{FaultBehind, HasFault, AreShort};
 
-use crate::layout::{HEADER, PACKET_MAX, RECORD};
-use crate::{Capture, CaptureFault, PacketView, Packets};
-use byteorder::{BigEndian, ByteOrder, LittleEndian};
+use crate::layout::{CONTENT_MAX, HEADER, PACKET_MAX, RECORD};
+use crate::records::{u16_at, u32_at};
+use crate::{Capture, CaptureFault, Packets};
+use byteorder::{BigEndian, ByteOrder};
 use std::alloc::Global;
 
 // The record of the shortest whole Ethernet frame, which has 60 bytes without its checksum. Captures
 // of whole frames so get their list of places at once; where frames were cut off, the list grows.
 const SHORTEST_RECORD: usize = 76;
-
-fn u16_at(big: bool, bytes: &[u8], at: usize) -> u16
-    requires { at + 2 ≤ length bytes.now }
-    ensures { result ≡ number_in big 2 (drop at bytes.now) }
-{
-    if big {
-        BigEndian::read_u16(&bytes[at..])
-    } else {
-        LittleEndian::read_u16(&bytes[at..])
-    }
-}
-
-#[inline]
-fn u32_at(big: bool, bytes: &[u8], at: usize) -> u32
-    requires { at + 4 ≤ length bytes.now }
-    ensures { result ≡ number_in big 4 (drop at bytes.now) }
-{
-    if big {
-        BigEndian::read_u32(&bytes[at..])
-    } else {
-        LittleEndian::read_u32(&bytes[at..])
-    }
-}
 
 // The order and the unit of fractions that the magic word says.
 #[tactic(auto, unfolding(crate::specs::Layout::kind_of))]
@@ -75,11 +53,12 @@ fn header(bytes: &[u8]) -> Result<(bool, bool), CaptureFault>
     Ok((big, nanos))
 }
 
-// The packet at the offset, lent from the bytes.
+// How many bytes the packet at the offset has.
 #[inline]
-fn packet_at(big: bool, bytes: &[u8], at: usize) -> Result<PacketView<'_>, CaptureFault>
+fn captured_at(big: bool, bytes: &[u8], at: usize) -> Result<u32, CaptureFault>
     requires { at < length bytes.now }
-    ensures packet { IfOk result (λ view. IsPacketAt big bytes.now at (packet_of view)) }
+    ensures packet { IfOk result (λ _. IsPacketAt big bytes.now at (packet_in big bytes.now at)) }
+    ensures captured { IfOk result (λ captured. captured ≡ length_at big bytes.now at) }
     ensures fault { IfErr result (PacketFault big bytes.now at) }
 {
     let cut = CaptureFault::CutRecord { offset: at as u64 };
@@ -94,52 +73,71 @@ fn packet_at(big: bool, bytes: &[u8], at: usize) -> Result<PacketView<'_>, Captu
             length,
         });
     }
-    let captured = length as usize;
-    if rest - RECORD < captured {
+    if rest - RECORD < length as usize {
         return Err(cut);
     }
-    let start = at + RECORD;
-    Ok(PacketView {
-        seconds: u32_at(big, bytes, at),
-        fraction: u32_at(big, bytes, at + 4),
-        original: u32_at(big, bytes, at + 12),
-        bytes: &bytes[start..start + captured],
-    })
+    Ok(length)
 }
 
-// The packets behind the header, up to the end of the bytes.
-fn packets_of(alloc: Global, big: bool, bytes: &[u8]) -> Result<Packets, CaptureFault>
-    requires { 24 ≤ length bytes.now }
-    ensures packets { IfOk result (λ packets. StandFrom big bytes.now 24 packets (length bytes.now)) }
-    ensures short { IfOk result AreShort }
+// Where the packets behind the header begin, up to the end of the bytes, and how many bytes they have
+// together.
+fn starts_of(alloc: Global, big: bool, bytes: &[u8]) -> Result<(Vec<u32>, usize), CaptureFault>
+    requires whole { 24 ≤ length bytes.now }
+    requires reached { length bytes.now < 2 ^ 32 }
+    ensures packets { IfOk result (λ found. StandFrom big bytes.now 24
+        (map (packet_in big bytes.now) found.0.items) (length bytes.now)) }
+    ensures placed { IfOk result (λ found. ArePlaced big bytes.now found.0.items found.1) }
     ensures fault { IfErr result (FaultBehind big bytes.now) }
 {
-    let mut packets = Packets::with_room(
-        alloc,
-        bytes.len() / SHORTEST_RECORD,
-        bytes.len() - HEADER,
-    )?;
+    let mut starts = Vec::with_capacity(alloc, bytes.len() / SHORTEST_RECORD)?;
+    let mut captured = 0;
     let mut at = HEADER;
     while at < bytes.len() {
-        let packet = packet_at(big, bytes, at)?;
-        at += RECORD + packet.bytes.len();
-        packets.push(packet)?;
+        let length = captured_at(big, bytes, at)? as usize;
+        starts.push(at as u32)?;
+        captured += length;
+        at += RECORD + length;
     }
-    Ok(packets)
+    Ok((starts, captured))
 }
 
-/// The capture that the bytes are, or their first fault. Takes memory for all packets at once, at most
-/// 1.4 times the length of the bytes where no frame has fewer than 60 bytes.
-pub fn read(alloc: Global, bytes: &[u8]) -> Result<Capture, CaptureFault>
-    ensures capture { IfOk result (IsCapture bytes.now) }
-    ensures short { IfOk result (λ c. AreShort c.packets) }
-    ensures fault { IfErr result (HasFault bytes.now) }
+// The packets behind the header, up to the end of the bytes, which they take over.
+fn packets_of(alloc: Global, big: bool, bytes: Vec<u8>) -> Result<Packets, CaptureFault>
+    requires whole { 24 ≤ length bytes.items }
+    requires reached { length bytes.items < 2 ^ 32 }
+    ensures packets { IfOk result (λ packets. StandFrom big bytes.items 24 packets (length bytes.items)) }
+    ensures short { IfOk result AreShort }
+    ensures fault { IfErr result (FaultBehind big bytes.items) }
 {
-    let (big, nanos) = header(bytes)?;
+    let (starts, captured) = starts_of(alloc, big, &bytes)?;
+    Ok(Packets::over(bytes, big, starts, captured))
+}
+
+/// The capture that the bytes are, or their first fault. Takes over their buffer and copies none of them;
+/// besides it takes 4 bytes a packet, for all packets at once where no frame has fewer than 60 bytes.
+/// Bytes of 4 GiB and more are refused as want of memory.
+pub fn read_whole(alloc: Global, bytes: Vec<u8>) -> Result<Capture, CaptureFault>
+    ensures capture { IfOk result (IsCapture bytes.items) }
+    ensures short { IfOk result (λ c. AreShort c.packets) }
+    ensures fault { IfErr result (HasFault bytes.items) }
+{
+    let (big, nanos) = header(&bytes)?;
+    if bytes.len() > CONTENT_MAX {
+        return Err(CaptureFault::NoMemory);
+    }
     let packets = packets_of(alloc, big, bytes)?;
     Ok(Capture {
         big,
         nanos,
         packets,
     })
+}
+
+/// The capture that the bytes are, or their first fault. Copies the bytes, and is then as `read_whole`.
+pub fn read(alloc: Global, bytes: &[u8]) -> Result<Capture, CaptureFault>
+    ensures capture { IfOk result (IsCapture bytes.now) }
+    ensures short { IfOk result (λ c. AreShort c.packets) }
+    ensures fault { IfErr result (HasFault bytes.now) }
+{
+    read_whole(alloc, bytes.to_vec(alloc)?)
 }

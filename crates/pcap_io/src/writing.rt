@@ -1,9 +1,8 @@
-ghost use Rattle.pcap_io.specs.declared.layout.TheConstants.{PACKET_MAX};
-ghost use Rattle.std.specs.Prelude.{◌≡◌, ◌++◌, ◌≤◌, length, OnOk, IfOk};
+ghost use Rattle.std.specs.Prelude.{◌≡◌, ◌++◌, ◌<◌, ◌^◌, length, OnOk, OnErr, IfOk};
 ghost use Rattle.pcap_io.specs.Layout.{bytes_in};
-ghost use Rattle.pcap_io.specs.Places.{packet_of};
+ghost use Rattle.pcap_io.specs.Places.{packet_of, packet_in, IsWithin};
 ghost use Rattle.pcap_io.specs.Written.{magic_of, header_bytes, record_bytes, packet_bytes, capture_bytes};
-ghost use Rattle.pcap_io.specs.Captures.{AreShort, IsCapture, IsPacketAt};
+ghost use Rattle.pcap_io.specs.Captures.{AreShort, IsCapture};
 
 use crate::layout::{HEADER, RECORD, SNAP_LENGTH};
 use crate::{Capture, PacketView};
@@ -56,7 +55,7 @@ fn put_header(out: &mut Vec<u8>, big: bool, nanos: bool) -> Result<(), AllocErro
 // The four numbers before a packet's bytes, in one piece so that they are appended at once.
 #[inline]
 fn record_of(big: bool, packet: PacketView<'_>) -> [u8; RECORD]
-    requires { length packet.bytes.now ≤ PACKET_MAX }
+    requires { length packet.bytes.now < 2 ^ 32 }
     ensures { result ≡ record_bytes big (packet_of packet.entry) }
 {
     let numbers = [
@@ -74,14 +73,24 @@ fn record_of(big: bool, packet: PacketView<'_>) -> [u8; RECORD]
     record_bytes
 }
 
+// Puts the packet's record and bytes at the end, or nothing.
 #[inline]
-fn put_packet(out: &mut Vec<u8>, big: bool, packet: PacketView<'_>) -> Result<(), AllocError>
-    requires { length packet.bytes.now ≤ PACKET_MAX }
+pub(crate) fn put_packet(
+    out: &mut Vec<u8>,
+    big: bool,
+    packet: PacketView<'_>,
+) -> Result<(), AllocError>
+    requires { length packet.bytes.now < 2 ^ 32 }
     ensures bytes { OnOk result (out.new.items ≡ out.old.items ++ packet_bytes big (packet_of packet.entry)) }
+    ensures within { OnOk result (IsWithin big out.new.items (length out.old.items)) }
     ensures stands { OnOk result
-        (IsPacketAt big out.new.items (length out.old.items) (packet_of packet.entry)) }
+        (packet_in big out.new.items (length out.old.items) ≡ packet_of packet.entry) }
+    ensures err { OnErr result (out.new.items ≡ out.old.items) }
 {
-    out.extend_from_slice(&record_of(big, packet))?;
+    let record = record_of(big, packet);
+    // Room for both comes first: then nothing can fail once the record is there.
+    out.reserve(RECORD + packet.bytes.len())?;
+    out.extend_from_slice(&record)?;
     out.extend_from_slice(packet.bytes)?;
     Ok(())
 }

@@ -8,7 +8,7 @@ ghost use Rattle.tool_run.specs.Parts.{LoadFails, ApplyingFails, CaptureFails};
 
 use batch_run::line_past_limit;
 use capture_walk::PACKETS_MAX;
-use pcap_io::{Capture, CaptureFault, read};
+use pcap_io::{Capture, CaptureFault, read_whole};
 use std::alloc::{AllocError, Global};
 use tc_base::{Bytes, Fetch, Shelf};
 use tool_words::{Break, InputKind, Status};
@@ -121,7 +121,7 @@ pub fn load_capture<S: Shelf>(alloc: Global, shelf: &mut S, name: &str) -> Resul
     ensures write_faults { S.write_faults shelf.new ≡ S.write_faults shelf.old }
 {
     let bytes = load(alloc, shelf, name)?;
-    match read(alloc, &bytes) {
+    match read_whole(alloc, bytes) {
         Ok(capture) => within_limit(alloc, name, capture),
         Err(fault) => Err(told(alloc, name, fault)),
     }

@@ -5,6 +5,7 @@ use Rattle.pcap_io.specs.declared.capture.Packet.{Packet}
 use Rattle.pcap_io.specs.Places.{packet_of}
 use Rattle.pcap_io.specs.Written.{header_bytes, packet_bytes}
 use Rattle.pcap_io.proofs.Stand.{one_more}
+use Rattle.pcap_io.proofs.Places.{stands_as}
 use Rattle.pcap_io.proofs.Spelled.{header_stands, length-header_bytes, length-packet_bytes, flat_map-one_more}
 use Rattle.pcap_io.proofs.writing.write.Goals as goal
 
@@ -34,9 +35,12 @@ loop-index-preserved c =
     let packets = c.args.capture.now.packets in
     let big = c.args.capture.now.big in
     let item = sym (get_or_from_slice_get packets c.loop-index.index packet packet c.get.ensures) in
+    let short = c.requires c.loop-index.index packet (omega arith) in
+    let here = stands_as big c.put_packet.new.out.items (length c.loop-index.out.items) packet
+    c.in_ok-put_packet.ensures.within c.in_ok-put_packet.ensures.stands (omega (arith, ap (λ (p : Packet). length p.bytes) item)) in
     let now = one_more big c.args.capture.now.nanos c.loop-index.out.items c.put_packet.new.out.items _ packets c.loop-index.index packet
     (omega arith) item c.in_ok-put_packet.ensures.bytes (length-packet_bytes big packet)
-    c.loop-index.invariant.header c.loop-index.invariant.stand c.in_ok-put_packet.ensures.stands in
+    c.loop-index.invariant.header c.loop-index.invariant.stand here in
     record {
       header = now.0;
       stand = now.1;
