@@ -59,6 +59,7 @@ impl PlainWalk {
     }
 
     /// What becomes of the packet.
+    #[inline]
     pub fn verdict(&self) -> Verdict
         ensures { result ≡ self.now.verdict }
     {
@@ -66,6 +67,7 @@ impl PlainWalk {
     }
 
     /// The frame's bytes where an action came that changes bytes; else they are those that came.
+    #[inline]
     pub fn edited(&self) -> Option<&[u8]>
         ensures { option_map (λ bytes. bytes.now) result ≡ self.now.edited }
     {
@@ -77,6 +79,7 @@ impl PlainWalk {
     }
 
     /// The frame's bytes as they are, of a frame that came with these.
+    #[inline]
     pub fn bytes<'a>(&'a self, came: &'a [u8]) -> &'a [u8]
         requires { length came.now ≤ FRAME_MAX }
         ensures bytes { result.now ≡ (walked_from came.now self.now).frame.bytes }
@@ -90,6 +93,7 @@ impl PlainWalk {
     }
 
     /// The metadata of the packet.
+    #[inline]
     pub fn meta(&self) -> Meta
         ensures { result ≡ self.now.meta }
     {
@@ -98,6 +102,7 @@ impl PlainWalk {
 
     /// The serial of each action that ran, with the frame's length before it, in order: 65,536 at most, of
     /// frames of 262,144 bytes at most.
+    #[inline]
     pub fn executed(&self) -> &[(u32, u32)]
         ensures same { map execution result.now ≡ self.now.executed }
         ensures short { IsShortRun result.now }
