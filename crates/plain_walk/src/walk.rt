@@ -26,21 +26,19 @@ impl Model for PlainWalk {
 }
 
 impl PlainWalk {
-    ghost use Rattle.std.specs.Prelude.{◌≡◌, ◌≤◌, [], length, map, option_map, None, IfOk};
+    ghost use Rattle.std.specs.Prelude.{◌≡◌, ◌≤◌, length, map, option_map, IfOk};
     ghost use Rattle.frame_edit.specs.declared.limits.TheConstants.{FRAME_MAX};
     ghost use Rattle.filter_state.specs.States.{State};
     ghost use Rattle.filter_lists.specs.Spells.{Spells};
     ghost use Rattle.walk_rules.specs.Plain.{plain_walk};
     ghost use Rattle.walk_steps.specs.Told.{execution, IsShortRun};
-    ghost use Rattle.plain_walk.specs.Walked.{walked_from};
+    ghost use Rattle.plain_walk.specs.Walked.{no_walk, walked_from};
 
     /// Takes the room for walks: a frame, and what 65,536 visits run. No other call takes memory.
     ///
     /// No packet was walked yet: it is as after one that passed and met nothing.
     pub fn with_room(alloc: Global) -> Result<PlainWalk, NoMemory>
-        ensures verdict { IfOk result (λ walk. walk.verdict ≡ Verdict.Pass) }
-        ensures edited { IfOk result (λ walk. walk.edited ≡ None) }
-        ensures executed { IfOk result (λ walk. walk.executed ≡ []) }
+        ensures { IfOk result (λ walk. walk ≡ no_walk) }
     {
         Ok(PlainWalk {
             course: Course::with_room(alloc)?,
