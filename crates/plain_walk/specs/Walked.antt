@@ -7,8 +7,8 @@ use Rattle.walk_rules.specs.declared.verdict.Verdict.TheVariants as verdicts
 use Rattle.walk_rules.specs.Steps.{Execution}
 use Rattle.walk_rules.specs.Walks.{Outcome}
 
--- what a walk left: its verdict, the bytes of the frame where an action came that changes bytes, the metadata,
--- and what ran on it
+-- what a walk left: its verdict, the bytes of the frame where an action came that changes bytes, its
+-- metadata, and what ran on it
 pub record Walked : Type 0 where
   pub verdict : Verdict
   pub edited : Option (List ℕ)
