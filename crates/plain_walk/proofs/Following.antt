@@ -1,18 +1,23 @@
 -- What follows the list of a filter, a table, and the tables of a chain.
-use Rattle.std.proofs.Common.{◌≡◌, ◌∙◌, ℕ, zero, suc, ◌+◌, ◌-◌, ◌<◌, true, false, cond, List, [], ◌∷◌, length, get_or, drop, refl, sym, ap, arith}
+use Rattle.std.proofs.Common.{◌≡◌, ◌∙◌, ℕ, zero, suc, ◌+◌, ◌-◌, ◌<◌, ◌==◌, ◌&&◌, true, false, Bool, cond, List, [], ◌∷◌, length, get_or, drop, refl, sym, ap, subst, arith}
 use Rattle.std.specs.Prelude.{map}
 use Rattle.std.proofs.lemmas.List.{drop_more}
 use Rattle.act_list.specs.declared.limits.TheConstants.{JUMPS_MAX}
 use Rattle.frame_edit.specs.Tags.{ether_type_of}
 use Rattle.filter_state.specs.States.{State}
 use Rattle.filter_tables.specs.declared.filter_table.FilterTable.{FilterTable}
+use Rattle.filter_tables.specs.Plain.{PlainTable}
+use Rattle.filter_tables.specs.Changes.{comes_before}
+use Rattle.filter_tables.specs.Room.{AreRising}
 use Rattle.filter_tables.specs.Seen.{plain_table}
+use Rattle.filter_state.specs.Sound.{Each}
+use Rattle.std.proofs.lemmas.Bool.Decides.{nat_tests}
 use Rattle.walk_rules.specs.declared.verdict.Verdict.TheVariants as verdicts
 use Rattle.walk_rules.specs.declared.limits.TheConstants.{VISITS_MAX, RESTARTS_MAX}
 use Rattle.walk_rules.specs.Questions.{Head}
 use Rattle.walk_rules.specs.Heads.{heads_on}
 use Rattle.walk_rules.specs.Walks.{Outcome}
-use Rattle.walk_rules.specs.Steps.{tries}
+use Rattle.walk_rules.specs.Steps.{admits, tries}
 use Rattle.walk_rules.specs.Plain.{Carried, ends_with, run_list, after_end, filter_outcome, decider, table_outcome, tables_outcome, chain_outcome, plain_walk}
 use Rattle.head_laws.specs.Heads.{head_of}
 use Rattle.tc_base.specs.declared.hook.Hook.{Hook}
@@ -46,6 +51,41 @@ pub heads_more : (tables : List FilterTable) (place : ℕ) (table : FilterTable)
 heads_more tables place table within is =
     ap (λ ts. map head_of (map plain_table ts)) (drop_more tables place table within)
     ∙ ap (λ (t : FilterTable). head_of (plain_table t) ∷ heads_from (place + 1) tables) (sym is)
+
+-- ---- tables behind those of a chain
+later_chain : (chain : ℕ) (t u : PlainTable) → chain < t.chain → comes_before t u ≡ true → chain < u.chain
+later_chain chain t u above before = grind (arith, nat_tests)
+
+abbrev IsLater : ℕ → Head → Type 0
+IsLater chain head = chain < head.chain
+
+all_later : (chain : ℕ) (t : PlainTable) (us : List PlainTable) → chain < t.chain → Each (λ u. comes_before t u ≡ true) us → Each (IsLater chain) (map head_of us)
+all_later chain t [] above before = tt
+all_later chain t (u ∷ us) above before = (later_chain chain t u above before.0, all_later chain t us above before.1)
+
+rest_later : (chain : ℕ) (tables : List FilterTable) (place : ℕ) (table : FilterTable) → AreRising (map plain_table tables) → place < length tables → table ≡ get_or tables place table →
+    chain < table.chain → Each (IsLater chain) (heads_from place tables)
+rest_later chain [] place table rising within is above = absurd (omega arith)
+rest_later chain (t ∷ tables) zero table rising within is above =
+    let here : chain < t.chain = subst (λ (u : FilterTable). chain < u.chain) is above in
+    (here, all_later chain (plain_table t) (map plain_table tables) here rising.0)
+rest_later chain (t ∷ tables) (suc place) table rising within is above = rest_later chain tables place table rising.1 (omega arith) is above
+
+other_chain : (m n : ℕ) (b : Bool) → m < n → (n == m && b) ≡ false
+other_chain m n b less = grind (arith, nat_tests)
+
+pass_later : (s : State) (restart : ℕ → ℕ → Carried → Outcome) (chain : ℕ) (heads : List Head) (left : ℕ) (carried : Carried) → Each (IsLater chain) heads →
+    tables_outcome s restart chain heads left carried ≡ ends_with verdicts.Pass carried
+pass_later s restart chain [] left carried later = refl
+pass_later s restart chain (head ∷ heads) left carried later =
+    passed_table s restart chain head heads left carried (other_chain chain head.chain (admits head.protocol (ether_type_of carried.frame.bytes)) later.0)
+    ∙ pass_later s restart chain heads left carried later.1
+
+pub none_behind : (s : State) (restart : ℕ → ℕ → Carried → Outcome) (chain : ℕ) (tables : List FilterTable) (place : ℕ) (table : FilterTable) (left : ℕ) (carried : Carried) →
+    AreRising (map plain_table tables) → place < length tables → table ≡ get_or tables place table → chain < table.chain →
+    tables_outcome s restart chain (heads_from place tables) left carried ≡ ends_with verdicts.Pass carried
+none_behind s restart chain tables place table left carried rising within is above =
+    pass_later s restart chain (heads_from place tables) left carried (rest_later chain tables place table rising within is above)
 
 -- ---- chains
 -- what a restart leads to, where so many are left

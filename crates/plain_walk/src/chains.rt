@@ -57,7 +57,7 @@ pub(crate) fn walk(course: &mut Course, lists: &Lists, hook: Hook, came: &[u8]) 
     }
 }
 
-// Takes the frame through the tables of a chain.
+// Takes the frame through the tables of a chain. Those of later chains stand behind them.
 fn walk_chain(course: &mut Course, lists: &Lists, hook: Hook, chain: u32, came: &[u8]) -> ChainEnd
     requires { IsCourse came.now course.old }
     ensures plain { (s : State) → Spells lists.now s → (restart : ℕ → ℕ → Carried → Outcome)
@@ -67,6 +67,9 @@ fn walk_chain(course: &mut Course, lists: &Lists, hook: Hook, chain: u32, came: 
 {
     let tables = lists.tables(hook);
     for table in tables {
+        if table.chain > chain {
+            break;
+        }
         if let Some(end) = pass_table(course, lists, table, chain, came) {
             return end;
         }

@@ -30,6 +30,7 @@ pub(crate) struct Course {
 impl Course {
     ghost use Rattle.std.specs.Prelude.{◌≡◌, ◌<◌, ◌≤◌, ◌+◌, ◌-◌, [], true, false, length, IfOk};
     ghost use Rattle.frame_edit.specs.declared.limits.TheConstants.{FRAME_MAX};
+    ghost use Rattle.frame_edit.specs.Metadata.{no_meta};
     ghost use Rattle.act_kinds.specs.Acts.{FitsFrames, acted_on, control_given};
     ghost use Rattle.walk_rules.specs.declared.limits.TheConstants.{VISITS_MAX};
     ghost use Rattle.walk_rules.specs.Plain.{carried_on};
@@ -38,6 +39,7 @@ impl Course {
     /// Room for a frame and for what a walk executes.
     pub(crate) fn with_room(alloc: Global) -> Result<Course, NoMemory>
         ensures edited { IfOk result (λ course. course.is_edited ≡ false) }
+        ensures meta { IfOk result (λ course. course.frame.meta ≡ no_meta) }
         ensures executed { IfOk result (λ course. course.executed ≡ []) }
     {
         Ok(Course {

@@ -26,21 +26,19 @@ impl Model for PlainWalk {
 }
 
 impl PlainWalk {
-    ghost use Rattle.std.specs.Prelude.{◌≡◌, ◌≤◌, [], length, map, option_map, None, IfOk};
+    ghost use Rattle.std.specs.Prelude.{◌≡◌, ◌≤◌, length, map, option_map, IfOk};
     ghost use Rattle.frame_edit.specs.declared.limits.TheConstants.{FRAME_MAX};
     ghost use Rattle.filter_state.specs.States.{State};
     ghost use Rattle.filter_lists.specs.Spells.{Spells};
     ghost use Rattle.walk_rules.specs.Plain.{plain_walk};
     ghost use Rattle.walk_steps.specs.Told.{execution, IsShortRun};
-    ghost use Rattle.plain_walk.specs.Walked.{walked_from};
+    ghost use Rattle.plain_walk.specs.Walked.{no_walk, walked_from};
 
     /// Takes the room for walks: a frame, and what 65,536 visits run. No other call takes memory.
     ///
     /// No packet was walked yet: it is as after one that passed and met nothing.
     pub fn with_room(alloc: Global) -> Result<PlainWalk, NoMemory>
-        ensures verdict { IfOk result (λ walk. walk.verdict ≡ Verdict.Pass) }
-        ensures edited { IfOk result (λ walk. walk.edited ≡ None) }
-        ensures executed { IfOk result (λ walk. walk.executed ≡ []) }
+        ensures { IfOk result (λ walk. walk ≡ no_walk) }
     {
         Ok(PlainWalk {
             course: Course::with_room(alloc)?,
@@ -59,6 +57,7 @@ impl PlainWalk {
     }
 
     /// What becomes of the packet.
+    #[inline]
     pub fn verdict(&self) -> Verdict
         ensures { result ≡ self.now.verdict }
     {
@@ -66,6 +65,7 @@ impl PlainWalk {
     }
 
     /// The frame's bytes where an action came that changes bytes; else they are those that came.
+    #[inline]
     pub fn edited(&self) -> Option<&[u8]>
         ensures { option_map (λ bytes. bytes.now) result ≡ self.now.edited }
     {
@@ -77,6 +77,7 @@ impl PlainWalk {
     }
 
     /// The frame's bytes as they are, of a frame that came with these.
+    #[inline]
     pub fn bytes<'a>(&'a self, came: &'a [u8]) -> &'a [u8]
         requires { length came.now ≤ FRAME_MAX }
         ensures bytes { result.now ≡ (walked_from came.now self.now).frame.bytes }
@@ -90,6 +91,7 @@ impl PlainWalk {
     }
 
     /// The metadata of the packet.
+    #[inline]
     pub fn meta(&self) -> Meta
         ensures { result ≡ self.now.meta }
     {
@@ -98,6 +100,7 @@ impl PlainWalk {
 
     /// The serial of each action that ran, with the frame's length before it, in order: 65,536 at most, of
     /// frames of 262,144 bytes at most.
+    #[inline]
     pub fn executed(&self) -> &[(u32, u32)]
         ensures same { map execution result.now ≡ self.now.executed }
         ensures short { IsShortRun result.now }

@@ -9,7 +9,12 @@ use Rattle.head_laws.specs.Heads.{head_of}
 use Rattle.head_laws.proofs.ListedHeads.{heads_listed}
 use Rattle.classify_walk.proofs.Searching.{item_lent}
 use Rattle.plain_walk.specs.Courses.{carried_from}
-use Rattle.plain_walk.proofs.Following.{heads_from, heads_more}
+use Rattle.filter_tables.specs.Room.{AreRising}
+use Rattle.filter_tables.specs.Whole.{AreWhole}
+use Rattle.filter_tables.specs.Rows.{tables_on}
+use Rattle.hook_lists.specs.States.{both_of}
+use Rattle.row_lookup_laws.proofs.Found.{whole_on}
+use Rattle.plain_walk.proofs.Following.{heads_from, heads_more, none_behind}
 use Rattle.plain_walk.proofs.chains.walk_chain.Goals as goal
 
 pub loop-table-init : goal.loop-table-init
@@ -51,10 +56,19 @@ loop-table-preserved c =
           ∙ c.in_default.ensures.plain s spelled restart (heads_from (place + 1) tables);
     }
 
-pub returns-clause-plain : goal.returns-clause-plain
-returns-clause-plain c = λ s spelled restart.
+pub returns-after-loop-table-clause-plain : goal.returns-after-loop-table-clause-plain
+returns-after-loop-table-clause-plain c = λ s spelled restart.
     let tables = c.tables-tables.result.now in
     let place = c.loop-table.table-index in
     c.loop-table.invariant.leads s spelled restart
     ∙ ap (λ ts. tables_outcome s restart c.args.chain (map head_of (map plain_table ts)) c.loop-table.course.left (carried_from c.args.came.now c.loop-table.course))
     (drop_all place tables (omega (arith, c.loop-table-test.false)))
+
+pub returns-then-table-chain-clause-plain : goal.returns-then-table-chain-clause-plain
+returns-then-table-chain-clause-plain c = λ s spelled restart.
+    let tables = c.tables-tables.result.now in
+    let is = c.tables-tables.ensures.kept in
+    let whole : AreWhole (tables_on c.args.hook (both_of c.args.lists.now)) = whole_on c.args.hook (both_of c.args.lists.now) is.whole in
+    c.loop-table.invariant.leads s spelled restart
+    ∙ none_behind s restart c.args.chain tables c.loop-table.table-index c.table-item.result c.loop-table.course.left (carried_from c.args.came.now c.loop-table.course)
+    (subst AreRising (sym c.tables-tables.ensures.tables) whole.rising) c.loop-table-test.true c.table-item.is c.if-table-chain.true
