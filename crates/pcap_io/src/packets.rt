@@ -13,11 +13,11 @@ use tc_base::NoMemory;
 /// A list of packets. All of them lie in one buffer, each as its record and then its bytes.
 #[derive(Drop)]
 pub struct Packets {
-    content: Vec<u8>,
+    pub(crate) content: Vec<u8>,
     // whether the numbers of the records stand with the highest byte first
-    big: bool,
+    pub(crate) big: bool,
     // where each record begins
-    starts: Vec<u32>,
+    pub(crate) starts: Vec<u32>,
     // the bytes of all packets together
     captured: usize,
 }

@@ -1,6 +1,7 @@
-use crate::{Capture, CaptureFault, PacketView, Packets, read, write};
+use crate::{Capture, CaptureFault, Excerpt, PacketView, Packets, read, read_whole, write};
 use std::alloc::{AllocError, Global};
 use std::test::Fail;
+use tc_base::NoMemory;
 
 // The empty capture of a little-endian host with microseconds, spelled by hand from the manual's
 // layout, and one of a big-endian host with nanoseconds.
@@ -133,5 +134,33 @@ fn writes_a_packet_in_big_order(rt: HostRuntime) -> Result<(), Fail> {
     let record = [1, 2, 3, 4, 0, 0, 0, 5, 0, 0, 0, 1, 0, 0, 0, 7, 0xee];
     assert_eq!(rt; written.len(), 41);
     assert_eq!(rt; &written[24..], &record[..]);
+    Ok(())
+}
+
+// The capture's last packet as it is, and then another one.
+fn last_and_another(alloc: Global, capture: &Capture) -> Result<Vec<u8>, NoMemory> {
+    let mut excerpt = Excerpt::new(alloc, capture)?;
+    if let Some(last) = capture.packets.len().checked_sub(1) {
+        excerpt.keep(last)?;
+    }
+    excerpt.push(PacketView {
+        seconds: 7,
+        fraction: 0,
+        original: 1,
+        bytes: &[0xee],
+    })?;
+    excerpt.into_pieces().joined()
+}
+
+#[test]
+fn makes_an_output_of_its_input(rt: HostRuntime) -> Result<(), Fail> {
+    let capture = read_whole(rt.alloc(), two_packets(rt.alloc())?)?;
+    let Ok(output) = last_and_another(rt.alloc(), &capture) else {
+        return Err("no memory")?;
+    };
+    let mut expected = EMPTY.to_vec(rt.alloc())?;
+    put_record(&mut expected, 8, [60, 0, 0, 0], &[0xa5; 60])?;
+    put_record(&mut expected, 7, [1, 0, 0, 0], &[0xee])?;
+    assert_eq!(rt; output, expected);
     Ok(())
 }

@@ -40,7 +40,7 @@ fn magic_word(nanos: bool) -> u32
     if nanos { 0xa1b2_3c4d } else { 0xa1b2_c3d4 }
 }
 
-fn put_header(out: &mut Vec<u8>, big: bool, nanos: bool) -> Result<(), AllocError>
+pub(crate) fn put_header(out: &mut Vec<u8>, big: bool, nanos: bool) -> Result<(), AllocError>
     ensures { OnOk result (out.new.items ≡ out.old.items ++ header_bytes big nanos) }
 {
     put_u32(out, big, magic_word(nanos))?;
@@ -54,7 +54,7 @@ fn put_header(out: &mut Vec<u8>, big: bool, nanos: bool) -> Result<(), AllocErro
 
 // The four numbers before a packet's bytes, in one piece so that they are appended at once.
 #[inline]
-fn record_of(big: bool, packet: PacketView<'_>) -> [u8; RECORD]
+pub(crate) fn record_of(big: bool, packet: PacketView<'_>) -> [u8; RECORD]
     requires { length packet.bytes.now < 2 ^ 32 }
     ensures { result ≡ record_bytes big (packet_of packet.entry) }
 {

@@ -4,4 +4,5 @@ pub mod Generating
 pub mod Lines
 pub mod Making
 pub mod Readings
+pub mod TooMany
 pub mod Writing
