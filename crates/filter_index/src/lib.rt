@@ -26,6 +26,7 @@
 //! spread evenly over the index, whose hash is the same in each run.
 #![tactic(auto)]
 
+mod chains;
 mod digests;
 mod filter;
 mod filters;
