@@ -36,7 +36,8 @@ pub record AreLinked (size : ℕ) (heads : List ℕ) (digests : List (Option ℕ
   pub even : length nexts ≡ length digests
   pub room : length digests ≤ size
   pub few : size < 2 ^ 32
-  pub last : (chain : ℕ) → chain < size → get_or heads chain 0 ≡ last_of (is_on size chain) digests (length digests)
+  pub last : (chain : ℕ) → chain < size
+      → get_or heads chain 0 ≡ last_of (is_on size chain) digests (length digests)
   pub before : (slot digest : ℕ) → slot < length digests → get_or digests slot None ≡ Some digest
       → get_or nexts slot 0 ≡ last_of (is_on size (chain_of size digest)) digests slot
 

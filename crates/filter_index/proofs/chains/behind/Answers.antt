@@ -1,5 +1,5 @@
-use Rattle.std.proofs.Common.{◌≡◌, ◌-◌, ◌≤◌, suc, length, get_or, refl, sym, arith}
-use Rattle.filter_index.specs.Chains.{is_on, last_of}
+use Rattle.std.proofs.Common.{◌≡◌, ◌-◌, suc, length, get_or, refl, arith}
+use Rattle.filter_index.specs.Chains.{is_on}
 use Rattle.filter_index.proofs.LastOf.{reaches}
 use Rattle.filter_index.proofs.Walking.{at_head, at_next, next_falls, still_above, is_behind}
 use Rattle.filter_index.proofs.chains.behind.Goals as goal

@@ -1,8 +1,6 @@
-use Rattle.std.proofs.Common.{◌≡◌, ◌-◌, ◌<◌, ◌≤◌, suc, length, get_or, Some, None, map, refl, sym, ap, ◌∙◌, subst, arith}
-use Rattle.std.specs.Prelude.{find}
+use Rattle.std.proofs.Common.{◌≡◌, ◌-◌, suc, length, get_or, None, sym, ap, ◌∙◌, subst, arith}
 use Rattle.std.specs.Option.{option_copied}
 use Rattle.std.proofs.lemmas.List.{get_or_default, length-map}
-use Rattle.filter_index.specs.Listed.{has_key}
 use Rattle.filter_index.specs.Places.{digest_in}
 use Rattle.filter_index.specs.Chains.{last_of, is_digest}
 use Rattle.filter_index.proofs.LastOf.{last_le, last_again}

@@ -1,4 +1,4 @@
-use Rattle.std.proofs.Common.{◌≡◌, ◌<◌, length, get_or, Some, None, refl, sym, ap, ◌∙◌, arith}
+use Rattle.std.proofs.Common.{◌≡◌, length, get_or, Some, None, refl, ap, ◌∙◌, arith}
 use Rattle.std.proofs.lemmas.List.{get_or_default}
 use Rattle.filter_index.specs.Chains.{last_of, is_digest, chain_of, is_on}
 use Rattle.filter_index.proofs.Walking.{AtSlot, at_before, before_is, same_last, there_within}
