@@ -1,6 +1,6 @@
 -- Digests in slots, and the chains that lead to them (this project's own).
-use Rattle.std.specs.Prelude.{◌≡◌, ℕ, zero, suc, ◌+◌, ◌<◌, ◌≤◌, ◌^◌, ◌/◌, ◌-◌, ◌==◌, Bool, true, false, List, length}
-use Rattle.std.specs.Prelude.{get_or, Option, Some, None, bit_and, if◌then◌else◌}
+use Rattle.std.specs.Prelude.{◌≡◌, ℕ, zero, suc, ◌+◌, ◌<◌, ◌≤◌, ◌^◌, ◌/◌, ◌-◌, ◌==◌, Bool, true, false}
+use Rattle.std.specs.Prelude.{List, length, get_or, Option, Some, None, bit_and, if◌then◌else◌}
 
 -- the digest in each slot, if one is there; for how many slots more there is room, and for how many slots
 -- there are chains

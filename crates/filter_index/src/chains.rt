@@ -29,7 +29,8 @@ impl Model for Chains {
     ghost view = { λ c. record {
       digests = c.digests.items;
       spare = min (length c.heads.items - length c.digests.items)
-          (min (vec_capacity c.digests - length c.digests.items) (vec_capacity c.nexts - length c.nexts.items));
+          (min (vec_capacity c.digests - length c.digests.items)
+          (vec_capacity c.nexts - length c.nexts.items));
       slots = length c.heads.items;
     } };
 

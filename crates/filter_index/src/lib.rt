@@ -15,9 +15,9 @@
 //!
 //! Most packets meet no filter of a mask. For these there is a `Sieve` beside a mask's filters: it looks at a
 //! few words of a key under the mask's, and knows of 64 marks which ones the filters' keys have. A key whose
-//! mark isn't set is no filter's. It stays right where filters are taken out, since a mark too many only costs
-//! a look-up. A `Sieve` isn't tied to a `Filters`: whoever holds both puts each key into both (`MaskList` of
-//! `filter_tables`).
+//! mark isn't set is no filter's. It stays right where filters are taken out, since a mark too many only
+//! costs a look-up. A `Sieve` isn't tied to a `Filters`: whoever holds both puts each key into both
+//! (`MaskList` of `filter_tables`).
 //!
 //! A `Filters` is the list of its filters, and contracts see no more than that list and for how many more
 //! room is reserved. No two of the filters have the same handle, or the same key. Whoever puts a filter has
