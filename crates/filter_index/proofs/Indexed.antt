@@ -1,15 +1,16 @@
 -- The indexes of `Filters` after one filter more, one fewer, and one with other actions.
 use Rattle.std.proofs.Common.{◌≡◌, ℕ, ◌==◌, ◌+◌, Bool, true, false, cond, List, [], ◌∷◌, ◌++◌, length, set, Option, Some, None, refl, sym, ap, ◌∙◌, subst, arith}
 use Rattle.std.specs.Prelude.{nat_eq}
-use Rattle.std.specs.Str.{bytes_eq}
 use Rattle.std.specs.List.{list_any}
 use Rattle.std.specs.HashMap.{HashMap, get, hash_map_len}
-use Rattle.std.proofs.lemmas.List.{length-append, length-map}
+use Rattle.std.proofs.lemmas.List.{length-append, length-map, map-append, map-set}
+use Rattle.std.proofs.Math.Seq.{map-set_same}
 use Rattle.filter_index.specs.declared.filter.Filter.{Filter}
 use Rattle.filter_index.specs.Listed.{has_handle, has_key, AreApart, without, with_actions, those_there}
-use Rattle.filter_index.specs.Places.{place_of, AreIndexed}
-use Rattle.filter_index.proofs.Apart.{same_handle, same_key, handle_before, handle_behind, handle_apart, key_apart, more_apart, fewer_apart, acting_all_apart}
-use Rattle.filter_index.proofs.Cuts.{Cut, cut_set, filter_one, map_one}
+use Rattle.filter_index.specs.Places.{place_of, digest_in, AreIndexed}
+use Rattle.filter_index.specs.Digests.{digest_of}
+use Rattle.filter_index.proofs.Apart.{same_handle, handle_before, handle_behind, handle_apart, more_apart, fewer_apart, acting_all_apart}
+use Rattle.filter_index.proofs.Cuts.{Cut, cut_set, cut_read, filter_one, map_one}
 use Rattle.filter_index.proofs.Slots.{there_append, none_there, place_same, place_emptied, place_other, place_new}
 
 -- ---- one filter more
@@ -18,30 +19,27 @@ pushed_at : (b : Bool) (test : Filter → Bool) (slots : List (Option Filter)) (
 pushed_at true test slots f at was now end is was_is new now_is = now_is ∙ ap Some end ∙ sym (place_new test slots f (none_there test slots (new refl)) is)
 pushed_at false test slots f at was now end is was_is new now_is = now_is ∙ was_is ∙ sym (place_other test slots f is)
 
-module _ {S : Type 0} (handles : HashMap ℕ ℕ S) (keys : HashMap (List ℕ) ℕ S) (slots : List (Option Filter)) (indexed : AreIndexed handles keys slots) where
-  pub one_more : (f : Filter) (at : ℕ) (handles_now : HashMap ℕ ℕ S) (keys_now : HashMap (List ℕ) ℕ S) → at ≡ length slots →
+module _ {S : Type 0} (handles : HashMap ℕ ℕ S) (digests : List (Option ℕ)) (slots : List (Option Filter)) (indexed : AreIndexed handles digests slots) where
+  pub one_more : (f : Filter) (at : ℕ) (handles_now : HashMap ℕ ℕ S) → at ≡ length slots →
       list_any (has_handle f.handle) (those_there slots) ≡ false → list_any (has_key f.key.words) (those_there slots) ≡ false →
       ((q : ℕ) → get nat_eq handles_now q ≡ cond (nat_eq f.handle q) (Some at) (get nat_eq handles q)) →
-      ((q : List ℕ) → get bytes_eq keys_now q ≡ cond (bytes_eq f.key.words q) (Some at) (get bytes_eq keys q)) →
-      hash_map_len handles_now ≡ hash_map_len handles + 1 → AreIndexed handles_now keys_now (slots ++ Some f ∷ [])
-  one_more f at handles_now keys_now end handle key handles_are keys_are count =
+      hash_map_len handles_now ≡ hash_map_len handles + 1 → AreIndexed handles_now (digests ++ (Some (digest_of f.key.words) ∷ [])) (slots ++ Some f ∷ [])
+  one_more f at handles_now end handle key handles_are count =
       let there = there_append slots (Some f ∷ []) in
       record {
         handle_at = λ q. pushed_at (f.handle == q) (has_handle q) slots f at (get nat_eq handles q) (get nat_eq handles_now q) end refl (indexed.handle_at q)
             (λ same. subst (λ h. list_any (has_handle h) (those_there slots) ≡ false) (same_handle f.handle q same) handle) (handles_are q);
-        key_at = λ q. pushed_at (bytes_eq f.key.words q) (has_key q) slots f at (get bytes_eq keys q) (get bytes_eq keys_now q) end refl (indexed.key_at q)
-            (λ same. subst (λ k. list_any (has_key k) (those_there slots) ≡ false) (same_key f.key.words q same) key) (keys_are q);
+        even = ap (λ ds. ds ++ (Some (digest_of f.key.words) ∷ [])) indexed.even ∙ sym (map-append digest_in slots (Some f ∷ []));
         count = omega (arith, count, indexed.count, ap length there, length-append (those_there slots) (f ∷ []));
         apart = subst AreApart (sym there) (more_apart (those_there slots) f indexed.apart handle key);
       }
 
   -- ---- the same filters
-  pub reordered : (handles_now : HashMap ℕ ℕ S) (keys_now : HashMap (List ℕ) ℕ S) → ((q : ℕ) → get nat_eq handles_now q ≡ get nat_eq handles q) →
-      ((q : List ℕ) → get bytes_eq keys_now q ≡ get bytes_eq keys q) → hash_map_len handles_now ≡ hash_map_len handles →
-      AreIndexed handles_now keys_now slots
-  reordered handles_now keys_now handles_are keys_are count = record {
+  pub reordered : (handles_now : HashMap ℕ ℕ S) (digests_now : List (Option ℕ)) → ((q : ℕ) → get nat_eq handles_now q ≡ get nat_eq handles q) →
+      digests_now ≡ digests → hash_map_len handles_now ≡ hash_map_len handles → AreIndexed handles_now digests_now slots
+  reordered handles_now digests_now handles_are same count = record {
     handle_at = λ q. handles_are q ∙ indexed.handle_at q;
-    key_at = λ q. keys_are q ∙ indexed.key_at q;
+    even = same ∙ indexed.even;
     count = count ∙ indexed.count;
     apart = indexed.apart;
   }
@@ -104,13 +102,12 @@ fewer slots at handle c was now was_is now_is =
     )
 
 -- ---- the indexes without that filter, and where it has other actions
-module _ {S : Type 0} (handles : HashMap ℕ ℕ S) (keys : HashMap (List ℕ) ℕ S) (slots : List (Option Filter)) (indexed : AreIndexed handles keys slots)
+module _ {S : Type 0} (handles : HashMap ℕ ℕ S) (digests : List (Option ℕ)) (slots : List (Option Filter)) (indexed : AreIndexed handles digests slots)
     (handle at : ℕ) (c : Cut (has_handle handle) slots at) where
-  pub one_fewer : (f : Filter) (handles_now : HashMap ℕ ℕ S) (keys_now : HashMap (List ℕ) ℕ S) → f ≡ c.value →
+  pub one_fewer : (handles_now : HashMap ℕ ℕ S) →
       ((q : ℕ) → get nat_eq handles_now q ≡ cond (nat_eq handle q) None (get nat_eq handles q)) →
-      ((q : List ℕ) → get bytes_eq keys_now q ≡ cond (bytes_eq f.key.words q) None (get bytes_eq keys q)) →
-      hash_map_len handles_now + 1 ≡ hash_map_len handles → AreIndexed handles_now keys_now (set slots at None)
-  one_fewer f handles_now keys_now same_filter handles_are keys_are count =
+      hash_map_len handles_now + 1 ≡ hash_map_len handles → AreIndexed handles_now (set digests at None) (set slots at None)
+  one_fewer handles_now handles_are count =
       let apart = cut_apart slots handle at c indexed.apart in
       let emptied = cut_set (has_handle handle) slots at None c in
       let own : c.value.handle ≡ handle = same_handle c.value.handle handle c.passes in
@@ -121,19 +118,12 @@ module _ {S : Type 0} (handles : HashMap ℕ ℕ S) (keys : HashMap (List ℕ) �
             (λ same. subst (λ h. list_any (has_handle h) (those_there c.front ++ those_there c.back) ≡ false) (own ∙ same_handle handle q same)
             (handle_apart (those_there c.front) c.value (those_there c.back) apart)) (handles_are q)
             ∙ sym (ap (place_of (has_handle q)) emptied);
-        key_at = λ q.
-            emptied_at (bytes_eq f.key.words q) (has_key q) c.front c.back c.value (get bytes_eq keys q) (get bytes_eq keys_now q)
-            (ap (λ g. bytes_eq g.key.words q) (sym same_filter))
-            (indexed.key_at q ∙ ap (place_of (has_key q)) c.is)
-            (λ same. subst (λ k. list_any (has_key k) (those_there c.front ++ those_there c.back) ≡ false)
-            (sym (ap (λ g. g.key.words) same_filter) ∙ same_key f.key.words q same)
-            (key_apart (those_there c.front) c.value (those_there c.back) apart)) (keys_are q)
-            ∙ sym (ap (place_of (has_key q)) emptied);
+        even = ap (λ ds. set ds at None) indexed.even ∙ sym (map-set digest_in slots at None);
         count = fewer slots at handle c (hash_map_len handles) (hash_map_len handles_now) indexed.count count;
         apart = subst AreApart (sym (there_without slots handle at c indexed.apart (those_there slots) refl)) (fewer_apart handle (those_there slots) indexed.apart);
       }
 
-  pub other_actions : (actions : List ℕ) → AreIndexed handles keys (set slots at (Some (record c.value { actions = actions })))
+  pub other_actions : (actions : List ℕ) → AreIndexed handles digests (set slots at (Some (record c.value { actions = actions })))
   other_actions actions =
       let changed : Filter = record c.value { actions = actions } in
       let moved = sym (cut_set (has_handle handle) slots at (Some changed) c) in
@@ -141,8 +131,8 @@ module _ {S : Type 0} (handles : HashMap ℕ ℕ S) (keys : HashMap (List ℕ) �
       record {
         handle_at = λ q. indexed.handle_at q ∙ ap (place_of (has_handle q)) c.is ∙ sym (place_same (has_handle q) c.front c.back c.value changed refl)
             ∙ ap (place_of (has_handle q)) moved;
-        key_at = λ q. indexed.key_at q ∙ ap (place_of (has_key q)) c.is ∙ sym (place_same (has_key q) c.front c.back c.value changed refl)
-            ∙ ap (place_of (has_key q)) moved;
+        even = indexed.even
+            ∙ sym (map-set_same digest_in slots at (Some changed) None (sym (ap digest_in (cut_read (has_handle handle) slots at None c))));
         count = indexed.count ∙ sym (ap length there ∙ length-map (those_there slots) (λ (f : Filter). cond (has_handle handle f) (record f { actions = actions }) f));
         apart = subst AreApart (sym there) (acting_all_apart handle actions (those_there slots) indexed.apart);
       }

@@ -2,6 +2,9 @@ mod Apart
 mod Calls
 mod Cuts
 mod Indexed
+mod LastOf
+mod Linked
+mod Seeking
 pub mod Sieving
 mod Slots
-mod Sums
+mod Walking

@@ -1,6 +1,6 @@
 -- Where a test finds its value among slots of which some are empty, and how a new, a changed or an emptied
 -- slot moves that.
-use Rattle.std.proofs.Common.{◌≡◌, ℕ, suc, Bool, true, false, cond, ◌||◌, List, [], ◌∷◌, ◌++◌, length, Option, Some, None, refl, sym, ap, ◌∙◌}
+use Rattle.std.proofs.Common.{◌≡◌, ℕ, suc, ◌≤◌, Bool, true, false, cond, ◌||◌, List, [], ◌∷◌, ◌++◌, length, Option, Some, None, refl, sym, ap, ◌∙◌, arith}
 use Rattle.std.specs.Prelude.{is_some, option_map}
 use Rattle.std.specs.List.{list_any}
 use Rattle.filter_index.specs.Listed.{those_there}
@@ -11,6 +11,11 @@ pub there_append : {X : Type 0} (xs ys : List (Option X)) → those_there (xs ++
 there_append [] ys = refl
 there_append (Some x ∷ xs) ys = ap (λ rest. x ∷ rest) (there_append xs ys)
 there_append (None ∷ xs) ys = there_append xs ys
+
+pub there_le : {X : Type 0} (xs : List (Option X)) → length (those_there xs) ≤ length xs
+there_le [] = omega arith
+there_le (Some x ∷ xs) = let rest = there_le xs in omega arith
+there_le (None ∷ xs) = let rest = there_le xs in omega arith
 
 -- ---- a place is found exactly where a value passes
 later_some : (place : Option ℕ) (any : Bool) → is_some place ≡ any → is_some (option_map suc place) ≡ any

@@ -1,4 +1,5 @@
 pub mod Listed
-pub mod Places
 pub mod Digests
+pub mod Places
 pub mod Sieves
+pub mod Chains

@@ -1,4 +1,6 @@
-//! The factors of a digest.
+//! The digest of a key.
+ghost use Rattle.std.specs.Prelude.{◌≡◌, length};
+ghost use Rattle.filter_index.specs.Digests.{digest_of};
 
 /// An odd number for each word of a key, with bits all over, so that each bit of a word changes many of the
 /// product (this project's own).
@@ -21,3 +23,16 @@ pub(crate) const FACTORS: [u64; 14] = [
 
 /// How many words of a mask a sieve looks at, at most (this project's own).
 pub(crate) const SIEVE_WORDS: usize = 4;
+
+/// The digest of a key's words: each times the factor of its place, added up below 2 ^ 64.
+#[inline]
+pub(crate) fn digest(words: &[u64]) -> u64
+    requires { length words.now ≡ 14 }
+    ensures { result ≡ digest_of words.now }
+{
+    let mut sum: u64 = 0;
+    for k in 0..14 {
+        sum = sum.wrapping_add(words[k].wrapping_mul(FACTORS[k]));
+    }
+    sum
+}

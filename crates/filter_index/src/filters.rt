@@ -1,10 +1,14 @@
 //! The filters of one mask, and two indexes beside them.
 ghost use Rattle.std.specs.Prelude.{◌≡◌, ◌<◌, ◌≤◌, ◌++◌, ◌∷◌, [], length, find, option_map, Some, IsSome};
-ghost use Rattle.std.specs.Prelude.{IsOk, IfOk, IfSome, OnOk, OnErr, ◌+◌, true, false, ◌==◌};
+ghost use Rattle.std.specs.Prelude.{IsOk, IfOk, OnOk, OnErr, ◌+◌, true, false, ◌==◌, map};
 ghost use Rattle.std.specs.Option.{option_copied};
 ghost use Rattle.std.specs.List.{list_any};
 ghost use Rattle.filter_index.specs.declared.filter.Filter.{Filter};
+ghost use Rattle.filter_index.specs.Listed.{has_key, those_there, AreApart};
+ghost use Rattle.filter_index.specs.Places.{digest_in};
 
+use crate::chains::Chains;
+use crate::digests::digest;
 use crate::filter::Filter;
 use crate::room::point;
 use flow_fields::Key;
@@ -23,8 +27,8 @@ pub struct Filters {
     slots: Vec<Option<Filter>>,
     // The slot of each handle.
     handles: HashMap<u32, usize>,
-    // The slot of each key.
-    keys: HashMap<[u64; 14], usize>,
+    // The slots of each digest of a key.
+    chains: Chains,
 }
 
 impl Model for Filters {
@@ -38,10 +42,10 @@ impl Model for Filters {
     ghost view = { λ l. record {
       filters = those_there l.slots.items;
       spare = min (vec_capacity l.slots - length l.slots.items)
-          (min (hash_maps.spare l.handles) (hash_maps.spare l.keys));
+          (min (hash_maps.spare l.handles) l.chains.spare);
     } };
 
-    ghost invariant = { λ l. AreIndexed l.handles l.keys l.slots.items };
+    ghost invariant = { λ l. AreIndexed l.handles l.chains.digests l.slots.items };
 }
 
 impl Filters {
@@ -55,7 +59,7 @@ impl Filters {
         Filters {
             slots: Vec::new(alloc),
             handles: HashMap::new(alloc),
-            keys: HashMap::new(alloc),
+            chains: Chains::new(alloc),
         }
     }
 
@@ -69,12 +73,12 @@ impl Filters {
         ensures spare { self.old.spare ≤ self.new.spare }
         ensures enough { 0 < self.old.spare → IsOk result }
     {
-        if let Some(room) = self.room_anew() {
-            return self.move_anew(room);
+        if self.is_sparse() || self.chains.is_full() {
+            return self.move_anew(self.room_anew());
         }
         self.slots.reserve(1)?;
         self.handles.reserve(1)?;
-        self.keys.reserve(1)?;
+        self.chains.reserve()?;
         Ok(())
     }
 
@@ -88,7 +92,7 @@ impl Filters {
     {
         let at = self.slots.len();
         point(&mut self.handles, filter.handle, at);
-        point(&mut self.keys, filter.key.words, at);
+        self.chains.push(digest(&filter.key.words));
         self.slots.push_reserved(Some(filter));
     }
 
@@ -96,8 +100,7 @@ impl Filters {
     pub fn with_key(&self, key: &Key<14>) -> Option<&Filter>
         ensures { option_copied result ≡ find (has_key key.now.words) self.now.filters }
     {
-        let at = *self.keys.get(&key.words)?;
-        self.slots[at].as_ref()
+        with_words(&self.chains, &self.slots, &key.words)
     }
 
     /// The filter with that handle.
@@ -121,7 +124,7 @@ impl Filters {
         let Some(filter) = self.slots[at].take() else {
             unreachable!();
         };
-        self.keys.remove(&filter.key.words);
+        self.chains.remove(digest(&filter.key.words), at);
         filter
     }
 
@@ -168,20 +171,23 @@ impl Filters {
         Ok(Filters {
             slots: Vec::with_capacity(alloc, room)?,
             handles: HashMap::with_capacity(alloc, room)?,
-            keys: HashMap::with_capacity(alloc, room)?,
+            chains: Chains::with_room(alloc, room)?,
         })
     }
 
-    // Twice the room that the filters need, where no slot is left and half of the slots or more are empty.
-    fn room_anew(&self) -> Option<usize>
-        ensures { IfSome result (λ room. (self.now.spare ≡ 0) × (length self.now.filters < room)) }
+    // Whether no slot is left, and half of the slots or more are empty.
+    fn is_sparse(&self) -> bool
+        ensures { result ≡ true → self.now.spare ≡ 0 }
     {
         let slots = self.slots.len();
-        let live = self.len();
-        if slots == 0 || slots < self.slots.capacity() || live > slots / 2 {
-            return None;
-        }
-        Some((live * 2).max(ROOM_LEAST))
+        slots == self.slots.capacity() && self.len() <= slots / 2
+    }
+
+    // Twice the room that the filters need.
+    fn room_anew(&self) -> usize
+        ensures { length self.now.filters < result }
+    {
+        (self.handles.len() * 2).max(ROOM_LEAST)
     }
 
     // Moves the filters together, into room for so many. The room is taken before the first is moved.
@@ -222,5 +228,36 @@ fn exchange_actions(slot: &mut Option<Filter>, actions: Numbers) -> Numbers
     match slot {
         Some(filter) => std::mem::replace(&mut filter.actions, actions),
         None => unreachable!(),
+    }
+}
+
+// The filter with those words for its key.
+#[inline]
+fn with_words<'a>(chains: &Chains, slots: &'a [Option<Filter>], key: &[u64]) -> Option<&'a Filter>
+    requires digests { chains.now.digests ≡ map digest_in slots.now }
+    requires apart { AreApart (those_there slots.now) }
+    requires key { length key.now ≡ 14 }
+    ensures { option_copied result ≡ find (has_key key.now) (those_there slots.now) }
+{
+    let sought = digest(key);
+    let mut at = chains.last(sought);
+    while at != 0 {
+        let slot = (at - 1) as usize;
+        if let Some(filter) = if_words(&slots[slot], key) {
+            return Some(filter);
+        }
+        at = chains.before(sought, slot);
+    }
+    None
+}
+
+// The filter in that slot, if it has those words for its key.
+#[inline]
+fn if_words<'a>(slot: &'a Option<Filter>, key: &[u64]) -> Option<&'a Filter>
+    ensures { option_copied result ≡ find (has_key key.now) (those_there (slot.now ∷ [])) }
+{
+    match slot {
+        Some(filter) if filter.key.words.as_slice() == key => Some(filter),
+        _ => None,
     }
 }

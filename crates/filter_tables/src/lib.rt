@@ -6,6 +6,10 @@
 //! one mask are a `Filters` of `filter_index`. A table has few masks, so a mask is found by going through
 //! them. A table is found by halving, and a filter in its mask by an index.
 //!
+//! A `MaskList` has a sieve beside its filters, in its first 64 bytes: a frame's key is asked there first,
+//! and most keys that meet no filter are told so (`met`). Each filter's key has gone through the sieve, which
+//! is kept by the type. So its fields are private, and the calls that change it stay in this crate.
+//!
 //! Contracts see no more than the lists (specs/Plain.antt), and for how much more there is room at each
 //! place. Each call that changes them says exactly what it leaves: the same lists with one element changed,
 //! put or taken out. Places are counted from 0, and are those that the look-ups answer. A call that changes

@@ -11,21 +11,15 @@ point-requires-clause-new c =
     c.self.invariant.handle_at c.args.filter.handle
     ∙ none_there test c.self.inside.slots.items (ap (λ v. list_any test v.filters) c.self.view_is ∙ c.requires.handle)
 
-pub point-requires-2-clause-new : goal.point-requires-2-clause-new
-point-requires-2-clause-new c =
-    let test = has_key c.args.filter.key.words in
-    c.self.invariant.key_at c.args.filter.key.words
-    ∙ none_there test c.self.inside.slots.items (ap (λ v. list_any test v.filters) c.self.view_is ∙ c.requires.key)
-
 pub invariant_of-self : goal.invariant_of-self
 invariant_of-self c =
     let inside = c.self.inside in
     let f = c.args.filter in
-    rw c.push_reserved.ensures.items
-    (one_more inside.handles inside.keys inside.slots.items c.self.invariant f c.len-at.result c.point.new.index c.point-2.new.index (omega (arith, inside.slots.ok.0, c.len-at.ensures))
+    rw (c.push_reserved.ensures.items, c.push.ensures.digests, c.digest.ensures)
+    (one_more inside.handles inside.chains.digests inside.slots.items c.self.invariant f c.len-at.result c.point.new.index (omega (arith, inside.slots.ok.0, c.len-at.ensures))
     (ap (λ v. list_any (has_handle f.handle) v.filters) c.self.view_is ∙ c.requires.handle)
     (ap (λ v. list_any (has_key f.key.words) v.filters) c.self.view_is ∙ c.requires.key)
-    c.point.ensures.updates.0 c.point-2.ensures.updates.0 c.point.ensures.len)
+    c.point.ensures.updates.0 c.point.ensures.len)
 
 pub returns-clause-filters : goal.returns-clause-filters
 returns-clause-filters c =

@@ -33,7 +33,7 @@ invariant_of-self c =
     let part = cut test slots c.in-Some.at (sym (c.self.invariant.handle_at c.args.handle) ∙ sym c.get.ensures.value ∙ sym c.copied.ensures ∙ c.in-Some.is) in
     let now = changed_there c.index_mut.result.now c.exchange_actions.new.slot part.value c.args.actions c.exchange_actions.ensures.slot
     (value_there test slots c.in-Some.at c.index_mut.result.now part c.index_mut.ensures.value) in
-    rw now (other_actions inside.handles inside.keys slots c.self.invariant c.args.handle c.in-Some.at part c.args.actions)
+    rw now (other_actions inside.handles inside.chains.digests slots c.self.invariant c.args.handle c.in-Some.at part c.args.actions)
 
 pub returns-clause-old : goal.returns-clause-old
 returns-clause-old c =
