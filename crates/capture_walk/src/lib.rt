@@ -7,7 +7,7 @@
 //!
 //! A packet that passed keeps its seconds and fraction. Its original length grows or shrinks with its frame.
 //!
-//! One room serves all walks. How a packet ended takes 20 bytes; one that passed takes 24 more and its frame,
+//! One room serves all walks. How a packet ended takes 20 bytes; one that passed takes 20 more and its frame,
 //! in one buffer. Room for that is taken before the first walk, and more only where frames grow. The counts
 //! have a place for each action that was ever made, by serial.
 //!

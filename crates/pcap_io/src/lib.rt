@@ -11,8 +11,8 @@
 //! buffer of the file and copies no byte; a frame is lent, and its numbers are read from its record. So a
 //! buffer has less than 4 GiB. Contracts see none of this; for them it is a list of `Packet`.
 //!
-//! An output that is made of an input's packets is an `Excerpt`: bytes in pieces, where a packet that stays as
-//! it is takes a stretch of the input's buffer and no copy.
+//! An output that is made of an input's packets is an `Excerpt`: bytes in pieces, where a packet that stays
+//! as it is takes a stretch of the input's buffer and no copy.
 //!
 //! Every call takes plain values and keeps no state, so each may be called from any thread. A value
 //! of `Packets` belongs to one thread at a time, or is read by many.
