@@ -1,4 +1,4 @@
-//! The places of entries in the list, found by halving.
+//! The places of entries in the list.
 ghost use Rattle.std.specs.Prelude.{◌≡◌, ◌<◌, IfSome};
 ghost use Rattle.std.specs.List.{AllPairs};
 ghost use Rattle.std.specs.Option.{IfNone};
@@ -9,8 +9,21 @@ ghost use Rattle.act_registry.specs.OnePlace.{OnlyAt, NoPlace};
 use crate::entry::{Entry, Kinded};
 use crate::names::{Name, serial_of};
 
-/// The place of the entry with that serial.
+/// The place of the entry with that serial. Serials are given from 1 in order: until an action goes, each
+/// stands one place before its number, so that place is looked at first.
 pub(crate) fn place_of_serial<P>(entries: &[Entry<P>], serial: u32) -> Option<usize>
+    requires { AreRising entries.now }
+    ensures here { IfSome result (λ at. OnlyAt (has_serial serial) entries.now at) }
+    ensures none { IfNone result (NoPlace (has_serial serial) entries.now) }
+{
+    let likely = (serial as usize).saturating_sub(1);
+    match entries.get(likely) {
+        Some(entry) if entry.serial == serial => Some(likely),
+        _ => place_by_halving(entries, serial),
+    }
+}
+
+fn place_by_halving<P>(entries: &[Entry<P>], serial: u32) -> Option<usize>
     requires { AreRising entries.now }
     ensures here { IfSome result (λ at. OnlyAt (has_serial serial) entries.now at) }
     ensures none { IfNone result (NoPlace (has_serial serial) entries.now) }

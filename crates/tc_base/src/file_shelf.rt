@@ -4,13 +4,16 @@ ghost use Rattle.std.specs.Option.{option_map};
 ghost use Rattle.tc_base.specs.Counts.{count_after_fetch, name_after_fetch};
 
 use crate::faults::Faults;
-use crate::{Fetch, Put, Shelf};
+use crate::{Fetch, Pieces, Put, Shelf};
 use std::fs::{self, OpenFile};
-use std::io::{self, ErrorKind, Read};
+use std::io::{self, BufWriter, ErrorKind, Read, Write};
 use std::rt::Files;
 
 /// The longest file that is read, in bytes. A length then fits 32 bits, and a fetch ends.
 const MOST_BYTES: u64 = 4_294_967_295;
+
+/// The bytes that pieces are gathered up to before they are written.
+const BUFFER: usize = 256 * 1024;
 
 /// The files of the system, by path.
 ///
@@ -57,6 +60,22 @@ impl<R: Files + AllocGlobal> Shelf for FileShelf<'_, R> {
             Err(_) => Err(self.faults.put_failed()),
         }
     }
+
+    fn put_pieces(&mut self, name: &str, pieces: &Pieces<'_>) -> Result<(), Put> {
+        match write_pieces(self.rt, name, pieces) {
+            Ok(()) => Ok(()),
+            Err(_) => Err(self.faults.put_failed()),
+        }
+    }
+}
+
+// Replaces a file by these pieces. Short ones go out together.
+fn write_pieces<R: Files + AllocGlobal>(rt: &R, name: &str, pieces: &Pieces<'_>) -> io::Result<()> {
+    let mut out = BufWriter::with_capacity(rt.alloc(), BUFFER, fs::create(rt, name)?)?;
+    for index in 0..pieces.len() {
+        out.write_all(pieces.piece(index))?;
+    }
+    out.flush()
 }
 
 // What a fetch of `name` answers after this read. Want of memory is no fault of the file.
@@ -114,13 +133,28 @@ mod tests {
             shelf.put(path.as_str(), bytes)?;
             assert_eq!(rt; shelf.fetch(path.as_str())?.as_slice(), bytes);
         }
+        let mut pieces = Pieces::over(rt.alloc(), b"input");
+        pieces.lend(0, 2)?;
+        pieces.lend(2, 3)?;
+        pieces.lend(4, 5)?;
+        pieces.push(b"-own")?;
+        assert_eq!(rt; pieces.len(), 3);
+        shelf.put_pieces(path.as_str(), &pieces)?;
+        assert_eq!(rt;
+            shelf.fetch(path.as_str())?.as_slice(),
+            b"inpt-own".as_slice()
+        );
         fs::create(&rt, path.as_path())?.set_len(MOST_BYTES + 1)?;
         for bad in [path.as_str(), missing.as_str(), folder.as_str()] {
             assert_eq!(rt; shelf.fetch(bad).err(), Some(Fetch::Failed), "{bad}");
         }
         fs::remove_file(&rt, path.as_path())?;
         assert_eq!(rt; shelf.put(folder.as_str(), b""), Err(Put::Failed));
-        assert_eq!(rt; (shelf.faults.read, shelf.faults.write), (3, 1));
+        assert_eq!(rt;
+            shelf.put_pieces(folder.as_str(), &pieces),
+            Err(Put::Failed)
+        );
+        assert_eq!(rt; (shelf.faults.read, shelf.faults.write), (3, 2));
         Ok(())
     }
 }

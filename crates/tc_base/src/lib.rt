@@ -32,6 +32,7 @@ mod lists;
 mod mem_shelf;
 mod mem_sink;
 mod outside;
+mod pieces;
 mod std_sink;
 mod tender;
 #[cfg(test)]
@@ -45,5 +46,6 @@ pub use lists::{Bytes, Files, Numbers, Pairs};
 pub use mem_shelf::MemShelf;
 pub use mem_sink::MemSink;
 pub use outside::{Fetch, NoMemory, Put, Shelf, Sink};
+pub use pieces::Pieces;
 pub use std_sink::StdSink;
 pub use tender::{NoTender, Tender};

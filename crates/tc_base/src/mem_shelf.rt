@@ -5,16 +5,17 @@ ghost use Rattle.tc_base.specs.Outside.{Fetched, FetchCounts, OthersStay, Stands
 ghost use Rattle.tc_base.specs.MemShelf.{held_in, held_of, calls_of, fails_of, read_faults_of};
 ghost use Rattle.tc_base.specs.MemShelf.{write_faults_of, failed_name_of, fails_next, FetchAnswers};
 ghost use Rattle.tc_base.specs.MemShelf.{CountsStay};
+ghost use Rattle.tc_base.specs.Pieces.{joined};
 
 use crate::calls::Calls;
 use crate::faults::Faults;
-use crate::{Fetch, NoMemory, Numbers, Put, Shelf};
+use crate::{Fetch, NoMemory, Numbers, Pieces, Put, Shelf};
 use std::alloc::{AllocError, Global};
 use std::collections::BTreeMap;
 
 /// A shelf in memory, which tells all that it holds and fails where it is told to.
 ///
-/// `fetch` and `put` are numbered together from 1, each as soon as it is called, also where it
+/// `fetch`, `put` and `put_pieces` are numbered together from 1, each as soon as it is called, also where it
 /// then wants memory. `insert` and `get` have no number and never fail. A call whose number is
 /// listed is answered `Failed`, unless a fetch first wants memory for the copy of its name.
 #[derive(Drop)]
@@ -119,6 +120,27 @@ impl Shelf for MemShelf {
             return Err(self.faults.put_failed());
         }
         Ok(store(self.alloc, &mut self.files, name, bytes)?)
+    }
+
+    fn put_pieces(&mut self, name: &str, pieces: &Pieces<'_>) -> Result<(), Put>
+        ensures stands { OnOk result (Stands (Some (held_of self.new)) name.now (joined pieces.now.pieces)) }
+        ensures others { OthersStay (Some (held_of self.old)) (Some (held_of self.new)) name.now }
+        ensures counts { PutCounts (write_faults_of self.old) (write_faults_of self.new) result }
+        ensures read_faults { read_faults_of self.new ≡ read_faults_of self.old }
+        ensures failed_name { failed_name_of self.new ≡ failed_name_of self.old }
+
+        // It is numbered as a put, and fails as one.
+        ensures failed { IsErrOf result Put.Failed ↔ IsTrue (fails_next self.old) }
+        ensures err { OnErr result (held_of self.new ≡ held_of self.old) }
+        ensures write_faults { write_faults_of self.new ≡ count_after_put (write_faults_of self.old) result }
+        ensures calls { calls_of self.new ≡ one_more (calls_of self.old) }
+        ensures fails { fails_of self.new ≡ fails_of self.old }
+    {
+        if self.calls.next_fails() {
+            return Err(self.faults.put_failed());
+        }
+        let bytes = pieces.joined()?;
+        Ok(store(self.alloc, &mut self.files, name, &bytes)?)
     }
 }
 

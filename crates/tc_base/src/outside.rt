@@ -2,6 +2,7 @@ ghost use Rattle.std.specs.Prelude.{◌≡◌, ℕ, List, Option, OnOk};
 ghost use Rattle.tc_base.specs.declared.outside.Fetch.TheVariants as fetches;
 ghost use Rattle.tc_base.specs.declared.outside.Put.TheVariants as puts;
 
+use crate::Pieces;
 use std::alloc::{AllocError, AllocFailed};
 
 /// Memory was refused.
@@ -35,6 +36,14 @@ impl From<AllocError> for NoMemory {
 impl<T: Drop> From<AllocFailed<T>> for NoMemory {
     fn from(_: AllocFailed<T>) -> Self {
         NoMemory
+    }
+}
+
+impl From<NoMemory> for Put {
+    ghost from_gives = { λ _ e. e ≡ puts.NoMemory };
+
+    fn from(_: NoMemory) -> Self {
+        Put::NoMemory
     }
 }
 
@@ -76,6 +85,7 @@ impl<T: Drop> From<AllocFailed<T>> for Put {
 /// refused copy is `NoMemory`, and then nothing was read.
 pub trait Shelf {
     ghost use Rattle.tc_base.specs.Outside.{Held, Fetched, FetchCounts, OthersStay, Stands, PutCounts};
+    ghost use Rattle.tc_base.specs.Pieces.{joined};
 
     // What is held under each name, where the shelf tells it.
     ghost held: { Self → Option Held };
@@ -110,6 +120,19 @@ pub trait Shelf {
         ensures counts { PutCounts (write_faults self.old) (write_faults self.new) result }
         ensures read_faults { read_faults self.new ≡ read_faults self.old }
         ensures failed_name { failed_name self.new ≡ failed_name self.old };
+
+    /// Holds the bytes of these pieces, joined, under the name: a `put` of them, which a shelf may make
+    /// without a copy. What isn't said otherwise joins them, and puts that.
+    fn put_pieces(&mut self, name: &str, pieces: &Pieces<'_>) -> Result<(), Put>
+        ensures stands { OnOk result (Stands (held self.new) name.now (joined pieces.now.pieces)) }
+        ensures others { OthersStay (held self.old) (held self.new) name.now }
+        ensures counts { PutCounts (write_faults self.old) (write_faults self.new) result }
+        ensures read_faults { read_faults self.new ≡ read_faults self.old }
+        ensures failed_name { failed_name self.new ≡ failed_name self.old }
+    {
+        let bytes = pieces.joined()?;
+        self.put(name, &bytes)
+    }
 }
 
 /// Bytes that are written one piece after another.
