@@ -43,12 +43,12 @@ closing_told ran outcomes closing accepted made stop ends counts e m s n k back 
 -- the parts of the text, as they were told of a run, are those of its outcome
 pub whole_text : (ran : Ran) (outcomes : List Outcome) (text : WalkText) (accepted : ℕ) (stop : Option Stop) (ends : List PacketEnd)
     → accepted ≡ ran.accepted → stop ≡ ran.stop → ends ≡ map end_of outcomes
-    → text.stop.items ≡ stop_shown accepted stop → text.ends.items ≡ ends → text.closing.items ≡ closing_after ran outcomes
+    → text.stop.items ≡ stop_shown accepted stop → text.ends ≡ ends → text.closing.items ≡ closing_after ran outcomes
     → told_text text ≡ text_after ran outcomes
 whole_text ran outcomes text accepted stop ends e s n front middle back =
     let first : text.stop.items ≡ stop_shown ran.accepted ran.stop = front ∙ ap (λ (a : ℕ). stop_shown a stop) e ∙ ap (stop_shown ran.accepted) s in
-    let second : text.ends.items ≡ map end_of outcomes = middle ∙ n in
-    ap (λ (x : List ℕ). x ++ joined (packet_lines 1 text.ends.items) ++ text.closing.items) first
+    let second : text.ends ≡ map end_of outcomes = middle ∙ n in
+    ap (λ (x : List ℕ). x ++ joined (packet_lines 1 text.ends) ++ text.closing.items) first
     ∙ ap (λ (x : List PacketEnd). stop_shown ran.accepted ran.stop ++ joined (packet_lines 1 x) ++ text.closing.items) second
     ∙ ap (λ (x : List ℕ). stop_shown ran.accepted ran.stop ++ joined (packet_lines 1 (map end_of outcomes)) ++ x) back
 

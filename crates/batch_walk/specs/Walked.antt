@@ -55,7 +55,7 @@ closing_text ran hook packets = closing_after ran (outcomes_of ran.state hook pa
 
 -- the text of these parts
 abbrev pub told_text : WalkText → List ℕ
-told_text text = text.stop.items ++ joined (packet_lines 1 text.ends.items) ++ text.closing.items
+told_text text = text.stop.items ++ joined (packet_lines 1 text.ends) ++ text.closing.items
 
 -- what is put and written is what the batch that ran gives
 pub record IsWalked (ran : Ran) (hook : Hook) (packets : List Packet) (walk : BatchWalk) : Type 0 where

@@ -14,7 +14,7 @@ ghost use Rattle.batch_walk.specs.Walked.{passed_count, summary_of, IsWalked};
 use crate::closing::{Summary, closing_text};
 use batch_run::{BatchRun, run_batch};
 use batch_show::push_stop;
-use capture_walk::{Count, PacketEnd, WalkedCapture, walk_capture};
+use capture_walk::{Count, Ends, WalkedCapture, walk_capture};
 use pcap_io::Packets;
 use std::alloc::Global;
 use tc_base::{Hook, NoMemory};
@@ -26,7 +26,7 @@ pub struct WalkText {
     /// The refused line, or nothing.
     pub stop: Vec<u8>,
     /// How each packet ended, in order.
-    pub ends: Vec<PacketEnd>,
+    pub ends: Ends,
     /// The lines behind the packets' lines.
     pub closing: Vec<u8>,
 }
@@ -41,7 +41,7 @@ pub struct BatchWalk {
     pub refused: bool,
 }
 
-fn count_passed(ends: &[PacketEnd]) -> usize
+fn count_passed(ends: &Ends) -> usize
     ensures value { result ≡ passed_count ends.now }
     ensures within { result ≤ length ends.now }
 {
@@ -50,9 +50,10 @@ fn count_passed(ends: &[PacketEnd]) -> usize
         .count()
 }
 
-fn summary_of(run: &BatchRun, ends: &[PacketEnd]) -> Summary
+fn summary_of(run: &BatchRun, ends: &Ends) -> Summary
     ensures value { result ≡ summary_of run.now.accepted (is_some run.now.stop) ends.now }
     ensures within { result.passed + result.dropped ≡ length ends.now }
+    ensures few { result.passed + result.dropped < 2 ^ 64 }
 {
     let passed = count_passed(ends);
     Summary {
@@ -67,16 +68,15 @@ fn summary_of(run: &BatchRun, ends: &[PacketEnd]) -> Summary
 fn text_of(
     alloc: Global,
     run: &BatchRun,
-    ends: Vec<PacketEnd>,
+    ends: Ends,
     counts: &[Count],
 ) -> Result<WalkText, NoMemory>
     requires counts { All (HasCount (length counts.now)) run.now.made.items }
-    requires few { length ends.items < 2 ^ 64 }
     ensures stop { IfOk result (λ text. text.stop.items ≡ stop_shown run.now.accepted run.now.stop) }
-    ensures ends { IfOk result (λ text. text.ends.items ≡ ends.items) }
+    ensures ends { IfOk result (λ text. text.ends ≡ ends) }
     ensures closing { IfOk result (λ text. text.closing.items
         ≡ joined (closing_lines run.now.made.items counts.now
-        (summary_of run.now.accepted (is_some run.now.stop) ends.items))) }
+        (summary_of run.now.accepted (is_some run.now.stop) ends))) }
 {
     let mut stop = Vec::new(alloc);
     push_stop(&mut stop, run.accepted, &run.stop)?;

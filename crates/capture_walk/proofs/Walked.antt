@@ -20,7 +20,7 @@ use Rattle.capture_walk.proofs.Counting.{counts-append}
 
 -- this is what the walks of these packets leave
 pub record IsWalked (s : State) (hook : Hook) (packets : List Packet) (walked : WalkedCapture) : Type 0 where
-  pub ends : walked.ends.items ≡ map end_of (outcomes_of s hook packets)
+  pub ends : walked.ends ≡ map end_of (outcomes_of s hook packets)
   pub passed : walked.passed ≡ passed s hook packets
   pub counts : walked.counts.items ≡ counts_of s.actions_made (executed_in (outcomes_of s hook packets))
 
@@ -73,7 +73,7 @@ counts-added s hook packets i p old new at added so_far =
 pub walked-more : (s : State) (hook : Hook) (packets : List Packet) (i : ℕ) (p : Packet) (old new : WalkedCapture) → slice_get packets i ≡ Some p →
     IsAdded p old new (plain_walk s hook p.bytes) → IsWalked s hook (take i packets) old → IsWalked s hook (take (i + 1) packets) new
 walked-more s hook packets i p old new at added so_far = record {
-  ends = ends-added s hook packets i p old.ends.items new.ends.items at added.ends so_far.ends;
+  ends = ends-added s hook packets i p old.ends new.ends at added.ends so_far.ends;
   passed =
       added.passed ∙ ap (λ (ps : List Packet). ps ++ passed_one p (plain_walk s hook p.bytes)) so_far.passed ∙ sym (passed-more s hook packets i p at);
   counts = counts-added s hook packets i p old.counts.items new.counts.items at added.counts so_far.counts;

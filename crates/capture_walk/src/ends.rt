@@ -15,13 +15,15 @@ pub struct PacketEnd {
 }
 
 impl PacketEnd {
-    ghost use Rattle.std.specs.Prelude.{◌≡◌, IfSome};
+    ghost use Rattle.frame_edit.specs.declared.limits.TheConstants.{FRAME_MAX};
+    ghost use Rattle.std.specs.Prelude.{◌≡◌, ◌≤◌, IfSome};
     ghost use Rattle.walk_rules.specs.Walks.{outcome_of};
     ghost use Rattle.capture_walk.specs.Captures.{end_of};
 
     /// How this walk ended.
     pub(crate) fn of_walk(walk: &Walk) -> PacketEnd
-        ensures { IfSome (outcome_of walk.now.standing) (λ outcome. result ≡ end_of outcome) }
+        ensures end { IfSome (outcome_of walk.now.standing) (λ outcome. result ≡ end_of outcome) }
+        ensures short { result.length ≤ FRAME_MAX }
     {
         PacketEnd {
             verdict: walk.verdict(),

@@ -7,20 +7,26 @@
 //!
 //! A packet that passed keeps its seconds and fraction. Its original length grows or shrinks with its frame.
 //!
-//! One room serves all walks. How a packet ended takes 20 bytes; one that passed takes 24 more and its frame,
-//! in one buffer. Room for that is taken before the first walk, and more only where frames grow. The counts
-//! have a place for each action that was ever made, by serial.
+//! One room serves all walks. How a packet ended takes 4 bytes, and 12 more where its metadata isn't 0
+//! (`Ends`); one that passed takes 20 more and its frame, in one buffer. Room for that is taken before the
+//! first walk, and more only where frames grow. The counts have a place for each action that was ever made,
+//! by serial.
 //!
 //! One thread calls this, and it keeps nothing between calls. Not promised: that memory suffices, and how
 //! long it takes.
 #![tactic(auto)]
 
 mod counts;
+mod end_iter;
+mod end_list;
+mod end_words;
 mod ends;
 mod limits;
 mod walking;
 
 pub use counts::Count;
+pub use end_iter::EndIter;
+pub use end_list::Ends;
 pub use ends::PacketEnd;
 pub use limits::PACKETS_MAX;
 pub use walking::{WalkedCapture, walk_capture};

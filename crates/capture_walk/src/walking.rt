@@ -11,6 +11,7 @@ ghost use Rattle.capture_walk.specs.Captures.{outcomes_of, end_of, passed, count
 ghost use Rattle.capture_walk.specs.Captures.{passed_one, regrown};
 
 use crate::counts::{Count, add_executed, no_counts};
+use crate::end_list::Ends;
 use crate::ends::PacketEnd;
 use classify_walk::walk_still;
 use filter_lists::Lists;
@@ -24,7 +25,7 @@ use walk_steps::Walk;
 #[derive(Drop)]
 pub struct WalkedCapture {
     /// How each packet's walk ended, in order.
-    pub ends: Vec<PacketEnd>,
+    pub ends: Ends,
     /// The packets that passed, in order, with their frames as they then were.
     pub passed: Packets,
     /// How often each action ran, by serial from 1.
@@ -44,12 +45,12 @@ impl WalkedCapture {
 
     // Nothing was walked yet: room for the packets, and a count for each of so many actions.
     fn with_room(alloc: Global, packets: &Packets, actions: u32) -> Result<WalkedCapture, NoMemory>
-        ensures ends { IfOk result (λ w. w.ends.items ≡ []) }
+        ensures ends { IfOk result (λ w. w.ends ≡ []) }
         ensures passed { IfOk result (λ w. w.passed ≡ []) }
         ensures counts { IfOk result (λ w. w.counts.items ≡ no_counts actions) }
     {
         Ok(WalkedCapture {
-            ends: Vec::with_capacity(alloc, packets.len())?,
+            ends: Ends::with_room(alloc, packets.len())?,
             passed: Packets::with_room(alloc, packets.len(), packets.byte_count())?,
             counts: no_counts(alloc, actions)?,
         })
@@ -83,7 +84,7 @@ pub fn walk_capture(
     requires few { length packets.now ≤ PACKETS_MAX }
     requires short { AreShort packets.now }
     ensures ends { IfOk result (λ w. (s : State) → Spells lists.now s
-        → w.ends.items ≡ map end_of (outcomes_of s hook packets.now)) }
+        → w.ends ≡ map end_of (outcomes_of s hook packets.now)) }
     ensures passed { IfOk result (λ w. (s : State) → Spells lists.now s
         → w.passed ≡ passed s hook packets.now) }
     ensures short { IfOk result (λ w. AreShort w.passed) }

@@ -20,11 +20,11 @@ returns-clause-walked c =
     let text = c.in_ok-text.ensures in
     let outcomes = outcomes_of ran.state c.args.hook c.args.packets.now in
     let ends = c.in_ok-ends.ensures.ends ran.state run.1 in
-    let closing = closing_told ran outcomes c.in_ok-text.text.closing.items c.in_ok-run.run'.accepted c.in_ok-run.run'.made.items c.in_ok-run.run'.stop c.in_ok-ends.field-0.ends.items c.deref.result.now
+    let closing = closing_told ran outcomes c.in_ok-text.text.closing.items c.in_ok-run.run'.accepted c.in_ok-run.run'.made.items c.in_ok-run.run'.stop c.in_ok-ends.field-0.ends c.deref.result.now
     run.2 run.3 run.4 ends (c.deref.ensures.value ∙ c.in_ok-ends.ensures.counts ran.state run.1) text.closing in (
       ran,
       run.5,
       is_walked ran c.args.hook c.args.packets.now _ (c.in_ok-ends.ensures.passed ran.state run.1)
-          (whole_text ran outcomes c.in_ok-text.text c.in_ok-run.run'.accepted c.in_ok-run.run'.stop c.in_ok-ends.field-0.ends.items run.2 run.4 ends text.stop text.ends closing)
+          (whole_text ran outcomes c.in_ok-text.text c.in_ok-run.run'.accepted c.in_ok-run.run'.stop c.in_ok-ends.field-0.ends run.2 run.4 ends text.stop text.ends closing)
           closing (c.is_some.ensures ∙ ap is_some run.4),
     )
