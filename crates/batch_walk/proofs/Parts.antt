@@ -3,7 +3,9 @@ use Rattle.std.proofs.Common.{◌≡◌, ◌∙◌, ℕ, zero, suc, ◌+◌, ◌
 use Rattle.std.specs.Prelude.{map, is_some}
 use Rattle.std.specs.List.{All}
 use Rattle.tc_base.specs.declared.hook.Hook.{Hook}
-use Rattle.pcap_io.specs.declared.capture.Packet.{Packet}
+use Rattle.tc_base.specs.Pieces.{joined as joined_pieces}
+use Rattle.pcap_io.specs.declared.capture.Capture.{Capture}
+use Rattle.pcap_io.specs.Written.{capture_bytes}
 use Rattle.walk_rules.specs.Steps.{Execution}
 use Rattle.walk_rules.specs.Walks.{Outcome}
 use Rattle.batch_run.specs.declared.made_action.MadeAction.{MadeAction}
@@ -12,7 +14,7 @@ use Rattle.batch_run.specs.Runs.{Ran}
 use Rattle.batch_show.specs.Shown.{stop_shown}
 use Rattle.capture_walk.specs.declared.counts.Count.{Count}
 use Rattle.capture_walk.specs.declared.ends.PacketEnd.{PacketEnd}
-use Rattle.capture_walk.specs.Captures.{outcomes_of, end_of, passed, counts_from, counts_of, executed_in}
+use Rattle.capture_walk.specs.Captures.{outcomes_of, end_of, output_of, counts_from, counts_of, executed_in}
 use Rattle.batch_walk.specs.declared.walk.WalkText.{WalkText}
 use Rattle.batch_walk.specs.declared.walk.BatchWalk.{BatchWalk}
 use Rattle.batch_walk.specs.Texts.{joined, packet_lines, closing_lines, HasCount}
@@ -53,8 +55,8 @@ whole_text ran outcomes text accepted stop ends e s n front middle back =
     ∙ ap (λ (x : List ℕ). stop_shown ran.accepted ran.stop ++ joined (packet_lines 1 (map end_of outcomes)) ++ x) back
 
 -- what a walk tells of a run is what the batch gives
-pub is_walked : (ran : Ran) (hook : Hook) (packets : List Packet) (walk : BatchWalk) → walk.passed ≡ passed ran.state hook packets
-    → told_text walk.text ≡ text_after ran (outcomes_of ran.state hook packets) → walk.text.closing.items ≡ closing_after ran (outcomes_of ran.state hook packets)
-    → walk.refused ≡ is_some ran.stop → IsWalked ran hook packets walk
+pub is_walked : (ran : Ran) (hook : Hook) (capture : Capture) (walk : BatchWalk) → joined_pieces walk.output.pieces ≡ capture_bytes (output_of ran.state hook capture)
+    → told_text walk.text ≡ text_after ran (outcomes_of ran.state hook capture.packets) → walk.text.closing.items ≡ closing_after ran (outcomes_of ran.state hook capture.packets)
+    → walk.refused ≡ is_some ran.stop → IsWalked ran hook capture walk
 unfolding walk_text closing_text
-is_walked ran hook packets walk pass text closing refused = record { passed = pass; text = text; closing = closing; refused = refused }
+is_walked ran hook capture walk output text closing refused = record { output = output; text = text; closing = closing; refused = refused }

@@ -15,9 +15,9 @@ use crate::closing::{Summary, closing_text};
 use batch_run::{BatchRun, run_batch};
 use batch_show::push_stop;
 use capture_walk::{Count, Ends, WalkedCapture, walk_capture};
-use pcap_io::Packets;
+use pcap_io::Capture;
 use std::alloc::Global;
-use tc_base::{Hook, NoMemory};
+use tc_base::{Hook, NoMemory, Pieces};
 use walk_rules::Verdict;
 
 /// What `walk` writes. The packets' lines stand between the two texts, and are made as they are written.
@@ -33,9 +33,9 @@ pub struct WalkText {
 
 /// What `walk` puts and writes for a batch and a capture.
 #[derive(Drop)]
-pub struct BatchWalk {
-    /// The packets that passed, in order, as their walks left them.
-    pub passed: Packets,
+pub struct BatchWalk<'a> {
+    /// The bytes of a capture of the packets that passed, in order, as their walks left them.
+    pub output: Pieces<'a>,
     pub text: WalkText,
     /// Whether a line was refused.
     pub refused: bool,
@@ -93,28 +93,27 @@ fn text_of(
 /// writes.
 ///
 /// `NoMemory`: memory was refused.
-pub fn walk_batch(
+pub fn walk_batch<'a>(
     alloc: Global,
     texts: &[&[u8]],
     hook: Hook,
-    packets: &Packets,
-) -> Result<BatchWalk, NoMemory>
+    capture: &'a Capture,
+) -> Result<BatchWalk<'a>, NoMemory>
     requires commands { length (commands_in texts.now) ≤ COMMANDS_MAX }
-    requires few { length packets.now ≤ PACKETS_MAX }
-    requires short { AreShort packets.now }
-    ensures walked { IfOk result (λ w. (ran : Ran) × IsRun no_state 0 (commands_in texts.now) ran
-        × IsWalked ran hook packets.now w) }
-    ensures short { IfOk result (λ w. AreShort w.passed) }
+    requires few { length capture.now.packets ≤ PACKETS_MAX }
+    requires short { AreShort capture.now.packets }
+    ensures { IfOk result (λ w. (ran : Ran) × IsRun no_state 0 (commands_in texts.now) ran
+        × IsWalked ran hook capture.now w) }
 {
     let run = run_batch(alloc, texts)?;
     let WalkedCapture {
         ends,
-        passed,
+        output,
         counts,
-    } = walk_capture(alloc, &run.lists, hook, packets)?;
+    } = walk_capture(alloc, &run.lists, hook, capture)?;
     let text = text_of(alloc, &run, ends, &counts)?;
     Ok(BatchWalk {
-        passed,
+        output,
         text,
         refused: run.stop.is_some(),
     })
