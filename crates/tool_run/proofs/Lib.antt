@@ -1,3 +1,4 @@
+pub mod CountUp
 pub mod Due
 pub mod Exact
 pub mod Generating

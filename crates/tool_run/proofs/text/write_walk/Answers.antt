@@ -7,7 +7,7 @@ returns-in_err-write_text-clause-up_to g c =
     let text = c.args.text.now in
     AppendsUpTo-more _ _ _ text.closing.items
     (AppendsUpTo-more (g.O.Sink.written c.args.out.now) (g.O.Sink.written c.write_text.new.out) _
-    (joined (packet_lines 1 text.ends.items)) (rw c.deref.ensures.value at c.write_text.ensures.up_to))
+    (joined (packet_lines 1 text.ends)) (rw c.deref.ensures.value at c.write_text.ensures.up_to))
 
 pub returns-in_err-write_packets-clause-up_to : goal.returns-in_err-write_packets-clause-up_to
 returns-in_err-write_packets-clause-up_to g c =
