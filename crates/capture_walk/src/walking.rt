@@ -77,7 +77,7 @@ impl<'a> Leaving<'a> {
     ) -> Result<(), NoMemory>
         requires room { Each HasRoomForRun self.old.counts.items }
         requires short { length packet.bytes.now ≤ FRAME_MAX }
-        requires place { slice_get self.old.output.of.packets index ≡ Some (packet_of packet.entry) }
+        requires place { slice_get self.old.output.of.packets index ≡ Some (packet_of packet) }
         ensures added { OnOk result (IsAdded (packet_of packet.entry) self.old self.new
             (walked_from (packet_of packet.entry).bytes walk.now)) }
         ensures of { self.new.output.of ≡ self.old.output.of }
@@ -135,7 +135,7 @@ fn keep(
     packet: PacketView<'_>,
 ) -> Result<(), NoMemory>
     requires short { length packet.bytes.now ≤ FRAME_MAX }
-    requires place { slice_get output.old.of.packets index ≡ Some (packet_of packet.entry) }
+    requires place { slice_get output.old.of.packets index ≡ Some (packet_of packet) }
     ensures of { output.new.of ≡ output.old.of }
     ensures kept { OnOk result (output.new.bytes ≡ output.old.bytes
         ++ flat_map (packet_bytes output.old.of.big)
