@@ -1,4 +1,3 @@
-pub mod CountUp
 pub mod Due
 pub mod Exact
 pub mod Generating

@@ -1,7 +1,6 @@
 pub mod Broken
 pub mod Causes
 pub mod Delivered
-pub mod Endings
 pub mod Holdings
 pub mod Made
 pub mod Parts

@@ -23,6 +23,5 @@ mod run_show;
 mod run_walk;
 mod serving;
 mod text;
-mod told_end;
 
 pub use serving::{obey, plain};
