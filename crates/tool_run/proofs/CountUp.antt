@@ -22,21 +22,21 @@ more_digits n front digit fits more is =
 pub last_up : (n : ℕ) (front : List ℕ) (digit : ℕ) → n + 1 < 2 ^ 64 → decimal n ≡ front ++ digit ∷ [] → digit < 57 → decimal (n + 1) ≡ front ++ (digit + 1) ∷ []
 last_up n front digit fits is low = elim (few_or_more n) as (λ _. decimal (n + 1) ≡ front ++ (digit + 1) ∷ []) [
   | inl few ↦
-    (let same = same_from_push [] front (48 + n) digit (sym (decimal_digit n few) ∙ is) in
-    let value : 48 + n ≡ digit = same.1 in
-    let next : 48 + (n + 1) ≡ digit + 1 = omega arith in
-    decimal_digit (n + 1) (omega arith)
-    ∙ ap (λ (x : ℕ). x ∷ []) next
-    ∙ ap (λ (xs : List ℕ). xs ++ (digit + 1) ∷ []) same.0)
+      (let same = same_from_push [] front (48 + n) digit (sym (decimal_digit n few) ∙ is) in
+      let value : 48 + n ≡ digit = same.1 in
+      let next : 48 + (n + 1) ≡ digit + 1 = omega arith in
+      decimal_digit (n + 1) (omega arith)
+      ∙ ap (λ (x : ℕ). x ∷ []) next
+      ∙ ap (λ (xs : List ℕ). xs ++ (digit + 1) ∷ []) same.0)
   | inr more ↦
-    (let ends = more_digits n front digit (omega arith) more is in
-    let value = ends.digit in
-    let tens : (n + 1) / 10 ≡ n / 10 = omega arith in
-    let ones : 48 + (n + 1) % 10 ≡ digit + 1 = omega arith in
-    decimal_step (n + 1) (omega arith) fits
-    ∙ ap (λ (x : ℕ). decimal x ++ (48 + (n + 1) % 10) ∷ []) tens
-    ∙ ap (λ (x : ℕ). decimal (n / 10) ++ x ∷ []) ones
-    ∙ ap (λ (xs : List ℕ). xs ++ (digit + 1) ∷ []) ends.front)
+      (let ends = more_digits n front digit (omega arith) more is in
+      let value = ends.digit in
+      let tens : (n + 1) / 10 ≡ n / 10 = omega arith in
+      let ones : 48 + (n + 1) % 10 ≡ digit + 1 = omega arith in
+      decimal_step (n + 1) (omega arith) fits
+      ∙ ap (λ (x : ℕ). decimal x ++ (48 + (n + 1) % 10) ∷ []) tens
+      ∙ ap (λ (x : ℕ). decimal (n / 10) ++ x ∷ []) ones
+      ∙ ap (λ (xs : List ℕ). xs ++ (digit + 1) ∷ []) ends.front)
 ]
 
 -- the last digit of several is a nine
@@ -45,11 +45,12 @@ nine_up n front fits more is =
     let ends = more_digits n front 57 (omega arith) more is in
     let value = ends.digit in
     let tens : (n + 1) / 10 ≡ n / 10 + 1 = omega arith in
-    let ones : 48 + (n + 1) % 10 ≡ 48 = omega arith in
-    (ends.front,
-    decimal_step (n + 1) (omega arith) fits
-    ∙ ap (λ (x : ℕ). decimal x ++ (48 + (n + 1) % 10) ∷ []) tens
-    ∙ ap (λ (x : ℕ). decimal (n / 10 + 1) ++ x ∷ []) ones)
+    let ones : 48 + (n + 1) % 10 ≡ 48 = omega arith in (
+      ends.front,
+      decimal_step (n + 1) (omega arith) fits
+          ∙ ap (λ (x : ℕ). decimal x ++ (48 + (n + 1) % 10) ∷ []) tens
+          ∙ ap (λ (x : ℕ). decimal (n / 10 + 1) ++ x ∷ []) ones,
+    )
 
 -- a text of several digits is of a number of several
 several : (n : ℕ) (front : List ℕ) (digit : ℕ) → decimal n ≡ front ++ digit ∷ [] → 0 < length front → 10 ≤ n
@@ -78,12 +79,12 @@ counted_at (suc nines) n front digit fits is low =
 pub all_nines : (nines n : ℕ) → n + 1 < 2 ^ 64 → decimal n ≡ replicate (nines + 1) 57 → decimal (n + 1) ≡ 49 ∷ replicate (nines + 1) 48
 all_nines zero n fits is = elim (few_or_more n) as (λ _. decimal (n + 1) ≡ 49 ∷ 48 ∷ []) [
   | inl few ↦
-    (let same = same_from_push [] [] (48 + n) 57 (sym (decimal_digit n few) ∙ is) in
-    let nine : n + 1 ≡ 10 = omega (arith, same.1) in
-    ap decimal nine)
+      (let same = same_from_push [] [] (48 + n) 57 (sym (decimal_digit n few) ∙ is) in
+      let nine : n + 1 ≡ 10 = omega (arith, same.1) in
+      ap decimal nine)
   | inr more ↦
-    (let ends = more_digits n [] 57 (omega arith) more is in
-    absurd (omega (arith, ap length ends.front, decimal_nonempty (n / 10) (omega arith))))
+      (let ends = more_digits n [] 57 (omega arith) more is in
+      absurd (omega (arith, ap length ends.front, decimal_nonempty (n / 10) (omega arith))))
 ]
 all_nines (suc nines) n fits is =
     let split : decimal n ≡ replicate (nines + 1) 57 ++ 57 ∷ [] = is ∙ sym (replicate_more (nines + 1) 57) in

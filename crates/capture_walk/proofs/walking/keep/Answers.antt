@@ -21,7 +21,7 @@ returns-then-is_none-clause-kept c =
     let passes : outcome.verdict ≡ verdicts.Pass = grind (arith, common_steps) in
     let fits : p.original < 2 ^ 32 = omega arith in
     let one : passed_one p outcome ≡ p ∷ [] =
-        ap (λ (verdict : Verdict). passed_by verdict (walked_packet p outcome)) passes ∙ ap (λ (q : Packet). q ∷ []) (same_passed p outcome fits came) in
+    ap (λ (verdict : Verdict). passed_by verdict (walked_packet p outcome)) passes ∙ ap (λ (q : Packet). q ∷ []) (same_passed p outcome fits came) in
     on_ok_weaker c.keep.result
     (λ kept. kept ∙ ap (λ (bytes : List ℕ). c.args.output.now.bytes ++ bytes) (sym (ap (flat_map (packet_bytes big)) one ∙ append-nil (packet_bytes big p))))
     (c.keep.ensures.bytes p c.requires.place)
