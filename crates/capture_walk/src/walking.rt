@@ -144,9 +144,10 @@ fn keep(
     if let Verdict::Drop = walk.verdict() {
         return Ok(());
     }
-    let Some(bytes) = walk.edited() else {
+    if walk.edited().is_none() {
         return output.keep(index);
-    };
+    }
+    let bytes = walk.bytes(packet.bytes);
     output.push(PacketView {
         seconds: packet.seconds,
         fraction: packet.fraction,

@@ -28,7 +28,10 @@ pub(crate) fn mask_serial(kept: &Kept, hook: Hook, seat: &Seat) -> u32
     ensures { IsMaskSerial (tables_on hook (both_of kept.now)) kept.now.masks_made seat.now result }
 {
     match seat {
-        Seat::InMask { table, mask } => mask_at(&table_at(kept, hook, *table).masks, *mask).serial(),
+        Seat::InMask { table, mask } => mask_at(
+            &table_at(kept, hook, *table).masks,
+            *mask,
+        ).serial(),
         Seat::NewMask { .. } => kept.masks_made + 1,
         Seat::NewTable { .. } => kept.masks_made + 1,
     }
