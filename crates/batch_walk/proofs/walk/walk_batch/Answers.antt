@@ -6,8 +6,8 @@ use Rattle.capture_walk.specs.Captures.{outcomes_of, executed_in}
 use Rattle.batch_walk.proofs.Parts.{have_counts, closing_told, whole_text, is_walked}
 use Rattle.batch_walk.proofs.walk.walk_batch.Goals as goal
 
-pub text_of-requires-clause-counts : goal.text_of-requires-clause-counts
-text_of-requires-clause-counts c =
+pub text_of-requires : goal.text_of-requires
+text_of-requires c =
     let run = c.in_ok-run.ensures in
     let ran = run.0 in
     have_counts ran.state.actions_made (executed_in (outcomes_of ran.state c.args.hook c.args.capture.now.packets)) c.deref.result.now ran.made c.in_ok-run.run'.made.items
