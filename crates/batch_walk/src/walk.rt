@@ -45,9 +45,13 @@ fn count_passed(ends: &Ends) -> usize
     ensures value { result ≡ passed_count ends.now }
     ensures within { result ≤ length ends.now }
 {
-    ends.iter()
-        .filter(|end| matches!(end.verdict, Verdict::Pass))
-        .count()
+    let mut passed = 0;
+    for end in ends.iter() {
+        if let Verdict::Pass = end.verdict {
+            passed += 1;
+        }
+    }
+    passed
 }
 
 fn summary_of(run: &BatchRun, ends: &Ends) -> Summary
@@ -71,7 +75,7 @@ fn text_of(
     ends: Ends,
     counts: &[Count],
 ) -> Result<WalkText, NoMemory>
-    requires counts { All (HasCount (length counts.now)) run.now.made.items }
+    requires { All (HasCount (length counts.now)) run.now.made.items }
     ensures stop { IfOk result (λ text. text.stop.items ≡ stop_shown run.now.accepted run.now.stop) }
     ensures ends { IfOk result (λ text. text.ends ≡ ends) }
     ensures closing { IfOk result (λ text. text.closing.items
