@@ -10,10 +10,8 @@ pub text_of-requires : goal.text_of-requires
 text_of-requires c =
     let run = c.in_ok-run.ensures in
     let ran = run.0 in
-    record {
-      counts = have_counts ran.state.actions_made (executed_in (outcomes_of ran.state c.args.hook c.args.capture.now.packets)) c.deref.result.now ran.made c.in_ok-run.run'.made.items
-          (c.deref.ensures.value ∙ c.in_ok-ends.ensures.counts ran.state run.1) run.3 (all_in_range 0 (commands_in c.args.texts.now) ran run.5);
-    }
+    have_counts ran.state.actions_made (executed_in (outcomes_of ran.state c.args.hook c.args.capture.now.packets)) c.deref.result.now ran.made c.in_ok-run.run'.made.items
+    (c.deref.ensures.value ∙ c.in_ok-ends.ensures.counts ran.state run.1) run.3 (all_in_range 0 (commands_in c.args.texts.now) ran run.5)
 
 pub returns : goal.returns
 returns c =
