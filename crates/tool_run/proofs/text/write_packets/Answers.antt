@@ -1,7 +1,7 @@
-use Rattle.std.proofs.Common.{◌≡◌, ◌+◌, ◌++◌, ◌∷◌, List, length, ap, ◌∙◌, arith}
+use Rattle.std.proofs.Common.{◌≡◌, ℕ, ◌+◌, ◌++◌, ◌∷◌, [], List, length, sym, ap, ◌∙◌, append_assoc, arith}
+use Rattle.std.proofs.lemmas.List.{append-nil, length_push}
 use Rattle.tc_base.proofs.Appends.{Appended-then, AppendsUpTo-then, AppendsUpTo-all}
 use Rattle.capture_walk.specs.declared.ends.PacketEnd.{PacketEnd}
-use Rattle.batch_walk.specs.Texts.{joined, packet_lines}
 use Rattle.tool_run.proofs.Lines.{packets_more, packets_rest}
 use Rattle.tool_run.proofs.text.write_packets.Goals as goal
 
@@ -11,18 +11,29 @@ returns-in_err-write_packet-clause-up_to g c =
     let walked = c.loop-end.yielded in
     let number : c.loop-end.number + 1 ≡ 1 + length walked = omega (arith, before.number) in
     let whole = before.whole ∙ ap (λ (rest : List PacketEnd). walked ++ rest) c.in-Some.ensures.steps in
-    rw (whole, packets_rest walked c.in-Some.end _)
+    rw (whole, packets_rest walked c.in-Some.end c.next.new.self)
     (AppendsUpTo-then _ _ _ _ _ _ before.wrote (rw number at c.write_packet.ensures.up_to))
 
 pub loop-end-preserved : goal.loop-end-preserved
 loop-end-preserved g c =
     let before = c.loop-end.invariant in
     let walked = c.loop-end.yielded in
+    let end = c.in-Some.end in
     let number : c.loop-end.number + 1 ≡ 1 + length walked = omega (arith, before.number) in
     record {
-      whole = before.whole ∙ ap (λ (rest : List PacketEnd). walked ++ rest) c.in-Some.ensures.steps ∙ search;
-      number = search (arith);
-      wrote = rw (packets_more walked c.in-Some.end)
+      whole = before.whole ∙ ap (λ (rest : List PacketEnd). walked ++ rest) c.in-Some.ensures.steps
+          ∙ sym (append_assoc walked (end ∷ []) c.next.new.self);
+      number = omega (arith, before.number, length_push walked end);
+      wrote = rw (packets_more walked end)
           (Appended-then _ _ _ _ _ before.wrote (rw number at c.in_ok-write_packet.ensures.all));
       later = omega (arith, c.write_packet.ensures.later, before.later);
     }
+
+pub returns-clause-up_to : goal.returns-clause-up_to
+returns-clause-up_to g c =
+    let before = c.loop-end.invariant in
+    let walked = c.loop-end.yielded in
+    let whole : c.args.ends.now ≡ walked =
+    before.whole ∙ ap (λ (rest : List PacketEnd). walked ++ rest) c.in-None.ensures.steps.0
+    ∙ append-nil walked in
+    rw whole (AppendsUpTo-all _ _ _ before.wrote)
