@@ -3,7 +3,9 @@ use Rattle.std.proofs.Common.{◌≡◌, ◌∙◌, ℕ, zero, suc, ◌+◌, ◌
 use Rattle.std.specs.Prelude.{map, is_some}
 use Rattle.std.specs.List.{All}
 use Rattle.tc_base.specs.declared.hook.Hook.{Hook}
-use Rattle.pcap_io.specs.declared.capture.Packet.{Packet}
+use Rattle.tc_base.specs.Pieces.{joined as joined_pieces}
+use Rattle.pcap_io.specs.declared.capture.Capture.{Capture}
+use Rattle.pcap_io.specs.Written.{capture_bytes}
 use Rattle.walk_rules.specs.Steps.{Execution}
 use Rattle.walk_rules.specs.Walks.{Outcome}
 use Rattle.batch_run.specs.declared.made_action.MadeAction.{MadeAction}
@@ -12,7 +14,7 @@ use Rattle.batch_run.specs.Runs.{Ran}
 use Rattle.batch_show.specs.Shown.{stop_shown}
 use Rattle.capture_walk.specs.declared.counts.Count.{Count}
 use Rattle.capture_walk.specs.declared.ends.PacketEnd.{PacketEnd}
-use Rattle.capture_walk.specs.Captures.{outcomes_of, end_of, passed, counts_from, counts_of, executed_in}
+use Rattle.capture_walk.specs.Captures.{outcomes_of, end_of, output_of, counts_from, counts_of, executed_in}
 use Rattle.batch_walk.specs.declared.walk.WalkText.{WalkText}
 use Rattle.batch_walk.specs.declared.walk.BatchWalk.{BatchWalk}
 use Rattle.batch_walk.specs.Texts.{joined, packet_lines, closing_lines, HasCount}
@@ -43,18 +45,18 @@ closing_told ran outcomes closing accepted made stop ends counts e m s n k back 
 -- the parts of the text, as they were told of a run, are those of its outcome
 pub whole_text : (ran : Ran) (outcomes : List Outcome) (text : WalkText) (accepted : ℕ) (stop : Option Stop) (ends : List PacketEnd)
     → accepted ≡ ran.accepted → stop ≡ ran.stop → ends ≡ map end_of outcomes
-    → text.stop.items ≡ stop_shown accepted stop → text.ends.items ≡ ends → text.closing.items ≡ closing_after ran outcomes
+    → text.stop.items ≡ stop_shown accepted stop → text.ends ≡ ends → text.closing.items ≡ closing_after ran outcomes
     → told_text text ≡ text_after ran outcomes
 whole_text ran outcomes text accepted stop ends e s n front middle back =
     let first : text.stop.items ≡ stop_shown ran.accepted ran.stop = front ∙ ap (λ (a : ℕ). stop_shown a stop) e ∙ ap (stop_shown ran.accepted) s in
-    let second : text.ends.items ≡ map end_of outcomes = middle ∙ n in
-    ap (λ (x : List ℕ). x ++ joined (packet_lines 1 text.ends.items) ++ text.closing.items) first
+    let second : text.ends ≡ map end_of outcomes = middle ∙ n in
+    ap (λ (x : List ℕ). x ++ joined (packet_lines 1 text.ends) ++ text.closing.items) first
     ∙ ap (λ (x : List PacketEnd). stop_shown ran.accepted ran.stop ++ joined (packet_lines 1 x) ++ text.closing.items) second
     ∙ ap (λ (x : List ℕ). stop_shown ran.accepted ran.stop ++ joined (packet_lines 1 (map end_of outcomes)) ++ x) back
 
 -- what a walk tells of a run is what the batch gives
-pub is_walked : (ran : Ran) (hook : Hook) (packets : List Packet) (walk : BatchWalk) → walk.passed ≡ passed ran.state hook packets
-    → told_text walk.text ≡ text_after ran (outcomes_of ran.state hook packets) → walk.text.closing.items ≡ closing_after ran (outcomes_of ran.state hook packets)
-    → walk.refused ≡ is_some ran.stop → IsWalked ran hook packets walk
+pub is_walked : (ran : Ran) (hook : Hook) (capture : Capture) (walk : BatchWalk) → joined_pieces walk.output.pieces ≡ capture_bytes (output_of ran.state hook capture)
+    → told_text walk.text ≡ text_after ran (outcomes_of ran.state hook capture.packets) → walk.text.closing.items ≡ closing_after ran (outcomes_of ran.state hook capture.packets)
+    → walk.refused ≡ is_some ran.stop → IsWalked ran hook capture walk
 unfolding walk_text closing_text
-is_walked ran hook packets walk pass text closing refused = record { passed = pass; text = text; closing = closing; refused = refused }
+is_walked ran hook capture walk output text closing refused = record { output = output; text = text; closing = closing; refused = refused }

@@ -2,14 +2,17 @@
 use Rattle.std.specs.Prelude.{◌≡◌, ℕ, ◌-◌, Bool, true, false, List, length, map, count_by, ◌++◌, is_some}
 use Rattle.std.specs.Prelude.{if◌then◌else◌}
 use Rattle.tc_base.specs.declared.hook.Hook.{Hook}
+use Rattle.tc_base.specs.Pieces.{joined as joined_pieces}
 use Rattle.pcap_io.specs.declared.capture.Packet.{Packet}
+use Rattle.pcap_io.specs.declared.capture.Capture.{Capture}
+use Rattle.pcap_io.specs.Written.{capture_bytes}
 use Rattle.walk_rules.specs.declared.verdict.Verdict.{Verdict}
 use Rattle.walk_rules.specs.declared.verdict.Verdict.TheVariants as verdicts
 use Rattle.walk_rules.specs.Walks.{Outcome}
 use Rattle.batch_run.specs.Runs.{Ran}
 use Rattle.batch_show.specs.Shown.{stop_shown}
 use Rattle.capture_walk.specs.declared.ends.PacketEnd.{PacketEnd}
-use Rattle.capture_walk.specs.Captures.{outcomes_of, end_of, passed, counts_of, executed_in}
+use Rattle.capture_walk.specs.Captures.{outcomes_of, end_of, output_of, counts_of, executed_in}
 use Rattle.batch_walk.specs.declared.closing.Summary.{Summary}
 use Rattle.batch_walk.specs.declared.walk.BatchWalk.{BatchWalk}
 use Rattle.batch_walk.specs.declared.walk.WalkText.{WalkText}
@@ -55,11 +58,11 @@ closing_text ran hook packets = closing_after ran (outcomes_of ran.state hook pa
 
 -- the text of these parts
 abbrev pub told_text : WalkText → List ℕ
-told_text text = text.stop.items ++ joined (packet_lines 1 text.ends.items) ++ text.closing.items
+told_text text = text.stop.items ++ joined (packet_lines 1 text.ends) ++ text.closing.items
 
 -- what is put and written is what the batch that ran gives
-pub record IsWalked (ran : Ran) (hook : Hook) (packets : List Packet) (walk : BatchWalk) : Type 0 where
-  pub passed : walk.passed ≡ passed ran.state hook packets
-  pub text : told_text walk.text ≡ walk_text ran hook packets
-  pub closing : walk.text.closing.items ≡ closing_text ran hook packets
+pub record IsWalked (ran : Ran) (hook : Hook) (capture : Capture) (walk : BatchWalk) : Type 0 where
+  pub output : joined_pieces walk.output.pieces ≡ capture_bytes (output_of ran.state hook capture)
+  pub text : told_text walk.text ≡ walk_text ran hook capture.packets
+  pub closing : walk.text.closing.items ≡ closing_text ran hook capture.packets
   pub refused : walk.refused ≡ is_some ran.stop

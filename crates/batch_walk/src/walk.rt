@@ -14,10 +14,10 @@ ghost use Rattle.batch_walk.specs.Walked.{passed_count, summary_of, IsWalked};
 use crate::closing::{Summary, closing_text};
 use batch_run::{BatchRun, run_batch};
 use batch_show::push_stop;
-use capture_walk::{Count, PacketEnd, WalkedCapture, walk_capture};
-use pcap_io::Packets;
+use capture_walk::{Count, Ends, WalkedCapture, walk_capture};
+use pcap_io::Capture;
 use std::alloc::Global;
-use tc_base::{Hook, NoMemory};
+use tc_base::{Hook, NoMemory, Pieces};
 use walk_rules::Verdict;
 
 /// What `walk` writes. The packets' lines stand between the two texts, and are made as they are written.
@@ -26,33 +26,38 @@ pub struct WalkText {
     /// The refused line, or nothing.
     pub stop: Vec<u8>,
     /// How each packet ended, in order.
-    pub ends: Vec<PacketEnd>,
+    pub ends: Ends,
     /// The lines behind the packets' lines.
     pub closing: Vec<u8>,
 }
 
 /// What `walk` puts and writes for a batch and a capture.
 #[derive(Drop)]
-pub struct BatchWalk {
-    /// The packets that passed, in order, as their walks left them.
-    pub passed: Packets,
+pub struct BatchWalk<'a> {
+    /// The bytes of a capture of the packets that passed, in order, as their walks left them.
+    pub output: Pieces<'a>,
     pub text: WalkText,
     /// Whether a line was refused.
     pub refused: bool,
 }
 
-fn count_passed(ends: &[PacketEnd]) -> usize
+fn count_passed(ends: &Ends) -> usize
     ensures value { result ≡ passed_count ends.now }
     ensures within { result ≤ length ends.now }
 {
-    ends.iter()
-        .filter(|end| matches!(end.verdict, Verdict::Pass))
-        .count()
+    let mut passed = 0;
+    for end in ends.iter() {
+        if let Verdict::Pass = end.verdict {
+            passed += 1;
+        }
+    }
+    passed
 }
 
-fn summary_of(run: &BatchRun, ends: &[PacketEnd]) -> Summary
+fn summary_of(run: &BatchRun, ends: &Ends) -> Summary
     ensures value { result ≡ summary_of run.now.accepted (is_some run.now.stop) ends.now }
     ensures within { result.passed + result.dropped ≡ length ends.now }
+    ensures few { result.passed + result.dropped < 2 ^ 64 }
 {
     let passed = count_passed(ends);
     Summary {
@@ -67,16 +72,15 @@ fn summary_of(run: &BatchRun, ends: &[PacketEnd]) -> Summary
 fn text_of(
     alloc: Global,
     run: &BatchRun,
-    ends: Vec<PacketEnd>,
+    ends: Ends,
     counts: &[Count],
 ) -> Result<WalkText, NoMemory>
-    requires counts { All (HasCount (length counts.now)) run.now.made.items }
-    requires few { length ends.items < 2 ^ 64 }
+    requires { All (HasCount (length counts.now)) run.now.made.items }
     ensures stop { IfOk result (λ text. text.stop.items ≡ stop_shown run.now.accepted run.now.stop) }
-    ensures ends { IfOk result (λ text. text.ends.items ≡ ends.items) }
+    ensures ends { IfOk result (λ text. text.ends ≡ ends) }
     ensures closing { IfOk result (λ text. text.closing.items
         ≡ joined (closing_lines run.now.made.items counts.now
-        (summary_of run.now.accepted (is_some run.now.stop) ends.items))) }
+        (summary_of run.now.accepted (is_some run.now.stop) ends))) }
 {
     let mut stop = Vec::new(alloc);
     push_stop(&mut stop, run.accepted, &run.stop)?;
@@ -93,28 +97,27 @@ fn text_of(
 /// writes.
 ///
 /// `NoMemory`: memory was refused.
-pub fn walk_batch(
+pub fn walk_batch<'a>(
     alloc: Global,
     texts: &[&[u8]],
     hook: Hook,
-    packets: &Packets,
-) -> Result<BatchWalk, NoMemory>
+    capture: &'a Capture,
+) -> Result<BatchWalk<'a>, NoMemory>
     requires commands { length (commands_in texts.now) ≤ COMMANDS_MAX }
-    requires few { length packets.now ≤ PACKETS_MAX }
-    requires short { AreShort packets.now }
-    ensures walked { IfOk result (λ w. (ran : Ran) × IsRun no_state 0 (commands_in texts.now) ran
-        × IsWalked ran hook packets.now w) }
-    ensures short { IfOk result (λ w. AreShort w.passed) }
+    requires few { length capture.now.packets ≤ PACKETS_MAX }
+    requires short { AreShort capture.now.packets }
+    ensures { IfOk result (λ w. (ran : Ran) × IsRun no_state 0 (commands_in texts.now) ran
+        × IsWalked ran hook capture.now w) }
 {
     let run = run_batch(alloc, texts)?;
     let WalkedCapture {
         ends,
-        passed,
+        output,
         counts,
-    } = walk_capture(alloc, &run.lists, hook, packets)?;
+    } = walk_capture(alloc, &run.lists, hook, capture)?;
     let text = text_of(alloc, &run, ends, &counts)?;
     Ok(BatchWalk {
-        passed,
+        output,
         text,
         refused: run.stop.is_some(),
     })

@@ -1,27 +1,30 @@
 -- What the walks of the packets so far leave.
-use Rattle.std.proofs.Common.{◌≡◌, ℕ, ◌+◌, ◌≤◌, List, [], ◌∷◌, ◌++◌, length, map, take, Some, sym, ap, subst, ◌∙◌, append-nil, arith}
+use Rattle.std.proofs.Common.{◌≡◌, ℕ, ◌+◌, ◌^◌, ◌<◌, ◌≤◌, Bool, List, [], ◌∷◌, ◌++◌, length, map, take, Some, sym, ap, subst, ◌∙◌, append-nil, append_assoc, arith}
 use Rattle.std.specs.List.{slice_get}
 use Rattle.std.proofs.lemmas.List.{take_all, take_more, map_push}
 use Rattle.std.proofs.lemmas.Option.{slice_get_within, get_or_from_slice_get}
 use Rattle.std.proofs.lemmas.Grind.{flat_map-append}
 use Rattle.tc_base.specs.declared.hook.Hook.{Hook}
 use Rattle.pcap_io.specs.Captures.{AreShort}
+use Rattle.std.specs.List.{flat_map}
 use Rattle.pcap_io.specs.declared.capture.Packet.{Packet}
+use Rattle.pcap_io.specs.declared.capture.Capture.{Capture}
+use Rattle.pcap_io.specs.Written.{header_bytes, packet_bytes}
 use Rattle.filter_state.specs.States.{State}
 use Rattle.walk_rules.specs.Steps.{Execution}
 use Rattle.walk_rules.specs.Walks.{Outcome}
 use Rattle.walk_rules.specs.Plain.{plain_walk}
 use Rattle.capture_walk.specs.declared.counts.Count.{Count}
 use Rattle.capture_walk.specs.declared.ends.PacketEnd.{PacketEnd}
-use Rattle.capture_walk.specs.declared.walking.WalkedCapture.{WalkedCapture}
-use Rattle.capture_walk.specs.Captures.{outcomes_of, end_of, passed_one, passed, executed_in, counts_of, each_added}
+use Rattle.capture_walk.specs.declared.walking.Leaving.{Leaving}
+use Rattle.capture_walk.specs.Captures.{outcomes_of, end_of, passed_one, passed, regrown, walked_packet, executed_in, counts_of, each_added}
 use Rattle.capture_walk.specs.Adding.{IsAdded}
 use Rattle.capture_walk.proofs.Counting.{counts-append}
 
 -- this is what the walks of these packets leave
-pub record IsWalked (s : State) (hook : Hook) (packets : List Packet) (walked : WalkedCapture) : Type 0 where
-  pub ends : walked.ends.items ≡ map end_of (outcomes_of s hook packets)
-  pub passed : walked.passed ≡ passed s hook packets
+pub record IsWalked (s : State) (hook : Hook) (capture : Capture) (packets : List Packet) (walked : Leaving) : Type 0 where
+  pub ends : walked.ends ≡ map end_of (outcomes_of s hook packets)
+  pub output : walked.output.bytes ≡ header_bytes capture.big capture.nanos ++ flat_map (packet_bytes capture.big) (passed s hook packets)
   pub counts : walked.counts.items ≡ counts_of s.actions_made (executed_in (outcomes_of s hook packets))
 
 -- a packet of a short list is short
@@ -70,17 +73,36 @@ counts-added s hook packets i p old new at added so_far =
     ∙ ap (counts_of s.actions_made) (executed-more outcomes outcome)
     ∙ counts-append s.actions_made (executed_in outcomes) outcome.executed)
 
-pub walked-more : (s : State) (hook : Hook) (packets : List Packet) (i : ℕ) (p : Packet) (old new : WalkedCapture) → slice_get packets i ≡ Some p →
-    IsAdded p old new (plain_walk s hook p.bytes) → IsWalked s hook (take i packets) old → IsWalked s hook (take (i + 1) packets) new
-walked-more s hook packets i p old new at added so_far = record {
-  ends = ends-added s hook packets i p old.ends.items new.ends.items at added.ends so_far.ends;
-  passed =
-      added.passed ∙ ap (λ (ps : List Packet). ps ++ passed_one p (plain_walk s hook p.bytes)) so_far.passed ∙ sym (passed-more s hook packets i p at);
-  counts = counts-added s hook packets i p old.counts.items new.counts.items at added.counts so_far.counts;
+output-added : (s : State) (hook : Hook) (big : Bool) (header : List ℕ) (packets : List Packet) (i : ℕ) (p : Packet) (old new : List ℕ) → slice_get packets i ≡ Some p →
+    new ≡ old ++ flat_map (packet_bytes big) (passed_one p (plain_walk s hook p.bytes)) → old ≡ header ++ flat_map (packet_bytes big) (passed s hook (take i packets)) →
+    new ≡ header ++ flat_map (packet_bytes big) (passed s hook (take (i + 1) packets))
+output-added s hook big header packets i p old new at added so_far =
+    let bytes : List Packet → List ℕ = flat_map (packet_bytes big) in
+    let one = passed_one p (plain_walk s hook p.bytes) in
+    added ∙ ap (λ (xs : List ℕ). xs ++ bytes one) so_far
+    ∙ append_assoc header (bytes (passed s hook (take i packets))) (bytes one)
+    ∙ ap (λ (xs : List ℕ). header ++ xs) (sym (ap bytes (passed-more s hook packets i p at) ∙ flat_map-append (packet_bytes big) (passed s hook (take i packets)) one))
+
+pub walked-more : (s : State) (hook : Hook) (capture : Capture) (i : ℕ) (p : Packet) (old new : Leaving) → slice_get capture.packets i ≡ Some p → old.output.of ≡ capture →
+    IsAdded p old new (plain_walk s hook p.bytes) → IsWalked s hook capture (take i capture.packets) old → IsWalked s hook capture (take (i + 1) capture.packets) new
+walked-more s hook capture i p old new at of added so_far = record {
+  ends = ends-added s hook capture.packets i p old.ends new.ends at added.ends so_far.ends;
+  output = output-added s hook capture.big (header_bytes capture.big capture.nanos) capture.packets i p old.output.bytes new.output.bytes at
+      (subst (λ (big : Bool). new.output.bytes ≡ old.output.bytes ++ flat_map (packet_bytes big) (passed_one p (plain_walk s hook p.bytes))) (ap (λ (c : Capture). c.big) of) added.output)
+      so_far.output;
+  counts = counts-added s hook capture.packets i p old.counts.items new.counts.items at added.counts so_far.counts;
 }
 
 -- all packets were walked
-pub walked-all : (s : State) (hook : Hook) (packets : List Packet) (i count : ℕ) (walked : WalkedCapture) → count ≡ length packets → count ≤ i →
-    IsWalked s hook (take i packets) walked → IsWalked s hook packets walked
-walked-all s hook packets i count walked is all so_far =
-    subst (λ (ps : List Packet). IsWalked s hook ps walked) (take_all i packets (omega arith)) so_far
+pub walked-all : (s : State) (hook : Hook) (capture : Capture) (i count : ℕ) (walked : Leaving) → count ≡ length capture.packets → count ≤ i →
+    IsWalked s hook capture (take i capture.packets) walked → IsWalked s hook capture capture.packets walked
+walked-all s hook capture i count walked is all so_far =
+    subst (λ (ps : List Packet). IsWalked s hook capture ps walked) (take_all i capture.packets (omega arith)) so_far
+
+-- a packet whose bytes stay passes as it is
+pub same_passed : (p : Packet) (outcome : Outcome) → p.original < 2 ^ 32 → outcome.frame.bytes ≡ p.bytes → walked_packet p outcome ≡ p
+same_passed p outcome fits same =
+    let made : ℕ → List ℕ → Packet = λ original bytes. record { seconds = p.seconds; fraction = p.fraction; original = original; bytes = bytes } in
+    let original : regrown p.original (length p.bytes) (length outcome.frame.bytes) ≡ p.original =
+    ap (λ (bytes : List ℕ). regrown p.original (length p.bytes) (length bytes)) same ∙ omega arith in
+    ap (λ (original : ℕ). made original outcome.frame.bytes) original ∙ ap (made p.original) same

@@ -5,6 +5,7 @@ use Rattle.std.specs.Prelude.{count_by, if◌then◌else◌}
 use Rattle.std.specs.List.{flat_map}
 use Rattle.tc_base.specs.declared.hook.Hook.{Hook}
 use Rattle.pcap_io.specs.declared.capture.Packet.{Packet}
+use Rattle.pcap_io.specs.declared.capture.Capture.{Capture}
 use Rattle.filter_state.specs.States.{State}
 use Rattle.filter_state.specs.Sound.{Each}
 use Rattle.walk_rules.specs.declared.verdict.Verdict.{Verdict}
@@ -50,6 +51,14 @@ passed_one packet outcome = passed_by outcome.verdict (walked_packet packet outc
 -- those that pass, in order, as their walks left them
 abbrev pub passed : State → Hook → List Packet → List Packet
 passed s hook packets = flat_map (λ (p : Packet). passed_one p (plain_walk s hook p.bytes)) packets
+
+-- the capture of those that pass, in the order of bytes and with the fractions of the input
+abbrev pub output_of : State → Hook → Capture → Capture
+output_of s hook capture = record {
+  big = capture.big;
+  nanos = capture.nanos;
+  packets = passed s hook capture.packets;
+}
 
 -- ---- counts
 -- all executions, in order

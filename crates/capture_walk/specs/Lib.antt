@@ -1,3 +1,4 @@
 pub mod Captures
 pub mod Room
 pub mod Adding
+pub mod EndWords

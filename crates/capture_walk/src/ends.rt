@@ -21,9 +21,11 @@ impl PacketEnd {
     ghost use Rattle.capture_walk.specs.Captures.{end_of};
 
     /// How this walk of a packet with these bytes ended.
+    #[inline]
     pub(crate) fn of_walk(walk: &PlainWalk, came: &[u8]) -> PacketEnd
         requires { length came.now ≤ FRAME_MAX }
-        ensures { result ≡ end_of (walked_from came.now walk.now) }
+        ensures end { result ≡ end_of (walked_from came.now walk.now) }
+        ensures short { result.length ≤ FRAME_MAX }
     {
         PacketEnd {
             verdict: walk.verdict(),

@@ -1,40 +1,53 @@
 //! The walks of a capture.
 ghost use Rattle.frame_edit.specs.declared.limits.TheConstants.{FRAME_MAX};
-ghost use Rattle.std.specs.Prelude.{◌≡◌, ◌≤◌, ◌++◌, length, map, IfOk, OnOk};
+ghost use Rattle.std.specs.Prelude.{◌≡◌, ◌≤◌, ◌++◌, length, map, slice_get, Some, IfOk, OnOk};
+ghost use Rattle.std.specs.List.{flat_map};
+ghost use Rattle.tc_base.specs.Pieces.{joined};
 ghost use Rattle.pcap_io.specs.Captures.{AreShort};
 ghost use Rattle.pcap_io.specs.Places.{packet_of};
+ghost use Rattle.pcap_io.specs.Written.{packet_bytes, capture_bytes};
 ghost use Rattle.filter_state.specs.States.{State};
 ghost use Rattle.filter_lists.specs.Spells.{Spells};
 ghost use Rattle.plain_walk.specs.Walked.{walked_from};
 ghost use Rattle.capture_walk.specs.declared.limits.TheConstants.{PACKETS_MAX};
-ghost use Rattle.capture_walk.specs.Captures.{outcomes_of, end_of, passed, counts_of, executed_in};
+ghost use Rattle.capture_walk.specs.Captures.{outcomes_of, end_of, output_of, counts_of, executed_in};
 ghost use Rattle.capture_walk.specs.Captures.{passed_one, regrown};
 
 use crate::counts::{Count, add_executed, no_counts};
+use crate::end_list::Ends;
 use crate::ends::PacketEnd;
 use filter_lists::Lists;
-use pcap_io::{PacketView, Packets};
+use pcap_io::{Capture, Excerpt, PacketView};
 use plain_walk::PlainWalk;
 use std::alloc::Global;
-use tc_base::{Hook, NoMemory};
+use tc_base::{Hook, NoMemory, Pieces};
 use walk_rules::Verdict;
 
 /// What the walks of a capture leave.
 #[derive(Drop)]
-pub struct WalkedCapture {
+pub struct WalkedCapture<'a> {
     /// How each packet's walk ended, in order.
-    pub ends: Vec<PacketEnd>,
-    /// The packets that passed, in order, with their frames as they then were.
-    pub passed: Packets,
+    pub ends: Ends,
+    /// The bytes of the output capture: the packets that passed, in order, with their frames as they then
+    /// were. Of those that no action changed they are stretches of the input.
+    pub output: Pieces<'a>,
     /// How often each action ran, by serial from 1.
     pub counts: Vec<Count>,
 }
 
-impl WalkedCapture {
+// The same while packets are walked.
+#[derive(Drop)]
+struct Leaving<'a> {
+    ends: Ends,
+    output: Excerpt<'a>,
+    counts: Vec<Count>,
+}
+
+impl<'a> Leaving<'a> {
     ghost use Rattle.frame_edit.specs.declared.limits.TheConstants.{FRAME_MAX};
-    ghost use Rattle.std.specs.Prelude.{◌≡◌, ◌+◌, ◌≤◌, ℕ, [], length, IfOk, OnOk};
-    ghost use Rattle.pcap_io.specs.Captures.{AreShort};
+    ghost use Rattle.std.specs.Prelude.{◌≡◌, ◌+◌, ◌≤◌, ℕ, [], length, slice_get, Some, IfOk, OnOk};
     ghost use Rattle.pcap_io.specs.Places.{packet_of};
+    ghost use Rattle.pcap_io.specs.Written.{header_bytes};
     ghost use Rattle.filter_state.specs.Sound.{Each};
     ghost use Rattle.plain_walk.specs.Walked.{walked_from};
     ghost use Rattle.capture_walk.specs.Captures.{no_counts, AreFew};
@@ -42,75 +55,100 @@ impl WalkedCapture {
     ghost use Rattle.capture_walk.specs.Adding.{IsAdded};
 
     // Nothing was walked yet: room for the packets, and a count for each of so many actions.
-    fn with_room(alloc: Global, packets: &Packets, actions: u32) -> Result<WalkedCapture, NoMemory>
-        ensures ends { IfOk result (λ w. w.ends.items ≡ []) }
-        ensures passed { IfOk result (λ w. w.passed ≡ []) }
+    fn with_room(alloc: Global, capture: &'a Capture, actions: u32) -> Result<Leaving<'a>, NoMemory>
+        ensures ends { IfOk result (λ w. w.ends ≡ []) }
+        ensures of { IfOk result (λ w. w.output.of ≡ capture.now) }
+        ensures output { IfOk result (λ w. w.output.bytes ≡ header_bytes capture.now.big capture.now.nanos) }
         ensures counts { IfOk result (λ w. w.counts.items ≡ no_counts actions) }
     {
-        Ok(WalkedCapture {
-            ends: Vec::with_capacity(alloc, packets.len())?,
-            passed: Packets::with_room(alloc, packets.len(), packets.byte_count())?,
+        Ok(Leaving {
+            ends: Ends::with_room(alloc, capture.packets.len())?,
+            output: Excerpt::new(alloc, capture)?,
             counts: no_counts(alloc, actions)?,
         })
     }
 
-    // Adds what the walk of this packet leaves.
-    fn add(&mut self, walk: &PlainWalk, packet: PacketView<'_>) -> Result<(), NoMemory>
+    // Adds what the walk of the packet of this place leaves.
+    fn add(
+        &mut self,
+        walk: &PlainWalk,
+        index: usize,
+        packet: PacketView<'_>,
+    ) -> Result<(), NoMemory>
         requires room { Each HasRoomForRun self.old.counts.items }
         requires short { length packet.bytes.now ≤ FRAME_MAX }
+        requires place { slice_get self.old.output.of.packets index ≡ Some (packet_of packet) }
         ensures added { OnOk result (IsAdded (packet_of packet.entry) self.old self.new
             (walked_from (packet_of packet.entry).bytes walk.now)) }
-        ensures short { OnOk result (AreShort self.old.passed → AreShort self.new.passed) }
+        ensures of { self.new.output.of ≡ self.old.output.of }
         ensures few { OnOk result ((walks : ℕ) → AreFew walks self.old.counts.items
             → AreFew (walks + 1) self.new.counts.items) }
     {
         self.ends.push(PacketEnd::of_walk(walk, packet.bytes))?;
         add_executed(&mut self.counts, walk.executed());
-        keep(&mut self.passed, walk, packet)
+        keep(&mut self.output, walk, index, packet)
     }
 }
 
-/// Walks each of at most 1,048,576 packets on its own through a hook of the lists.
+/// Walks each of at most 1,048,576 packets of a capture on its own through a hook of the lists.
 ///
 /// `NoMemory`: memory was refused.
-pub fn walk_capture(
+pub fn walk_capture<'a>(
     alloc: Global,
     lists: &Lists,
     hook: Hook,
-    packets: &Packets,
-) -> Result<WalkedCapture, NoMemory>
-    requires few { length packets.now ≤ PACKETS_MAX }
-    requires short { AreShort packets.now }
+    capture: &'a Capture,
+) -> Result<WalkedCapture<'a>, NoMemory>
+    requires few { length capture.now.packets ≤ PACKETS_MAX }
+    requires short { AreShort capture.now.packets }
     ensures ends { IfOk result (λ w. (s : State) → Spells lists.now s
-        → w.ends.items ≡ map end_of (outcomes_of s hook packets.now)) }
-    ensures passed { IfOk result (λ w. (s : State) → Spells lists.now s
-        → w.passed ≡ passed s hook packets.now) }
-    ensures short { IfOk result (λ w. AreShort w.passed) }
+        → w.ends ≡ map end_of (outcomes_of s hook capture.now.packets)) }
+    ensures output { IfOk result (λ w. (s : State) → Spells lists.now s
+        → joined w.output.pieces ≡ capture_bytes (output_of s hook capture.now)) }
     ensures counts { IfOk result (λ w. (s : State) → Spells lists.now s
-        → w.counts.items ≡ counts_of s.actions_made (executed_in (outcomes_of s hook packets.now))) }
+        → w.counts.items ≡ counts_of s.actions_made (executed_in (outcomes_of s hook capture.now.packets))) }
 {
     let mut walk = PlainWalk::with_room(alloc)?;
-    let mut walked = WalkedCapture::with_room(alloc, packets, lists.actions().made())?;
-    for index in 0..packets.len() {
-        let packet = packets.get(index);
+    let mut leaving = Leaving::with_room(alloc, capture, lists.actions().made())?;
+    for index in 0..capture.packets.len() {
+        let packet = capture.packets.get(index);
         walk.run(lists, hook, packet.bytes);
-        walked.add(&walk, packet)?;
+        leaving.add(&walk, index, packet)?;
     }
-    Ok(walked)
+    let Leaving {
+        ends,
+        output,
+        counts,
+    } = leaving;
+    Ok(WalkedCapture {
+        ends,
+        output: output.into_pieces(),
+        counts,
+    })
 }
 
 // Puts the packet behind those that passed, as its walk left it, unless it was dropped.
-fn keep(passed: &mut Packets, walk: &PlainWalk, packet: PacketView<'_>) -> Result<(), NoMemory>
-    requires { length packet.bytes.now ≤ FRAME_MAX }
-    ensures kept { OnOk result (passed.new ≡ passed.old
-        ++ passed_one (packet_of packet.entry) (walked_from (packet_of packet.entry).bytes walk.now)) }
-    ensures short { OnOk result (AreShort passed.old → AreShort passed.new) }
+fn keep(
+    output: &mut Excerpt<'_>,
+    walk: &PlainWalk,
+    index: usize,
+    packet: PacketView<'_>,
+) -> Result<(), NoMemory>
+    requires short { length packet.bytes.now ≤ FRAME_MAX }
+    requires place { slice_get output.old.of.packets index ≡ Some (packet_of packet) }
+    ensures of { output.new.of ≡ output.old.of }
+    ensures kept { OnOk result (output.new.bytes ≡ output.old.bytes
+        ++ flat_map (packet_bytes output.old.of.big)
+        (passed_one (packet_of packet.entry) (walked_from (packet_of packet.entry).bytes walk.now))) }
 {
     if let Verdict::Drop = walk.verdict() {
         return Ok(());
     }
+    if walk.edited().is_none() {
+        return output.keep(index);
+    }
     let bytes = walk.bytes(packet.bytes);
-    passed.push(PacketView {
+    output.push(PacketView {
         seconds: packet.seconds,
         fraction: packet.fraction,
         original: regrown(packet.original, packet.bytes.len(), bytes.len()),

@@ -1,19 +1,18 @@
 //! All that `gen` makes.
 ghost use Rattle.gen_files.specs.declared.limits.TheConstants.{GEN_MAX};
-ghost use Rattle.std.specs.Prelude.{◌≡◌, ◌≤◌, ℕ, length, false, IfOk};
+ghost use Rattle.std.specs.Prelude.{◌≡◌, ◌≤◌, ℕ, length, IfOk};
 ghost use Rattle.tc_base.specs.declared.hook.Hook.TheVariants.{Ingress};
 ghost use Rattle.pcap_io.specs.Captures.{AreShort};
-ghost use Rattle.pcap_io.specs.Written.{capture_bytes};
 ghost use Rattle.batch_run.specs.declared.limit.TheConstants.{COMMANDS_MAX};
 ghost use Rattle.batch_run.specs.Commands.{commands_of};
 ghost use Rattle.batch_run.specs.Runs.{Ran};
 ghost use Rattle.batch_walk.specs.Walked.{IsWalked};
-ghost use Rattle.gen_files.specs.Generated.{batch_text, packets_of};
-ghost use Rattle.gen_run.specs.Generated.{IsRunOf, IsGenerated, plain_capture};
+ghost use Rattle.gen_files.specs.Generated.{batch_text};
+ghost use Rattle.gen_run.specs.Generated.{capture_of, IsRunOf, IsGenerated};
 
 use batch_walk::{BatchWalk, walk_batch};
 use gen_files::{gen_batch, gen_job, gen_packets};
-use pcap_io::{Capture, Packets, write};
+use pcap_io::{Capture, write};
 use std::alloc::Global;
 use tc_base::{Hook, NoMemory};
 use tc_words::lines;
@@ -41,42 +40,37 @@ pub fn few_commands()
     ensures { (filters : ℕ) → filters ≤ GEN_MAX → length (commands_of (batch_text filters)) ≤ COMMANDS_MAX }
 {}
 
-/// The packets of the capture, and what comes of their walks.
-#[derive(Drop)]
-struct Walks {
-    packets: Packets,
-    walk: BatchWalk,
-}
-
-// Applies the generated batch, and walks the generated packets.
-fn walk_all(alloc: Global, filters: u32, batch: &[u8]) -> Result<Walks, NoMemory>
+// The capture that meets the generated batch.
+fn capture_of(alloc: Global, filters: u32) -> Result<Capture, NoMemory>
     requires some { 1 ≤ filters }
     requires few { filters ≤ GEN_MAX }
+    ensures is { IfOk result (λ capture. capture ≡ capture_of filters) }
+    ensures short { IfOk result (λ capture. AreShort capture.packets) }
+{
+    Ok(Capture {
+        big: false,
+        nanos: false,
+        packets: gen_packets(alloc, filters)?,
+    })
+}
+
+// Applies the generated batch, and walks the packets of the generated capture.
+fn walk_all<'a>(
+    alloc: Global,
+    filters: u32,
+    batch: &[u8],
+    capture: &'a Capture,
+) -> Result<BatchWalk<'a>, NoMemory>
+    requires few { filters ≤ GEN_MAX }
     requires batch { batch.now ≡ batch_text filters }
-    ensures packets { IfOk result (λ w. w.packets ≡ packets_of filters) }
-    ensures short { IfOk result (λ w. AreShort w.packets) }
-    ensures walked { IfOk result (λ w. (ran : Ran) × IsRunOf filters ran
-        × IsWalked ran Ingress (packets_of filters) w.walk) }
-    ensures passed_short { IfOk result (λ w. AreShort w.walk.passed) }
+    requires capture { capture.now ≡ capture_of filters }
+    requires short { AreShort capture.now.packets }
+    ensures { IfOk result (λ walk. (ran : Ran) × IsRunOf filters ran
+        × IsWalked ran Ingress (capture_of filters) walk) }
 {
     few_commands();
     let texts = lines(alloc, batch)?;
-    let packets = gen_packets(alloc, filters)?;
-    let walk = walk_batch(alloc, &texts, Hook::Ingress, &packets)?;
-    Ok(Walks { packets, walk })
-}
-
-// The bytes of a capture of these packets, which are let go.
-fn bytes_of(alloc: Global, packets: Packets) -> Result<Vec<u8>, NoMemory>
-    requires { AreShort packets }
-    ensures { IfOk result (λ bytes. bytes.items ≡ capture_bytes (plain_capture packets)) }
-{
-    let capture = Capture {
-        big: false,
-        nanos: false,
-        packets,
-    };
-    write(alloc, &capture)
+    walk_batch(alloc, &texts, Hook::Ingress, capture)
 }
 
 /// Makes a batch of so many filters, a capture that meets each twelve times, and the job that walks the one
@@ -91,14 +85,14 @@ pub fn generate(alloc: Global, filters: u32, front: &str) -> Result<Generated, N
         × IsGenerated filters front.now ran made) }
 {
     let batch = gen_batch(alloc, filters)?;
-    let Walks { packets, walk } = walk_all(alloc, filters, &batch)?;
+    let capture = capture_of(alloc, filters)?;
     let BatchWalk {
-        passed,
+        output,
         text,
         refused,
-    } = walk;
-    let capture = bytes_of(alloc, packets)?;
-    let output = bytes_of(alloc, passed)?;
+    } = walk_all(alloc, filters, &batch, &capture)?;
+    let output = output.joined()?;
+    let capture = write(alloc, &capture)?;
     Ok(Generated {
         batch,
         capture,

@@ -5,4 +5,5 @@ pub mod Lines
 pub mod Making
 pub mod Readings
 pub mod TooMany
+pub mod Walking
 pub mod Writing

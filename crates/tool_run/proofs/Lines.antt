@@ -1,7 +1,7 @@
 -- The lines of a text, one more at a time.
-use Rattle.std.proofs.Common.{◌≡◌, ℕ, ◌+◌, ◌-◌, ◌<◌, ◌≤◌, List, [], ◌∷◌, ◌++◌, length, take, drop, get_or, sym, ap, ◌∙◌, append_assoc, arith}
+use Rattle.std.proofs.Common.{◌≡◌, ℕ, ◌+◌, ◌-◌, ◌<◌, ◌≤◌, List, [], ◌∷◌, ◌++◌, length, take, drop, sym, ap, ◌∙◌, append_assoc, arith}
 use Rattle.std.specs.List.{slice_range}
-use Rattle.std.proofs.lemmas.List.{take_more, length-take-le, take-append-drop, append-nil}
+use Rattle.std.proofs.lemmas.List.{take-append-drop, append-nil}
 use Rattle.std.proofs.lemmas.List.Concat.{flat_map-cons}
 use Rattle.std.proofs.Math.Seq.{take-add}
 use Rattle.std.proofs.lemmas.List.Folds.{drop_split}
@@ -33,26 +33,16 @@ packet_lines-push n (q ∷ ends) o =
     ap (λ (rest : List (List ℕ)). packet_line n q ∷ rest)
     (packet_lines-push (n + 1) ends o ∙ ap (λ (k : ℕ). packet_lines (n + 1) ends ++ packet_line k o ∷ []) e)
 
-packet_lines_more : (ends : List PacketEnd) (i : ℕ) (d : PacketEnd) → i < length ends
-    → packet_lines 1 (take (i + 1) ends) ≡ packet_lines 1 (take i ends)
-    ++ packet_line (i + 1) (get_or ends i d) ∷ []
-packet_lines_more ends i d lt =
-    let o = get_or ends i d in
-    let more : take (i + 1) ends ≡ take i ends ++ o ∷ [] = take_more ends i d lt in
-    let len : 1 + length (take i ends) ≡ i + 1 = omega (arith, length-take-le i ends (omega arith)) in
-    ap (packet_lines 1) more ∙ packet_lines-push 1 (take i ends) o
-    ∙ ap (λ (k : ℕ). packet_lines 1 (take i ends) ++ packet_line k o ∷ []) len
-
--- the lines up to one packet, with that packet's line
-pub packets_more : (ends : List PacketEnd) (i : ℕ) (d : PacketEnd) → i < length ends
-    → joined (packet_lines 1 (take (i + 1) ends)) ≡ joined (packet_lines 1 (take i ends))
-    ++ packet_line (i + 1) (get_or ends i d)
-packets_more ends i d lt =
-    let o = get_or ends i d in
-    ap joined (packet_lines_more ends i d lt)
-    ∙ flat_map-append (λ (line : List ℕ). line) (packet_lines 1 (take i ends)) (packet_line (i + 1) o ∷ [])
-    ∙ ap (λ (x : List ℕ). joined (packet_lines 1 (take i ends)) ++ x)
-    (flat_map-cons (λ (line : List ℕ). line) (packet_line (i + 1) o) [] ∙ append-nil (packet_line (i + 1) o))
+-- the lines of some packets, with that of one more
+pub packets_more : (ends : List PacketEnd) (o : PacketEnd)
+    → joined (packet_lines 1 (ends ++ o ∷ [])) ≡ joined (packet_lines 1 ends)
+    ++ packet_line (1 + length ends) o
+packets_more ends o =
+    ap joined (packet_lines-push 1 ends o)
+    ∙ flat_map-append (λ (line : List ℕ). line) (packet_lines 1 ends) (packet_line (1 + length ends) o ∷ [])
+    ∙ ap (λ (x : List ℕ). joined (packet_lines 1 ends) ++ x)
+    (flat_map-cons (λ (line : List ℕ). line) (packet_line (1 + length ends) o) []
+    ∙ append-nil (packet_line (1 + length ends) o))
 
 packet_lines-append : (n : ℕ) (ends more : List PacketEnd)
     → packet_lines n (ends ++ more) ≡ packet_lines n ends ++ packet_lines (n + length ends) more
@@ -65,24 +55,14 @@ packet_lines-append n (o ∷ ends) more =
     (packet_lines-append (n + 1) ends more ∙ ap (λ (k : ℕ). packet_lines (n + 1) ends ++ packet_lines k more)
     e)
 
--- the text of all packets goes on behind the lines up to one packet
-pub packets_split : (ends : List PacketEnd) (i : ℕ)
-    → joined (packet_lines 1 ends) ≡ joined (packet_lines 1 (take i ends))
-    ++ joined (packet_lines (1 + length (take i ends)) (drop i ends))
-packets_split ends i =
-    ap (λ (x : List PacketEnd). joined (packet_lines 1 x)) (sym (take-append-drop i ends))
-    ∙ ap joined (packet_lines-append 1 (take i ends) (drop i ends))
-    ∙ flat_map-append (λ (line : List ℕ). line) (packet_lines 1 (take i ends))
-    (packet_lines (1 + length (take i ends)) (drop i ends))
-
--- the text of all packets: the lines up to one packet, that packet's line, and what comes behind it
-pub packets_rest : (ends : List PacketEnd) (i : ℕ) (d : PacketEnd) → i < length ends
-    → joined (packet_lines 1 ends) ≡ joined (packet_lines 1 (take i ends))
-    ++ (packet_line (i + 1) (get_or ends i d)
-    ++ joined (packet_lines (1 + length (take (i + 1) ends)) (drop (i + 1) ends)))
-packets_rest ends i d lt =
-    let o = get_or ends i d in
-    packets_split ends (i + 1) ∙ ap (λ (x : List ℕ). x
-    ++ joined (packet_lines (1 + length (take (i + 1) ends)) (drop (i + 1) ends))) (packets_more ends i d lt)
-    ∙ append_assoc (joined (packet_lines 1 (take i ends))) (packet_line (i + 1) o)
-    (joined (packet_lines (1 + length (take (i + 1) ends)) (drop (i + 1) ends)))
+-- the text of all packets: the lines of some, that of one more, and what comes behind it
+pub packets_rest : (ends : List PacketEnd) (o : PacketEnd) (rest : List PacketEnd)
+    → joined (packet_lines 1 (ends ++ o ∷ rest)) ≡ joined (packet_lines 1 ends)
+    ++ (packet_line (1 + length ends) o ++ joined (packet_lines (1 + length ends + 1) rest))
+packets_rest ends o rest =
+    ap joined (packet_lines-append 1 ends (o ∷ rest))
+    ∙ flat_map-append (λ (line : List ℕ). line) (packet_lines 1 ends)
+    (packet_lines (1 + length ends) (o ∷ rest))
+    ∙ ap (λ (x : List ℕ). joined (packet_lines 1 ends) ++ x)
+    (flat_map-cons (λ (line : List ℕ). line) (packet_line (1 + length ends) o)
+    (packet_lines (1 + length ends + 1) rest))

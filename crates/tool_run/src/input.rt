@@ -1,5 +1,5 @@
 ghost use Rattle.std.specs.Prelude.{◌≡◌, ◌⊎◌, ◌≤◌, length, IfOk, IfErr, OnOk};
-ghost use Rattle.batch_run.specs.Commands.{commands_in};
+ghost use Rattle.batch_run.specs.Commands.{commands_in, commands_of};
 ghost use Rattle.pcap_io.specs.Captures.{AreShort};
 ghost use Rattle.tool_run.specs.Broken.{break_of, IsTold, IsTooMany};
 ghost use Rattle.batch_run.specs.declared.limit.TheConstants.{COMMANDS_MAX};
@@ -11,6 +11,7 @@ use capture_walk::PACKETS_MAX;
 use pcap_io::{Capture, CaptureFault, read_whole};
 use std::alloc::{AllocError, Global};
 use tc_base::{Bytes, Fetch, Shelf};
+use tc_words::lines;
 use tool_words::{Break, InputKind, Status};
 
 fn named(alloc: Global, name: &str) -> Result<Bytes, AllocError>
@@ -62,8 +63,8 @@ pub fn load<S: Shelf>(alloc: Global, shelf: &mut S, name: &str) -> Result<Vec<u8
     }
 }
 
-/// Refuses the lines of the batch that the name stands for where they have more than 262,144 commands.
-pub fn check_command_count(alloc: Global, name: &str, texts: &[&[u8]]) -> Result<(), Status>
+// Refuses the lines of the batch that the name stands for where they have more than 262,144 commands.
+fn check_command_count(alloc: Global, name: &str, texts: &[&[u8]]) -> Result<(), Status>
     ensures few { OnOk result (length (commands_in texts.now) ≤ COMMANDS_MAX) }
     ensures many { IfErr result (ApplyingFails name.now (commands_in texts.now)) }
 {
@@ -71,6 +72,21 @@ pub fn check_command_count(alloc: Global, name: &str, texts: &[&[u8]]) -> Result
         None => Ok(()),
         Some(line) => Err(bad_input(alloc, name, line, InputKind::TooManyLines)),
     }
+}
+
+/// The lines of the batch that the name stands for, unless they have more than 262,144 commands.
+pub fn batch_lines<'a>(
+    alloc: Global,
+    name: &str,
+    bytes: &'a [u8],
+) -> Result<Vec<&'a [u8]>, Status>
+    ensures commands { IfOk result (λ texts. commands_in texts.items ≡ commands_of bytes.now) }
+    ensures few { IfOk result (λ _. length (commands_of bytes.now) ≤ COMMANDS_MAX) }
+    ensures cause { IfErr result (ApplyingFails name.now (commands_of bytes.now)) }
+{
+    let texts = lines(alloc, bytes)?;
+    check_command_count(alloc, name, &texts)?;
+    Ok(texts)
 }
 
 fn break_in(fault: CaptureFault) -> Option<Break>

@@ -11,12 +11,11 @@ ghost use Rattle.batch_run.specs.declared.limit.TheConstants.{COMMANDS_MAX};
 ghost use Rattle.tool_run.specs.Parts.{ApplyingFails};
 ghost use Rattle.tool_run.specs.Delivered.{Showed, LeavesAllUnlessRun, CameSoFar};
 
-use crate::input::{check_command_count, load};
+use crate::input::{batch_lines, load};
 use crate::text::write_text;
 use batch_show::{Shown, show_batch};
 use std::alloc::Global;
 use tc_base::{Shelf, Sink};
-use tc_words::lines;
 use tool_words::Status;
 
 // Applies the bytes of the batch that the name stands for, unless they have too many commands.
@@ -26,8 +25,7 @@ fn show_bytes(alloc: Global, name: &str, bytes: &[u8]) -> Result<Shown, Status>
         × (s.text.items ≡ shown ran) × (s.refused ≡ is_some ran.stop)) }
     ensures cause { IfErr result (ApplyingFails name.now (commands_of bytes.now)) }
 {
-    let texts = lines(alloc, bytes)?;
-    check_command_count(alloc, name, &texts)?;
+    let texts = batch_lines(alloc, name, bytes)?;
     Ok(show_batch(alloc, &texts)?)
 }
 

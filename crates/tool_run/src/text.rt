@@ -5,7 +5,7 @@ ghost use Rattle.batch_walk.specs.Texts.{joined, packet_line, packet_lines};
 ghost use Rattle.batch_walk.specs.Walked.{told_text};
 
 use batch_walk::{WalkText, push_packet};
-use capture_walk::PacketEnd;
+use capture_walk::{Ends, PacketEnd};
 use std::alloc::Global;
 use tc_base::{Put, Sink};
 
@@ -28,7 +28,7 @@ fn write_packet<O: Sink>(
 }
 
 // Writes a line for each packet, numbered from 1. All lines are made in one buffer.
-fn write_packets<O: Sink>(alloc: Global, ends: &[PacketEnd], out: &mut O) -> Result<(), Put>
+fn write_packets<O: Sink>(alloc: Global, ends: &Ends, out: &mut O) -> Result<(), Put>
     ensures all { OnOk result (Appended (O.written out.old) (O.written out.new)
         (joined (packet_lines 1 ends.now))) }
     ensures up_to { AppendsUpTo (O.written out.old) (O.written out.new) (joined (packet_lines 1 ends.now)) }
@@ -36,8 +36,10 @@ fn write_packets<O: Sink>(alloc: Global, ends: &[PacketEnd], out: &mut O) -> Res
     ensures cause { IsErrOf result Put.Failed → Rose (O.faults out.old) (O.faults out.new) }
 {
     let mut line = Vec::new(alloc);
-    for (index, end) in ends.iter().enumerate() {
-        write_packet(&mut line, index as u64 + 1, end, out)?;
+    let mut number = 0;
+    for end in ends.iter() {
+        number += 1;
+        write_packet(&mut line, number, &end, out)?;
     }
     Ok(())
 }

@@ -1,36 +1,39 @@
-use Rattle.std.proofs.Common.{ℕ, List, ap, subst, arith}
-use Rattle.std.proofs.lemmas.List.{take_all}
-use Rattle.tc_base.specs.Outside.{AppendsUpTo}
+use Rattle.std.proofs.Common.{◌≡◌, ℕ, ◌+◌, ◌++◌, ◌∷◌, [], List, length, sym, ap, ◌∙◌, append_assoc, arith}
+use Rattle.std.proofs.lemmas.List.{append-nil, length_push}
 use Rattle.tc_base.proofs.Appends.{Appended-then, AppendsUpTo-then, AppendsUpTo-all}
-use Rattle.frame_edit.specs.declared.meta.Meta.{Meta}
-use Rattle.walk_rules.specs.declared.verdict.Verdict.TheVariants as verdicts
 use Rattle.capture_walk.specs.declared.ends.PacketEnd.{PacketEnd}
-use Rattle.batch_walk.specs.Texts.{joined, packet_lines}
 use Rattle.tool_run.proofs.Lines.{packets_more, packets_rest}
 use Rattle.tool_run.proofs.text.write_packets.Goals as goal
 
-abbrev no_meta : Meta
-no_meta = record { priority = 0; mark = 0; queue = 0 }
-
-abbrev nothing : PacketEnd
-nothing = record { verdict = verdicts.Pass; length = 0; meta = no_meta }
-
 pub returns-in_err-write_packet-clause-up_to : goal.returns-in_err-write_packet-clause-up_to
 returns-in_err-write_packet-clause-up_to g c =
-    rw (packets_rest c.args.ends.now c.loop-index.index nothing c.loop-index-test.true)
-    (AppendsUpTo-then _ _ _ _ _ _ c.loop-index.invariant.wrote c.write_packet.ensures.up_to)
+    let before = c.loop-end.invariant in
+    let walked = c.loop-end.yielded in
+    let number : c.loop-end.number + 1 ≡ 1 + length walked = omega (arith, before.number) in
+    let whole = before.whole ∙ ap (λ (rest : List PacketEnd). walked ++ rest) c.in-Some.ensures.steps in
+    rw (whole, packets_rest walked c.in-Some.end c.next.new.self)
+    (AppendsUpTo-then _ _ _ _ _ _ before.wrote (rw number at c.write_packet.ensures.up_to))
 
-pub loop-index-preserved : goal.loop-index-preserved
-loop-index-preserved g c = record {
-  wrote = rw (packets_more c.args.ends.now c.loop-index.index nothing c.loop-index-test.true)
-      (Appended-then _ _ _ _ _ c.loop-index.invariant.wrote c.in_ok-write_packet.ensures.all);
-  later = omega (arith, c.write_packet.ensures.later, c.loop-index.invariant.later);
-}
+pub loop-end-preserved : goal.loop-end-preserved
+loop-end-preserved g c =
+    let before = c.loop-end.invariant in
+    let walked = c.loop-end.yielded in
+    let end = c.in-Some.end in
+    let number : c.loop-end.number + 1 ≡ 1 + length walked = omega (arith, before.number) in
+    record {
+      whole = before.whole ∙ ap (λ (rest : List PacketEnd). walked ++ rest) c.in-Some.ensures.steps
+          ∙ sym (append_assoc walked (end ∷ []) c.next.new.self);
+      number = omega (arith, before.number, length_push walked end);
+      wrote = rw (packets_more walked end)
+          (Appended-then _ _ _ _ _ before.wrote (rw number at c.in_ok-write_packet.ensures.all));
+      later = omega (arith, c.write_packet.ensures.later, before.later);
+    }
 
 pub returns-clause-up_to : goal.returns-clause-up_to
 returns-clause-up_to g c =
-    let ends = c.args.ends.now in
-    subst (λ (x : List ℕ). AppendsUpTo (g.O.Sink.written c.args.out.now) (g.O.Sink.written c.loop-index.out)
-    x) (ap (λ (passed : List PacketEnd). joined (packet_lines 1 passed))
-    (take_all c.loop-index.index ends c.loop-index-test.false))
-    (AppendsUpTo-all _ _ _ c.loop-index.invariant.wrote)
+    let before = c.loop-end.invariant in
+    let walked = c.loop-end.yielded in
+    let whole : c.args.ends.now ≡ walked =
+    before.whole ∙ ap (λ (rest : List PacketEnd). walked ++ rest) c.in-None.ensures.steps.0
+    ∙ append-nil walked in
+    rw whole (AppendsUpTo-all _ _ _ before.wrote)

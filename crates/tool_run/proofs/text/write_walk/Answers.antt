@@ -7,7 +7,7 @@ returns-in_err-write_text-clause-up_to g c =
     let text = c.args.text.now in
     AppendsUpTo-more _ _ _ text.closing.items
     (AppendsUpTo-more (g.O.Sink.written c.args.out.now) (g.O.Sink.written c.write_text.new.out) _
-    (joined (packet_lines 1 text.ends.items)) (rw c.deref.ensures.value at c.write_text.ensures.up_to))
+    (joined (packet_lines 1 text.ends)) (rw c.deref.ensures.value at c.write_text.ensures.up_to))
 
 pub returns-in_err-write_packets-clause-up_to : goal.returns-in_err-write_packets-clause-up_to
 returns-in_err-write_packets-clause-up_to g c =
@@ -15,7 +15,7 @@ returns-in_err-write_packets-clause-up_to g c =
     (AppendsUpTo-last (g.O.Sink.written c.args.out.now) (g.O.Sink.written c.write_text.new.out)
     (g.O.Sink.written c.write_packets.new.out) _ _
     (rw c.deref.ensures.value at c.in_ok-write_text.ensures.all)
-    (rw c.deref-2.ensures.value at c.write_packets.ensures.up_to))
+    c.write_packets.ensures.up_to)
 
 pub returns-clause-up_to : goal.returns-clause-up_to
 returns-clause-up_to g c =
@@ -24,5 +24,5 @@ returns-clause-up_to g c =
     (Appended-then (g.O.Sink.written c.args.out.now) (g.O.Sink.written c.write_text.new.out)
     (g.O.Sink.written c.write_packets.new.out) _ _
     (rw c.deref.ensures.value at c.in_ok-write_text.ensures.all)
-    (rw c.deref-2.ensures.value at c.in_ok-write_packets.ensures.all))
-    (rw c.deref-3.ensures.value at c.write_text-2.ensures.up_to)
+    c.in_ok-write_packets.ensures.all)
+    (rw c.deref-2.ensures.value at c.write_text-2.ensures.up_to)

@@ -3,7 +3,7 @@ use Rattle.std.specs.Prelude.{map}
 use Rattle.std.proofs.lemmas.Result.{err_from_is_err_and}
 use Rattle.batch_run.specs.Commands.{Command, commands_from, commands_in, commands_of}
 use Rattle.tool_run.specs.Parts.{ApplyingFails}
-use Rattle.tool_run.proofs.run_show.show_bytes.Goals as goal
+use Rattle.tool_run.proofs.input.batch_lines.Goals as goal
 
 pub returns-in_err-check_command_count-clause-cause : goal.returns-in_err-check_command_count-clause-cause
 returns-in_err-check_command_count-clause-cause c =

@@ -3,7 +3,7 @@ use Rattle.std.proofs.lemmas.Result.{on_ok_weaker}
 use Rattle.capture_walk.specs.declared.counts.Count.{Count}
 use Rattle.capture_walk.specs.Captures.{AreFew}
 use Rattle.capture_walk.proofs.Counting.{few-more}
-use Rattle.capture_walk.proofs.walking.WalkedCapture.add.Goals as goal
+use Rattle.capture_walk.proofs.walking.Leaving.add.Goals as goal
 
 pub returns-clause-few : goal.returns-clause-few
 returns-clause-few c =
@@ -15,4 +15,4 @@ returns-clause-few c =
     (few-more walks c.deref_mut.result.now c.executed.result.now
     (subst (λ (counts : List Count). AreFew walks counts) (sym c.deref_mut.ensures.value) few)
     c.executed.ensures.short))
-    c.keep.ensures.short
+    c.keep.ensures.kept
