@@ -75,11 +75,7 @@ fn check_command_count(alloc: Global, name: &str, texts: &[&[u8]]) -> Result<(),
 }
 
 /// The lines of the batch that the name stands for, unless they have more than 262,144 commands.
-pub fn batch_lines<'a>(
-    alloc: Global,
-    name: &str,
-    bytes: &'a [u8],
-) -> Result<Vec<&'a [u8]>, Status>
+pub fn batch_lines<'a>(alloc: Global, name: &str, bytes: &'a [u8]) -> Result<Vec<&'a [u8]>, Status>
     ensures commands { IfOk result (λ texts. commands_in texts.items ≡ commands_of bytes.now) }
     ensures few { IfOk result (λ _. length (commands_of bytes.now) ≤ COMMANDS_MAX) }
     ensures cause { IfErr result (ApplyingFails name.now (commands_of bytes.now)) }
