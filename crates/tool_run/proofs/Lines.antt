@@ -1,5 +1,6 @@
 -- The lines of a text, one more at a time.
-use Rattle.std.proofs.Common.{◌≡◌, ℕ, ◌+◌, ◌-◌, ◌<◌, ◌≤◌, List, [], ◌∷◌, ◌++◌, length, take, drop, sym, ap, ◌∙◌, append_assoc, arith}
+use Rattle.std.proofs.Common.{◌≡◌, ℕ, ◌+◌, ◌-◌, ◌≤◌, List, [], ◌∷◌, ◌++◌, length, take, drop, sym, ap, ◌∙◌, append_assoc, arith}
+use Rattle.std.specs.Prelude.{codes}
 use Rattle.std.specs.List.{slice_range}
 use Rattle.std.proofs.lemmas.List.{take-append-drop, append-nil}
 use Rattle.std.proofs.lemmas.List.Concat.{flat_map-cons}
@@ -7,7 +8,8 @@ use Rattle.std.proofs.Math.Seq.{take-add}
 use Rattle.std.proofs.lemmas.List.Folds.{drop_split}
 use Rattle.std.proofs.lemmas.Grind.{flat_map-append}
 use Rattle.capture_walk.specs.declared.ends.PacketEnd.{PacketEnd}
-use Rattle.batch_walk.specs.Texts.{joined, packet_line, packet_lines}
+use Rattle.batch_walk.specs.Texts.{joined, counted, end_text, packet_line, packet_lines}
+use Rattle.tool_run.specs.Endings.{ending_of}
 
 -- a text is what stands before a place, the piece from there, and what stands behind the piece
 pub text_split : (text : List ℕ) (start end : ℕ) → start ≤ end → text ≡ take start text
@@ -66,3 +68,10 @@ packets_rest ends o rest =
     ∙ ap (λ (x : List ℕ). joined (packet_lines 1 ends) ++ x)
     (flat_map-cons (λ (line : List ℕ). line) (packet_line (1 + length ends) o)
     (packet_lines (1 + length ends + 1) rest))
+
+-- a line in two parts
+pub line_parts : (number : ℕ) (end : PacketEnd)
+    → counted (codes "packet ") number ++ ending_of end ≡ packet_line number end
+line_parts number end =
+    sym (append_assoc (counted (codes "packet ") number) (end_text end.verdict end.length end.meta)
+    (codes "\n"))

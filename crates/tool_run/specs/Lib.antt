@@ -1,6 +1,7 @@
 pub mod Broken
 pub mod Causes
 pub mod Delivered
+pub mod Endings
 pub mod Holdings
 pub mod Made
 pub mod Parts

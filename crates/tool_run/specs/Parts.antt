@@ -1,14 +1,12 @@
 -- Why the parts of a run answer nothing.
-use Rattle.std.specs.Prelude.{◌≡◌, ◌⊎◌, ℕ, List, Option, Some}
+use Rattle.std.specs.Prelude.{◌≡◌, ℕ, List, Option, Some}
 use Rattle.tc_base.specs.Outside.{Held, Rose}
 use Rattle.batch_run.specs.Commands.{Command, line_past}
 use Rattle.tool_words.specs.declared.status.InputKind.TheVariants as kinds
 use Rattle.tool_words.specs.declared.status.Status.{Status}
 use Rattle.tool_words.specs.declared.status.Status.TheVariants as statuses
-use Rattle.tool_words.specs.Requests.{Names}
 use Rattle.batch_run.specs.declared.limit.TheConstants.{COMMANDS_MAX}
-use Rattle.tool_run.specs.Holdings.{HasCommands, HasBreak}
-use Rattle.tool_run.specs.Work.{BatchBreaks}
+use Rattle.tool_run.specs.Holdings.{HasBreak}
 use Rattle.tool_run.specs.Causes.{ReadFails, WriteFails}
 
 -- why one file was not loaded
@@ -33,19 +31,6 @@ CaptureFails held read_faults failed_name old new name (statuses.BadInput file p
     (file ≡ name) × HasBreak (held old) name place kind
 CaptureFails held read_faults failed_name old new name status =
     LoadFails held read_faults failed_name old new name status
-
--- why a walk's input gave nothing: the batch comes first, and then the capture
-abbrev pub InputFails : {S : Type 0} → (S → Option Held) → (S → ℕ) → (S → Option (List ℕ)) → S → S → Names
-    → Status → Type 0
-InputFails held read_faults failed_name old new names (statuses.ReadFault name) =
-    ((name ≡ names.batch) ⊎ ((name ≡ names.capture) × HasCommands (held old) names.batch))
-    × ReadFails held read_faults failed_name old new name
-InputFails held read_faults failed_name old new names (statuses.BadInput name place kind) =
-    BatchBreaks (held old) names.batch name place kind
-    ⊎ ((name ≡ names.capture) × HasCommands (held old) names.batch
-    × HasBreak (held old) names.capture place kind)
-InputFails held read_faults failed_name old new names statuses.NoMemory = Unit {0}
-InputFails held read_faults failed_name old new names status = ⊥
 
 -- why a file was not put
 abbrev pub PutFails : {S : Type 0} → (S → ℕ) → S → S → Status → Type 0

@@ -1,9 +1,17 @@
-use Rattle.std.proofs.Common.{◌≡◌, ℕ, ◌+◌, ◌++◌, ◌∷◌, [], List, length, sym, ap, ◌∙◌, append_assoc, arith}
+use Rattle.std.proofs.Common.{◌≡◌, ◌+◌, ◌++◌, ◌∷◌, [], List, length, sym, ap, ◌∙◌, append_assoc, arith}
 use Rattle.std.proofs.lemmas.List.{append-nil, length_push}
-use Rattle.tc_base.proofs.Appends.{Appended-then, AppendsUpTo-then, AppendsUpTo-all}
+use Rattle.tc_base.proofs.Appends.{Appended-then, AppendsUpTo-then, AppendsUpTo-front, AppendsUpTo-all}
 use Rattle.capture_walk.specs.declared.ends.PacketEnd.{PacketEnd}
 use Rattle.tool_run.proofs.Lines.{packets_more, packets_rest}
 use Rattle.tool_run.proofs.text.write_packets.Goals as goal
+
+pub returns-in_err-turn_to-clause-up_to : goal.returns-in_err-turn_to-clause-up_to
+returns-in_err-turn_to-clause-up_to g c =
+    let before = c.loop-end.invariant in
+    let walked = c.loop-end.yielded in
+    let whole = before.whole ∙ ap (λ (rest : List PacketEnd). walked ++ rest) c.in-Some.ensures.steps in
+    rw (whole, packets_rest walked c.in-Some.end c.next.new.self)
+    (AppendsUpTo-front _ _ _ _ before.wrote)
 
 pub returns-in_err-write_packet-clause-up_to : goal.returns-in_err-write_packet-clause-up_to
 returns-in_err-write_packet-clause-up_to g c =
@@ -12,7 +20,7 @@ returns-in_err-write_packet-clause-up_to g c =
     let number : c.loop-end.number + 1 ≡ 1 + length walked = omega (arith, before.number) in
     let whole = before.whole ∙ ap (λ (rest : List PacketEnd). walked ++ rest) c.in-Some.ensures.steps in
     rw (whole, packets_rest walked c.in-Some.end c.next.new.self)
-    (AppendsUpTo-then _ _ _ _ _ _ before.wrote (rw number at c.write_packet.ensures.up_to))
+    (AppendsUpTo-then _ _ _ _ _ _ before.wrote (rw (number, c.in_ok-turn_to.ensures.end) at c.write_packet.ensures.up_to))
 
 pub loop-end-preserved : goal.loop-end-preserved
 loop-end-preserved g c =
@@ -24,8 +32,9 @@ loop-end-preserved g c =
       whole = before.whole ∙ ap (λ (rest : List PacketEnd). walked ++ rest) c.in-Some.ensures.steps
           ∙ sym (append_assoc walked (end ∷ []) c.next.new.self);
       number = omega (arith, before.number, length_push walked end);
+      told = c.in_ok-turn_to.ensures.told;
       wrote = rw (packets_more walked end)
-          (Appended-then _ _ _ _ _ before.wrote (rw number at c.in_ok-write_packet.ensures.all));
+          (Appended-then _ _ _ _ _ before.wrote (rw (number, c.in_ok-turn_to.ensures.end) at c.in_ok-write_packet.ensures.all));
       later = omega (arith, c.write_packet.ensures.later, before.later);
     }
 
