@@ -5,10 +5,11 @@
 //! so comparing whole words under the mask says the same (`words_are_fields`), and costs one AND and one
 //! compare a word.
 //!
-//! In the shared store the filters of one mask stand in buckets: `masked` gives the key to look for, `hash` its
-//! bucket, and `size_for` how many buckets some filters get, so that at most three quarters are in use until
-//! the greatest size is reached. Plain lists find keys by a map of `std` (`filter_index`). `matches` serves where filters are tried one by one, and as the last word on a bucket's
-//! entries. It stops at the first word that differs.
+//! In the shared store the filters of one mask stand in buckets: `masked` gives the key to look for, `hash`
+//! its bucket, and `size_for` how many buckets some filters get, so that at most three quarters are in use
+//! until the greatest size is reached. Plain lists have an index of their own (`filter_index`). `matches`
+//! serves where filters are tried one by one, and as the last word on a bucket's entries. It stops at the
+//! first word that differs.
 //!
 //! The hash is fixed, and no secret: who chooses filters can put many into one bucket. It answers the same on
 //! every machine and at every time, which a repeated run relies on.
