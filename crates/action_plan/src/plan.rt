@@ -1,5 +1,6 @@
 //! A plan for the actions of a line.
 ghost use Rattle.filter_state.specs.declared.limits.TheConstants.{LINE_ACTIONS_MAX};
+ghost use Rattle.act_registry.specs.declared.limits.TheConstants.{ACTIONS_MAX, MADE_MAX};
 ghost use Rattle.std.specs.Prelude.{◌≡◌, ◌≤◌, ◌<◌, ◌+◌, ◌∷◌, ◌++◌, [], length, IfOk, OnOk, OnErr};
 ghost use Rattle.act_kinds.specs.Params.{kind_of};
 ghost use Rattle.filter_state.specs.States.{Action};
@@ -11,6 +12,7 @@ ghost use Rattle.action_plan.specs.Plans.{made_of, carried, carried_one, AreFit,
 ghost use Rattle.action_plan.specs.Plans.{planned_by, made_or_refused, PlanTold, plan_or, AddTold};
 ghost use Rattle.action_plan.specs.Plans.{serial_to_make, is_to_make};
 
+use crate::carrying::carry_out;
 use crate::names::{free_index, next_serial, serial_of};
 use crate::planned::PlannedAction;
 use crate::planned_actions::PlannedActions;
@@ -81,6 +83,21 @@ impl ActionPlan {
         ensures { IfOk result (λ plan. plan ≡ self.now) }
     {
         PlannedActions::of_parts(alloc, &self.parts)
+    }
+
+    /// Does what was planned, without the plan being kept before. It takes no memory.
+    pub fn carry_out(&self, registry: &mut Registry<Params>)
+        requires fit { AreFit (made_of registry.old) self.now }
+        requires room { made_by self.now ≤ registry.old.spare }
+        requires few { length registry.old.entries + made_by self.now ≤ ACTIONS_MAX }
+        requires in_run { registry.old.made + made_by self.now ≤ MADE_MAX }
+        requires references { Each (λ (action : Action). action.references + length self.now < 4294967295)
+            (actions_of registry.old.entries) }
+        ensures actions { actions_of registry.new.entries
+            ≡ (carried (made_of registry.old) self.now).actions }
+        ensures made { registry.new.made ≡ (carried (made_of registry.old) self.now).made }
+    {
+        carry_out(&self.parts, registry);
     }
 
     /// How many actions the plan makes, of the `LINE_ACTIONS_MAX` at most that it has.

@@ -7,3 +7,4 @@ pub mod Given
 pub mod Added
 pub mod Put
 pub mod Done
+pub mod AtOnce

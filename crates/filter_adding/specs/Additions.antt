@@ -1,18 +1,26 @@
 -- What an addition comes to, and when it can be done.
 use Rattle.filter_state.specs.declared.limits.TheConstants.{FILTERS_MAX}
-use Rattle.std.specs.Prelude.{◌≡◌, ◌≤◌, ◌<◌, ◌+◌, Result, Ok, Err}
+use Rattle.std.specs.Prelude.{◌≡◌, ◌≤◌, ◌<◌, ◌+◌, ℕ, List, Result, Ok, Err}
 use Rattle.filter_state.specs.declared.refusal.Done.{Done}
 use Rattle.filter_state.specs.declared.refusal.Done.TheVariants as dones
 use Rattle.filter_state.specs.declared.refusal.Refusal.{Refusal}
 use Rattle.filter_state.specs.declared.refusal.Refusal.TheVariants as refusals
 use Rattle.filter_state.specs.States.{State}
 use Rattle.filter_state.specs.Steps.{Stepped, made_of, with_actions, with_row}
+use Rattle.action_plan.specs.declared.planned.PlannedAction.{PlannedAction}
 use Rattle.action_plan.specs.Plans.{carried}
 use Rattle.hook_lists.specs.declared.kept.Kept.{Kept}
 use Rattle.hook_lists.specs.States.{state_of}
 use Rattle.hook_lists.specs.Steps.{PlanFits}
 use Rattle.filter_adding.specs.declared.addition.Addition.{Addition}
+use Rattle.filter_adding.specs.declared.arrival.Arrival.{Arrival}
+use Rattle.filter_adding.specs.declared.arrival.Seat.{Seat}
 use Rattle.filter_adding.specs.Arrivals.{row_of_arrival, IsSeat}
+
+-- the addition of a filter whose actions stand in a plan
+abbrev pub addition_of : Arrival → Seat → List PlannedAction → List ℕ → Addition
+addition_of arrival seat plan serials =
+    record { arrival = arrival; seat = seat; actions = plan; serials = serials }
 
 -- the state that an addition leads to, and its answer
 abbrev pub state_after : State → Addition → State

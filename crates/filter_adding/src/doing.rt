@@ -43,7 +43,7 @@ pub fn add(kept: &mut Kept, addition: Addition) -> Done
 }
 
 // One filter more, and a table or a mask more where the filter has the next serial.
-fn count(kept: &mut Kept, arrival: &Arrival)
+pub(crate) fn count(kept: &mut Kept, arrival: &Arrival)
     requires few { kept.old.filters < FILTERS_MAX }
     requires table { arrival.now.table_serial ≤ kept.old.tables_made + 1 }
     requires mask { arrival.now.mask_serial ≤ kept.old.masks_made + 1 }
@@ -68,7 +68,7 @@ fn newest(made: u32, serial: u32) -> u32
     if serial > made { serial } else { made }
 }
 
-fn put(kept: &mut Kept, arrival: Arrival, seat: Seat)
+pub(crate) fn put(kept: &mut Kept, arrival: Arrival, seat: Seat)
     requires seat { IsOpen (room_on arrival.hook kept.old) arrival seat }
     requires handle { 1 ≤ arrival.filter.handle }
     ensures hooked { kept.new.hooked ≡ kept.old.hooked }

@@ -62,7 +62,13 @@ fn make_ready(kept: &mut Kept, line: &FilterLine, found: &Found) -> Result<Addit
 }
 
 // The filter with all that it is to stand under.
-fn arrival_for(kept: &Kept, line: &FilterLine, pref: u32, seat: &Seat, actions: Numbers) -> Arrival
+pub(crate) fn arrival_for(
+    kept: &Kept,
+    line: &FilterLine,
+    pref: u32,
+    seat: &Seat,
+    actions: Numbers,
+) -> Arrival
     requires kept { AreKept kept.now }
     requires there { IsThere (tables_on line.now.hook (both_of kept.now)) seat.now }
     requires tables { kept.now.tables_made + 1 < 4294967296 }

@@ -1,5 +1,5 @@
 -- From the state of the lists to each state that they spell.
-use Rattle.std.proofs.Common.{◌≡◌, Ok, Err, refl, sym, ◌∙◌, subst}
+use Rattle.std.proofs.Common.{◌≡◌, Result, Ok, Err, refl, sym, ◌∙◌, subst}
 use Rattle.act_kinds.specs.Params.{kind_of}
 use Rattle.filter_state.specs.Actions.{index_or_free}
 use Rattle.filter_state.specs.declared.edit.Edit.{Edit}
@@ -17,11 +17,13 @@ use Rattle.order_laws.proofs.Steps.{step_same}
 use Rattle.order_laws.proofs.Soundness.{sound_same}
 use Rattle.hook_lists.specs.declared.kept.Kept.{Kept}
 use Rattle.hook_lists.specs.States.{state_of, AreKept}
-use Rattle.hook_lists.specs.Done.{IsDone}
+use Rattle.hook_lists.specs.Steps.{IsRoomier}
+use Rattle.hook_lists.specs.Done.{IsDone, IsDoneAtOnce}
+use Rattle.filter_adding.proofs.Later.{kept_later, state_same}
 use Rattle.filter_lists.specs.declared.plan.Plan.{Plan}
 use Rattle.filter_lists.specs.declared.plan.Plan.TheVariants as plans
 use Rattle.filter_lists.specs.Spells.{Spells}
-use Rattle.filter_lists.specs.Edits.{Stays, IsPrepared, IsFinished, IsStepped}
+use Rattle.filter_lists.specs.Edits.{IsPrepared, IsFinished, IsStepped}
 use Rattle.filter_lists.specs.Plans.{Leads, IsPlanned}
 use Rattle.filter_lists.proofs.Made.{made_accepted}
 use Rattle.filter_lists.proofs.Registries.{accepted}
@@ -93,11 +95,39 @@ still_kept old new done said next edit kept line is done_so = record {
   filters = done_so.filters;
 }
 
+-- ---- done at once
+pub planned_refused : (old new : Kept) (refusal : Refusal) (st : Stepped) → IsPlanned new (Err refusal) st → IsRoomier old new → IsDoneAtOnce old new (Err refusal) st
+planned_refused old new refusal (Ok next) planned roomier = (planned, roomier)
+planned_refused old new refusal (Err said) planned roomier = (planned, roomier)
+
+pub accepted_done : (old new : Kept) (done said : Done) (next : State) (st : Stepped) → st ≡ accepted next said → IsDone new done next said → IsDoneAtOnce old new (Ok done) st
+accepted_done old new done said next st is done_so = subst (IsDoneAtOnce old new (Ok done)) (sym is) done_so
+
+kept_by : (old new : Kept) (result : Result Done Refusal) (edit : Edit) (st : Stepped) → step (state_of old) edit ≡ st → AreKept old → IsLine edit → IsDoneAtOnce old new result st →
+    AreKept new
+kept_by old new (Ok done) edit (Ok (next, said)) is kept line told = still_kept old new done said next edit kept line is told
+kept_by old new (Ok done) edit (Err said) is kept line told = absurd told
+kept_by old new (Err refusal) edit (Ok next) is kept line told = kept_later old new told.1 kept
+kept_by old new (Err refusal) edit (Err said) is kept line told = kept_later old new told.1 kept
+
+pub kept_at_once : (old new : Kept) (result : Result Done Refusal) (edit : Edit) → AreKept old → IsLine edit → IsDoneAtOnce old new result (step (state_of old) edit) → AreKept new
+kept_at_once old new result edit kept line told = kept_by old new result edit (step (state_of old) edit) refl kept line told
+
+stepped_as : (old new : Kept) (result : Result Done Refusal) (st other : Stepped) → SameStepped st other → IsDoneAtOnce old new result st → IsStepped old new result other
+stepped_as old new (Ok done) (Ok (next, said)) (Ok (to, answer)) same told = (told.answer ∙ same.1, same_state_trans told.state same.0)
+stepped_as old new (Ok done) (Ok (next, said)) (Err other) same told = absurd same
+stepped_as old new (Ok done) (Err said) other same told = absurd told
+stepped_as old new (Err refusal) (Ok (next, said)) (Ok (to, answer)) same told = (told.0, state_same old new told.1)
+stepped_as old new (Err refusal) (Ok (next, said)) (Err other) same told = absurd same
+stepped_as old new (Err refusal) (Err said) (Ok (to, answer)) same told = absurd same
+stepped_as old new (Err refusal) (Err said) (Err other) same told = (told.0 ∙ same, state_same old new told.1)
+
+pub stepped_at_once : (old new : Kept) (result : Result Done Refusal) (edit : Edit) (s : State) → AreKept old → Spells old s → IsDoneAtOnce old new result (step (state_of old) edit) →
+    IsStepped old new result (step s edit)
+stepped_at_once old new result edit s kept spells told =
+    stepped_as old new result (step (state_of old) edit) (step s edit) (step_same (state_of old) s edit spells kept.sound) told
+
 -- ---- the lists are still as they were left
 pub leads_here : (kept left : Kept) (plan : Plan) (edit : Edit) → kept ≡ left → Leads left plan (step (state_of left) edit) → LeadsTo kept plan (step (state_of kept) edit)
 leads_here kept left plan edit same leads =
     subst (λ k. LeadsTo k plan (step (state_of k) edit)) (sym same) (leads_to left plan (step (state_of left) edit) leads)
-
-pub refused_step : (P : Type 0) (old new : Kept) (refusal : Refusal) (st : Stepped) → IsPrepared {P = P} (Err refusal) st → Stays old new → IsStepped old new (Err refusal) st
-refused_step P old new refusal (Ok next) prepared stays = (prepared, stays)
-refused_step P old new refusal (Err said) prepared stays = (prepared, stays)

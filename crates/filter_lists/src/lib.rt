@@ -8,9 +8,9 @@
 //! all that it stands under. The two are tied by `Spells` (`specs/Spells.antt`): all is the state's, but for
 //! the order between rows of different masks, which means nothing.
 //!
-//! `Lists::step` is that state's step. It is `prepare` and then `finish`: `prepare` looks for every refusal,
-//! takes the memory that the edit wants, and leaves the state as it was; `finish` does the edit, and can't be
-//! refused. Whoever must do something else in between, and may still give the edit up, calls the two apart.
+//! `Lists::step` is that state's step. `prepare` and then `finish` are the same in two calls: `prepare` looks
+//! for every refusal, takes the memory that the edit wants, and leaves the state as it was; `finish` does the
+//! edit, and can't be refused. So whoever must do something else in between may still give the edit up.
 //! Clauses speak of every state that the lists spell, so no call carries a state along. The lists spell a
 //! sound state at all times: that is the invariant of `Lists`.
 //!
@@ -40,7 +40,8 @@
 //! ```
 //!
 //! A replace and a del go the same two ways through filter_replacing and filter_removing; a replace of a
-//! filter that isn't there is an add.
+//! filter that isn't there is an add. `Lists::step` goes by `add_at_once` and `replace_at_once` for filters:
+//! the same calls in the same order, with nothing kept between the looking and the doing.
 //!
 //! One thread changes the lists at a time, by `&mut`, and any may read them by `&`. Only `step` and `prepare`
 //! take memory.
@@ -48,6 +49,7 @@
 //! Not promised: that memory suffices.
 #![tactic(auto)]
 
+mod applying;
 mod doing;
 mod lists;
 mod plan;

@@ -6,6 +6,7 @@ ghost use Rattle.filter_state.specs.States.{State, no_state};
 ghost use Rattle.filter_tables.specs.Seen.{plain_table};
 ghost use Rattle.filter_tables.specs.Rows.{tables_on};
 
+use crate::applying::apply;
 use crate::doing::carry;
 use crate::prepared::Prepared;
 use crate::preparing::plan_for;
@@ -131,9 +132,6 @@ impl Lists {
         requires may { MayStep self.old }
         ensures { (s : State) → Spells self.old s → IsStepped self.old self.new result (step s edit.now) }
     {
-        match self.prepare(edit) {
-            Ok(prepared) => Ok(self.finish(prepared)),
-            Err(refusal) => Err(refusal),
-        }
+        apply(&mut self.kept, edit)
     }
 }

@@ -9,3 +9,4 @@ pub mod Fitting
 pub mod Counted
 pub mod Turned
 pub mod Exchanged
+pub mod AtOnce

@@ -1,11 +1,13 @@
 -- A replacement that is ready leads where the step does.
-use Rattle.std.proofs.Common.{◌≡◌, ℕ, ◌+◌, ◌<◌, Bool, List, Some, Ok, sym, ◌∙◌, ap, subst}
+use Rattle.std.proofs.Common.{◌≡◌, ℕ, ◌+◌, ◌<◌, Bool, List, Some, None, Ok, sym, ◌∙◌, ap, subst}
 use Rattle.std.proofs.lemmas.Option.{same_Some}
 use Rattle.act_kinds.specs.declared.params.Params.{Params}
 use Rattle.act_registry.specs.declared.entry.Entry.{Entry}
 use Rattle.filter_state.specs.declared.edit.FilterLine.{FilterLine}
 use Rattle.filter_state.specs.declared.refusal.Done.TheVariants as dones
 use Rattle.filter_state.specs.States.{Row, State}
+use Rattle.filter_state.specs.Actions.{Made}
+use Rattle.filter_state.specs.Refusals.{or_else, exists_but, actions_full, counters_full}
 use Rattle.filter_state.specs.Steps.{with_actions, with_replaced, filter_replaced, replace_at}
 use Rattle.filter_index.specs.declared.filter.Filter.{Filter}
 use Rattle.filter_tables.specs.Plain.{PlainMask, PlainTable}
@@ -13,14 +15,15 @@ use Rattle.filter_tables.specs.Places.{item_at}
 use Rattle.filter_tables.specs.Rows.{all_rows, row_of}
 use Rattle.action_plan.specs.declared.planned.PlannedAction.{PlannedAction}
 use Rattle.action_plan.specs.Entries.{actions_of}
-use Rattle.action_plan.specs.Plans.{made_of, carried, serials_of}
+use Rattle.action_plan.specs.Plans.{made_of, carried, serials_of, AreFit}
 use Rattle.hook_lists.specs.declared.kept.Kept.{Kept}
 use Rattle.hook_lists.specs.States.{state_of}
 use Rattle.hook_lists.specs.Steps.{IsRoomier, PlanFits}
+use Rattle.filter_adding.proofs.Later.{made_same}
 use Rattle.filter_replacing.specs.declared.replacement.Change.{Change}
 use Rattle.filter_replacing.specs.declared.replacement.Old.{Old}
 use Rattle.filter_replacing.specs.declared.replacement.Replacement.{Replacement}
-use Rattle.filter_replacing.specs.Replacements.{old_row, changed, exchanged, state_after, IsOld, IsPlanned}
+use Rattle.filter_replacing.specs.Replacements.{old_row, changed, exchanged, state_after, replacement_of, IsOld, IsPlanned}
 use Rattle.filter_replacing.specs.Planning.{resolved_to, IsChange, IsLooked, HasChange}
 use Rattle.filter_replacing.proofs.Going.{same_tables}
 use Rattle.filter_replacing.proofs.Looking.{its_handle}
@@ -36,7 +39,7 @@ state_with hooked ingress egress entries tables_made masks_made made = record {
   actions_made = made;
 }
 
-same_state : (old new : Kept) → IsRoomier old new → state_of new ≡ state_of old
+pub same_state : (old new : Kept) → IsRoomier old new → state_of new ≡ state_of old
 same_state old new roomier =
     ap (λ x. state_with x new.ingress.tables new.egress.tables new.actions.entries new.tables_made new.masks_made new.actions.made) roomier.hooked
     ∙ ap (λ x. state_with old.hooked x new.egress.tables new.actions.entries new.tables_made new.masks_made new.actions.made) roomier.ingress
@@ -56,12 +59,34 @@ same_old kept now old t m f roomier is = record {
   filter_stands = is.filter_stands;
 }
 
--- ---- the plan
-abbrev with_parts : Old → Change → List PlannedAction → List ℕ → Replacement
-with_parts old change plan serials = record { old = old; change = change; actions = plan; serials = serials }
+-- what was looked at stays so
+pub looked_later : (kept now : Kept) (line : FilterLine) (old : Old) (plan : List PlannedAction) → IsRoomier kept now → IsLooked kept line old (Ok plan) → IsLooked now line old (Ok plan)
+looked_later kept now line old plan roomier (t, m, f, allowed, within, step) =
+    let same : state_of now ≡ state_of kept = same_state kept now roomier in
+    let made : made_of now.actions ≡ made_of kept.actions = made_same kept now roomier in
+    let row : Row = row_of old.hook t m f in (
+      t,
+      m,
+      f,
+      record {
+        stands = same_old kept now old t m f roomier allowed.stands;
+        row = subst (λ s. old_row s line ≡ Some row) (sym same) allowed.row;
+        hook = allowed.hook;
+        chain = allowed.chain;
+        protocol = allowed.protocol;
+        alone = subst (λ s. exists_but s old.hook old.chain old.pref (Some old.handle) line.mask.words line.key.words ≡ None) (sym same) allowed.alone;
+      },
+      record {
+        fit = subst (λ (next : Made). AreFit next plan) (sym made) within.fit;
+        full = subst (λ (next : Made). or_else (actions_full (carried next plan)) (counters_full (carried next plan)) ≡ None) (sym made) within.full;
+      },
+      subst (λ s. replace_at s line row ≡ filter_replaced s line row (resolved_to now plan)) (sym same)
+          (subst (λ (next : Made). replace_at (state_of kept) line row ≡ filter_replaced (state_of kept) line row (record { so_far = carried next plan; serials = serials_of plan })) (sym made) step),
+    )
 
-abbrev ready : Old → Change → List PlannedAction → Replacement
-ready old change plan = with_parts old change plan (serials_of plan)
+-- ---- the plan
+abbrev pub ready : Old → Change → List PlannedAction → Replacement
+ready old change plan = replacement_of old change plan (serials_of plan)
 
 module _ (kept now : Kept) (line : FilterLine) (old : Old) (plan : List PlannedAction) (roomier : IsRoomier kept now) where
   leads : (change : Change) (row : Row) → changed (state_of kept) row change ≡ with_replaced (state_of kept) line row (serials_of plan) →
@@ -104,9 +129,9 @@ module _ (kept now : Kept) (line : FilterLine) (old : Old) (plan : List PlannedA
 
   same_parts : (r : Replacement) → (r.old ≡ old) × (r.actions ≡ plan) × (r.serials ≡ serials_of plan) → ready old r.change plan ≡ r
   same_parts r (its_old, its_actions, its_serials) =
-      sym (ap (λ (o : Old). with_parts o r.change r.actions r.serials) its_old
-      ∙ ap (λ (ps : List PlannedAction). with_parts old r.change ps r.serials) its_actions
-      ∙ ap (λ (ns : List ℕ). with_parts old r.change plan ns) its_serials)
+      sym (ap (λ (o : Old). replacement_of o r.change r.actions r.serials) its_old
+      ∙ ap (λ (ps : List PlannedAction). replacement_of old r.change ps r.serials) its_actions
+      ∙ ap (λ (ns : List ℕ). replacement_of old r.change plan ns) its_serials)
 
   pub replacement_planned : (r : Replacement) (row : Row) → IsLooked kept line old (Ok plan) → (r.old ≡ old) × (r.actions ≡ plan) × (r.serials ≡ serials_of plan) → PlanFits now plan →
       HasChange kept now line old (serials_of plan) r.change → kept.masks_made + 1 < 4294967296 → old_row (state_of kept) line ≡ Some row →

@@ -18,6 +18,7 @@ use Rattle.filter_tables.specs.Places.{item_at, place_where}
 use Rattle.filter_tables.specs.Changes.{has_handle_in}
 use Rattle.filter_tables.specs.Room.{masks_spare, filters_spare}
 use Rattle.filter_tables.specs.Rows.{row_of, tables_on}
+use Rattle.action_plan.specs.declared.planned.PlannedAction.{PlannedAction}
 use Rattle.action_plan.specs.Plans.{carried}
 use Rattle.hook_lists.specs.declared.kept.Kept.{Kept}
 use Rattle.hook_lists.specs.States.{both_of, room_on, state_of}
@@ -40,6 +41,11 @@ changed s old (changes.MovesOut filters arrival) =
 -- the new actions are bound or made, and then the old ones are let go
 abbrev pub exchanged : Made → List ℕ → Made
 exchanged next gone = record next { actions = all_unbound gone next.actions }
+
+-- the replacement by a change whose actions stand in a plan
+abbrev pub replacement_of : Old → Change → List PlannedAction → List ℕ → Replacement
+replacement_of old change plan serials =
+    record { old = old; change = change; actions = plan; serials = serials }
 
 -- the state that a replacement of that row leads to, and its answer
 abbrev pub state_after : State → Row → Replacement → State

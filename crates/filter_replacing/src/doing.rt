@@ -44,7 +44,7 @@ pub fn replace(kept: &mut Kept, replacement: Replacement) -> Done
 }
 
 // Changes or moves the filter, and answers its old actions.
-fn change_filter(kept: &mut Kept, old: &Old, change: Change) -> Numbers
+pub(crate) fn change_filter(kept: &mut Kept, old: &Old, change: Change) -> Numbers
     requires { CanChange (room_on old.now.hook kept.old) old.now change }
     ensures gone { WereThere (tables_on old.now.hook (both_of kept.old)) old.now result }
     ensures tables { HasChanged (on_hook old.now.hook (tables_changed old.now change) (both_of kept.old))

@@ -52,7 +52,12 @@ pub fn prepare_replacement(
 }
 
 // Looks for all that can refuse the line but want of memory, and plans its actions on the way.
-fn look(kept: &Kept, line: &FilterLine, old: &Old, plan: &mut ActionPlan) -> Result<(), Refusal>
+pub(crate) fn look(
+    kept: &Kept,
+    line: &FilterLine,
+    old: &Old,
+    plan: &mut ActionPlan,
+) -> Result<(), Refusal>
     requires empty { plan.old ≡ [] }
     requires kept { AreKept kept.now }
     requires line { IsFilter line.now }
@@ -138,7 +143,7 @@ fn make_ready(
 }
 
 // Where the filter goes, with room for it there.
-fn change_for(
+pub(crate) fn change_for(
     kept: &mut Kept,
     line: &FilterLine,
     old: &Old,

@@ -21,4 +21,4 @@ pub use questions::{
     check_hook, check_masks, check_match, check_protocol, check_protocol_if, find_table, mask_at,
     table_at, tables_of,
 };
-pub use resolving::{carry_out, check_actions, reserve_actions, resolve, unbind};
+pub use resolving::{carry_out, carry_plan, check_actions, reserve_actions, resolve, unbind};

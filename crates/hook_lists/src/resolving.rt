@@ -72,6 +72,18 @@ pub fn carry_out(kept: &mut Kept, plan: &PlannedActions)
     plan.carry_out(&mut kept.actions);
 }
 
+/// The same, with a plan that wasn't kept before.
+pub fn carry_plan(kept: &mut Kept, plan: &ActionPlan)
+    requires kept { AreKept kept.old }
+    requires fits { PlanFits kept.old plan.now }
+    ensures tables { SameTables kept.old kept.new }
+    ensures actions { made_of kept.new.actions ≡ carried (made_of kept.old.actions) plan.now }
+{
+    // A plan is short, so that no count of references passes what a number holds.
+    let _ = plan.made();
+    plan.carry_out(&mut kept.actions);
+}
+
 /// Lets the actions of these serials go, one place for each.
 pub fn unbind(kept: &mut Kept, serials: &[u32])
     requires { AreBound serials.now kept.old.actions.entries }
