@@ -9,3 +9,4 @@ pub mod MacParts
 pub mod Ipv6Parts
 pub mod FirstPlaces
 pub mod FirstWords
+pub mod NearEnds

@@ -1,12 +1,17 @@
 //! The words of a line one by one, each read off the front of what is left.
-ghost use Rattle.std.specs.Prelude.{◌≡◌, ◌==◌, ◌<◌, ◌≤◌, not, position, List, [], ◌∷◌, ℕ, length, drop};
-ghost use Rattle.std.specs.Prelude.{IfSome};
+ghost use Rattle.std.specs.Prelude.{◌≡◌, ◌==◌, ◌<◌, ◌≤◌, not, position, List, [], ◌∷◌, ℕ, length, drop, take};
+ghost use Rattle.std.specs.Prelude.{IfSome, if◌then◌else◌};
+ghost use Rattle.std.specs.Int.{w64, trailing_zeros};
 ghost use Rattle.std.specs.List.{position_or_len};
 ghost use Rattle.std.specs.Borrow.{Bor};
 ghost use Rattle.std.specs.Option.{option_map_or};
 ghost use Rattle.tc_words.specs.Lines.{is_blank, ends_word, words_of};
 
 use crate::cuts::is_blank;
+use std::simd::prelude::*;
+
+// How many bytes are looked at in one step.
+const LANES: usize = 16;
 
 // Most bytes of a word stand above `#`, so that one comparison is enough for them.
 fn ends_word(byte: u8) -> bool
@@ -22,12 +27,52 @@ fn end_place(text: &[u8]) -> Option<usize>
     text.iter().position(|b| ends_word(*b))
 }
 
-// How many bytes stand before the first one that ends a word.
-fn word_length(text: &[u8]) -> usize
+// How many bytes stand before the first one that ends a word, byte by byte.
+fn counted_length(text: &[u8]) -> usize
     ensures value { result ≡ position_or_len ends_word text.now }
     ensures within { result ≤ length text.now }
 {
     end_place(text).unwrap_or(text.len())
+}
+
+// The place of the lowest bit that is set, or 16.
+#[inline(always)]
+fn first_set(mask: u64) -> usize
+    ensures { result ≡ (if mask == 0 then 16 else trailing_zeros w64 mask) }
+{
+    if mask == 0 {
+        LANES
+    } else {
+        mask.trailing_zeros() as usize
+    }
+}
+
+// How many of the first 16 bytes stand before the first of them that ends a word.
+#[inline(always)]
+fn near_length(text: &[u8]) -> usize
+    requires { 16 ≤ length text.now }
+    ensures { result ≡ position_or_len ends_word (take 16 text.now) }
+{
+    let bytes = u8x16::from_slice(text);
+    let ends = bytes.simd_eq(u8x16::splat(b' '))
+        | bytes.simd_eq(u8x16::splat(b'\t'))
+        | bytes.simd_eq(u8x16::splat(b'#'));
+    first_set(ends.to_bitmask())
+}
+
+// How many bytes stand before the first one that ends a word. Most words are short, so that one look at 16
+// bytes finds their end.
+fn word_length(text: &[u8]) -> usize
+    ensures value { result ≡ position_or_len ends_word text.now }
+    ensures within { result ≤ length text.now }
+{
+    if text.len() >= LANES {
+        let near = near_length(text);
+        if near < LANES {
+            return near;
+        }
+    }
+    counted_length(text)
 }
 
 // The place of the first byte that is no blank.

@@ -1,8 +1,9 @@
-use Rattle.std.proofs.Common.{◌∙◌, ap, length}
-use Rattle.std.specs.Option.{unwrap_or}
+use Rattle.std.proofs.Common.{sym, ◌∙◌, arith}
 use Rattle.tc_words.specs.Lines.{ends_word}
-use Rattle.tc_words.proofs.FirstWords.{place_or_length}
+use Rattle.tc_words.proofs.NearEnds.{near_is}
 use Rattle.tc_words.proofs.first_words.word_length.Goals as goal
 
-pub returns-clause-value : goal.returns-clause-value
-returns-clause-value c = c.unwrap_or.ensures ∙ ap (λ o. unwrap_or o (length c.args.text.now)) c.end_place.ensures ∙ place_or_length ends_word c.args.text.now
+pub returns-then-near-lt-LANES-clause-value : goal.returns-then-near-lt-LANES-clause-value
+returns-then-near-lt-LANES-clause-value c =
+    let near = c.near_length-near.ensures in
+    near ∙ sym (near_is ends_word 16 c.args.text.now (omega (arith, c.if-text-ge-LANES.true)) (omega (arith, c.if-near-lt-LANES.true, near)))
