@@ -1,4 +1,7 @@
 //! Adding a filter at once, for whoever asks nothing between the looking and the doing.
+//!
+//! The functions marked `inline(always)` take or return large values, which would otherwise be copied from
+//! call to call.
 ghost use Rattle.std.specs.Prelude.{◌≡◌, ◌+◌, ◌<◌, Ok, IfOk, OnErr};
 ghost use Rattle.filter_state.specs.Lines.{IsFilter};
 ghost use Rattle.filter_state.specs.Steps.{filter_add};
@@ -35,6 +38,7 @@ pub fn add_at_once(kept: &mut Kept, line: &FilterLine) -> Result<Done, Refusal>
 }
 
 // Takes all the memory that the filter wants, binds and makes its actions, and puts it into its seat.
+#[inline(always)]
 fn join(kept: &mut Kept, line: &FilterLine, found: &Found) -> Result<Done, NoMemory>
     requires kept { AreKept kept.old }
     requires line { IsFilter line.now }
@@ -54,6 +58,7 @@ fn join(kept: &mut Kept, line: &FilterLine, found: &Found) -> Result<Done, NoMem
 }
 
 // Binds and makes the actions, and puts the filter into its seat. It takes no memory.
+#[inline(always)]
 fn settle(
     kept: &mut Kept,
     arrival: Arrival,

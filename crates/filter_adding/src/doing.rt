@@ -1,4 +1,7 @@
 //! Adding a filter that was made ready.
+//!
+//! The functions marked `inline(always)` take or return large values, which would otherwise be copied from
+//! call to call.
 ghost use Rattle.filter_state.specs.declared.limits.TheConstants.{FILTERS_MAX};
 ghost use Rattle.std.specs.Prelude.{◌≡◌, ◌+◌, ◌<◌, ◌≤◌, []};
 ghost use Rattle.filter_state.specs.Steps.{raised};
@@ -68,6 +71,7 @@ fn newest(made: u32, serial: u32) -> u32
     if serial > made { serial } else { made }
 }
 
+#[inline(always)]
 pub(crate) fn put(kept: &mut Kept, arrival: Arrival, seat: Seat)
     requires seat { IsOpen (room_on arrival.hook kept.old) arrival seat }
     requires handle { 1 ≤ arrival.filter.handle }
@@ -84,6 +88,7 @@ pub(crate) fn put(kept: &mut Kept, arrival: Arrival, seat: Seat)
     }
 }
 
+#[inline(always)]
 fn put_into(tables: &mut FilterTables, arrival: Arrival, seat: Seat)
     requires seat { IsOpen tables.old arrival seat }
     requires handle { 1 ≤ arrival.filter.handle }

@@ -1,4 +1,7 @@
 //! Making an edit that adds a filter ready.
+//!
+//! The functions marked `inline(always)` take or return large values, which would otherwise be copied from
+//! call to call.
 ghost use Rattle.std.specs.Prelude.{◌≡◌, ◌+◌, ◌<◌, IfOk};
 ghost use Rattle.filter_state.specs.Lines.{IsFilter};
 ghost use Rattle.filter_state.specs.Steps.{filter_add};
@@ -62,6 +65,7 @@ fn make_ready(kept: &mut Kept, line: &FilterLine, found: &Found) -> Result<Addit
 }
 
 // The filter with all that it is to stand under.
+#[inline(always)]
 pub(crate) fn arrival_for(
     kept: &Kept,
     line: &FilterLine,

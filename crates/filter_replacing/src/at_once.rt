@@ -1,4 +1,7 @@
 //! Replacing a filter at once, for whoever asks nothing between the looking and the doing.
+//!
+//! The functions marked `inline(always)` take or return large values, which would otherwise be copied from
+//! call to call.
 ghost use Rattle.std.specs.Prelude.{◌≡◌, ◌+◌, ◌<◌, Some, Ok, IfOk, OnErr};
 ghost use Rattle.filter_state.specs.States.{Row};
 ghost use Rattle.filter_state.specs.Lines.{IsFilter};
@@ -39,6 +42,7 @@ pub fn replace_at_once(kept: &mut Kept, line: &FilterLine, old: Old) -> Result<D
 }
 
 // Takes all the memory that the change wants, and makes it.
+#[inline(always)]
 fn exchange(
     kept: &mut Kept,
     line: &FilterLine,
@@ -61,6 +65,7 @@ fn exchange(
 
 // Binds and makes the new actions, changes or moves the filter, and lets its old actions go. It takes no
 // memory.
+#[inline(always)]
 fn settle(kept: &mut Kept, old: &Old, change: Change, plan: &ActionPlan, serials: Numbers) -> Done
     requires kept { AreKept kept.old }
     requires ready { (table : PlainTable) × (mask : PlainMask) × (filter : Filter)

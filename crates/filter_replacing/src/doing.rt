@@ -1,4 +1,7 @@
 //! Replacing a filter that was looked at.
+//!
+//! The functions marked `inline(always)` take or return large values, which would otherwise be copied from
+//! call to call.
 ghost use Rattle.std.specs.Prelude.{◌≡◌};
 ghost use Rattle.hook_lists.specs.States.{both_of, room_on, state_of, AreKept};
 ghost use Rattle.hook_lists.specs.Done.{IsDone};
@@ -44,6 +47,7 @@ pub fn replace(kept: &mut Kept, replacement: Replacement) -> Done
 }
 
 // Changes or moves the filter, and answers its old actions.
+#[inline(always)]
 pub(crate) fn change_filter(kept: &mut Kept, old: &Old, change: Change) -> Numbers
     requires { CanChange (room_on old.now.hook kept.old) old.now change }
     ensures gone { WereThere (tables_on old.now.hook (both_of kept.old)) old.now result }
@@ -69,6 +73,7 @@ fn made_with(change: &Change, made: u32) -> u32
 }
 
 // Changes or moves the filter in the tables of its hook.
+#[inline(always)]
 fn change_in(tables: &mut FilterTables, old: &Old, change: Change) -> Numbers
     requires { CanChange tables.old old.now change }
     ensures gone { WereThere tables.old.tables old.now result }

@@ -1,4 +1,7 @@
 //! Making an edit that replaces a filter ready.
+//!
+//! The functions marked `inline(always)` take or return large values, which would otherwise be copied from
+//! call to call.
 ghost use Rattle.std.specs.Prelude.{◌≡◌, ◌+◌, ◌<◌, [], length, Some, None, IfOk, OnOk};
 ghost use Rattle.filter_state.specs.States.{Row};
 ghost use Rattle.filter_state.specs.Lines.{IsFilter};
@@ -143,6 +146,7 @@ fn make_ready(
 }
 
 // Where the filter goes, with room for it there.
+#[inline(always)]
 pub(crate) fn change_for(
     kept: &mut Kept,
     line: &FilterLine,
