@@ -1,5 +1,5 @@
 -- Numbers in decimal digits, and those that may be in hexadecimal digits.
-use Rattle.std.specs.Prelude.{ℕ, ◌+◌, ◌-◌, ◌*◌, Bool, false, ◌&&◌, ◌||◌, ◌==◌, nat_le, nat_lt, List, length}
+use Rattle.std.specs.Prelude.{ℕ, ◌+◌, ◌-◌, ◌*◌, Bool, true, false, ◌&&◌, ◌||◌, ◌==◌, nat_le, nat_lt, List, length}
 use Rattle.std.specs.Prelude.{drop, fold, slice_index, Option, Some, None, if◌then◌else◌}
 use Rattle.std.specs.List.{list_all}
 use Rattle.std.specs.Char.{is_ascii_digit}
@@ -8,6 +8,15 @@ use Rattle.tc_words.specs.Hexadecimal.{hex_of}
 -- the number that digits spell; the digit 0 is the byte 48
 abbrev pub digits_value : List ℕ → ℕ
 digits_value word = fold (λ n digit. 10 * n + (digit - 48)) 0 word
+
+-- no digit, or a needless 0 in front
+abbrev pub is_misbegun : List ℕ → Bool
+is_misbegun word = if length word == 0 then true else nat_lt 1 (length word) && slice_index word 0 == 48
+
+-- the number that a word of digits alone spells, up to a greatest one
+abbrev pub value_up_to : List ℕ → ℕ → Option ℕ
+value_up_to word most =
+    if list_all is_ascii_digit word && nat_le (digits_value word) most then Some (digits_value word) else None
 
 -- digits, at least one, and no needless 0 in front
 abbrev pub is_decimal : List ℕ → Bool

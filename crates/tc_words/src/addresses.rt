@@ -3,7 +3,7 @@ ghost use Rattle.std.specs.Prelude.{◌≡◌, ◌≤◌, IfSome};
 ghost use Rattle.tc_words.specs.Numbers.{decimal_of};
 ghost use Rattle.tc_words.specs.Addresses.{joined_octets, address_of, prefix_mask, masked_prefix, ipv4_of};
 
-use crate::cuts::cut_at;
+use crate::cuts::{cut_at, cut_near};
 use crate::read_decimal;
 
 fn read_octet(text: &[u8]) -> Option<u8>
@@ -29,9 +29,9 @@ fn join_octets(
 fn read_address(text: &[u8]) -> Option<u32>
     ensures { result ≡ address_of text.now }
 {
-    let (first, rest) = cut_at(text, b'.')?;
-    let (second, rest) = cut_at(rest, b'.')?;
-    let (third, fourth) = cut_at(rest, b'.')?;
+    let (first, rest) = cut_near(text, b'.')?;
+    let (second, rest) = cut_near(rest, b'.')?;
+    let (third, fourth) = cut_near(rest, b'.')?;
     join_octets(
         read_octet(first),
         read_octet(second),

@@ -27,6 +27,23 @@ pub fn cut_at(bytes: &[u8], byte: u8) -> Option<(&[u8], &[u8])>
     }
 }
 
+// The same for a text in which the byte stands near the front, if at all: it is gone over byte by byte.
+pub(crate) fn cut_near(bytes: &[u8], byte: u8) -> Option<(&[u8], &[u8])>
+    ensures { option_map (λ (parts : Bor (List ℕ) × Bor (List ℕ)). (parts.0.now, parts.1.now)) result
+        ≡ cut_once byte bytes.now }
+{
+    match near_place(bytes, byte) {
+        Some(at) => Some((&bytes[..at], &bytes[at + 1..])),
+        None => None,
+    }
+}
+
+fn near_place(bytes: &[u8], byte: u8) -> Option<usize>
+    ensures { result ≡ position (λ b. b == byte) bytes.now }
+{
+    bytes.iter().position(|b| *b == byte)
+}
+
 pub(crate) fn is_blank(byte: u8) -> bool
     ensures { result ≡ is_blank byte }
 {

@@ -3,36 +3,30 @@ ghost use Rattle.std.specs.Prelude.{◌≡◌, ◌≤◌, IfSome, nat_le, if◌t
 ghost use Rattle.std.specs.List.{list_all};
 ghost use Rattle.std.specs.Char.{is_ascii_digit};
 ghost use Rattle.tc_words.specs.Hexadecimal.{hex_of};
-ghost use Rattle.tc_words.specs.Numbers.{digits_value, is_decimal, decimal_of, up_to, number_of};
+ghost use Rattle.tc_words.specs.Numbers.{is_misbegun, value_up_to, decimal_of, up_to, number_of};
 
 use crate::hexadecimal::read_hex_digits;
 
-fn are_digits(word: &[u8]) -> bool
-    ensures { result ≡ list_all is_ascii_digit word.now }
-{
-    word.iter().all(|b| b.is_ascii_digit())
-}
-
-fn has_decimal_form(word: &[u8]) -> bool
-    ensures { result ≡ is_decimal word.now }
+// Whether there is no digit, or a needless 0 in front.
+fn is_misbegun(word: &[u8]) -> bool
+    ensures { result ≡ is_misbegun word.now }
 {
     if word.is_empty() {
-        return false;
+        return true;
     }
-    if word.len() > 1 && word[0] == b'0' {
-        return false;
-    }
-    are_digits(word)
+    word.len() > 1 && word[0] == b'0'
 }
 
-// The number that digits spell. It stops at the first digit that takes it past the greatest, so the sum never
-// overflows.
+// The number that a word of digits alone spells. It stops at the first byte that is none, and at the first
+// digit that takes it past the greatest, so the sum never overflows.
 fn value_up_to(word: &[u8], most: u32) -> Option<u32>
-    requires { IsTrue (list_all is_ascii_digit word.now) }
-    ensures { result ≡ (if nat_le (digits_value word.now) most then Some (digits_value word.now) else None) }
+    ensures { result ≡ value_up_to word.now most }
 {
     let mut value = 0u64;
     for digit in word {
+        if !digit.is_ascii_digit() {
+            return None;
+        }
         value = value * 10 + u64::from(*digit - b'0');
         if value > u64::from(most) {
             return None;
@@ -45,12 +39,11 @@ fn value_up_to(word: &[u8], most: u32) -> Option<u32>
 /// `most`.
 ///
 /// `None` for any other word, the empty one too.
-#[tactic(auto, unfolding(crate::specs::Numbers::decimal_of))]
 pub fn read_decimal(word: &[u8], most: u32) -> Option<u32>
     ensures value { result ≡ decimal_of word.now most }
     ensures at_most { IfSome result (λ number. number ≤ most) }
 {
-    if !has_decimal_form(word) {
+    if is_misbegun(word) {
         return None;
     }
     value_up_to(word, most)
