@@ -1,6 +1,6 @@
 //! A quick no: whether a mask may have a filter with the key of a frame.
-ghost use Rattle.std.specs.Prelude.{◌≡◌, ◌<◌, ◌≤◌, ◌%◌, ◌^◌, ◌==◌, ◌||◌, ◌/◌, ℕ, List, true, false, length, get_or};
-ghost use Rattle.std.specs.Prelude.{min, IfSome, IfNone};
+ghost use Rattle.std.specs.Prelude.{◌≡◌, ◌<◌, ◌≤◌, ◌/◌, ◌%◌, ◌^◌, ◌==◌, ◌||◌, ℕ, List, true, false};
+ghost use Rattle.std.specs.Prelude.{length, get_or, min, IfSome, IfNone};
 ghost use Rattle.std.specs.Int.{bit_at};
 ghost use Rattle.std.specs.Str.{bytes_eq};
 ghost use Rattle.flow_mask.specs.Masks.{each_and};
