@@ -9,8 +9,8 @@
 //! fault ends the run; `run_show`, `run_walk` and `run_gen` work out all that one command asks for, then put,
 //! then write; `text` writes line by line, so that a text of a million lines is never held, and `packet_line`
 //! makes each packet's line of the one before, whose number is counted up where it stands. What is put and
-//! written comes from `batch_show`, `batch_walk` and `gen_run`. A walk's output is put in pieces of its input,
-//! which therefore lives until then.
+//! written comes from `batch_show`, `batch_walk` and `gen_run`. A walk's output is put in pieces of its
+//! input, which therefore lives until then.
 //!
 //! It is no part of the program since a run needs no process: tests call it with a shelf and a sink of their
 //! own. A command that runs a job on threads will come beside it, as `tool` picks.

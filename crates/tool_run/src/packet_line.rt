@@ -11,8 +11,8 @@ use walk_rules::Verdict;
 /// What stands before a packet's number.
 const LABEL: &str = "packet ";
 
-/// The line of a packet. It is kept, since the next packet's differs in few bytes: its number is one more, and
-/// often it ended as this one did.
+/// The line of a packet. It is kept, since the next packet's differs in few bytes: its number is one more,
+/// and often it ended as this one did.
 #[derive(Drop)]
 pub struct PacketLine {
     pub number: u64,
@@ -67,7 +67,7 @@ impl PacketLine {
         Ok(())
     }
 
-    // Counts the number up, in its digits too, if it has as many then. If it hasn't, they are 0 and no number.
+    // Counts the number up, in its digits too, if it has as many then. If it hasn't, the digits are all 0.
     #[inline]
     fn count_up(&mut self) -> bool
         requires line { IsLine self.old }

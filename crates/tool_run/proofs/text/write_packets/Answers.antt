@@ -1,9 +1,9 @@
-use Rattle.std.proofs.Common.{◌≡◌, ◌+◌, ◌++◌, ◌∷◌, [], List, length, sym, ap, ap₂, ◌∙◌, append_assoc, arith}
+use Rattle.std.proofs.Common.{◌≡◌, ◌+◌, ◌++◌, ◌∷◌, [], List, length, sym, ap, ◌∙◌, append_assoc, arith}
 use Rattle.std.proofs.lemmas.List.{append-nil, length_push}
 use Rattle.tc_base.proofs.Appends.{Appended-then, AppendsUpTo-then, AppendsUpTo-front, AppendsUpTo-all}
 use Rattle.capture_walk.specs.declared.ends.PacketEnd.{PacketEnd}
-use Rattle.batch_walk.specs.Texts.{packet_line}
 use Rattle.tool_run.proofs.Lines.{packets_more, packets_rest}
+use Rattle.tool_run.proofs.PacketLines.{line_of}
 use Rattle.tool_run.proofs.text.write_packets.Goals as goal
 
 pub returns-in_err-turn_to-clause-up_to : goal.returns-in_err-turn_to-clause-up_to
@@ -18,10 +18,10 @@ pub returns-in_err-write_all-clause-up_to : goal.returns-in_err-write_all-clause
 returns-in_err-write_all-clause-up_to g c =
     let before = c.loop-end.invariant in
     let walked = c.loop-end.yielded in
+    let end = c.in-Some.end in
     let turned = c.in_ok-turn_to.ensures in
     let number : c.loop-end.line.number + 1 ≡ 1 + length walked = omega (arith, before.number) in
-    let line : c.turn_to.new.self.text.items ≡ packet_line (1 + length walked) c.in-Some.end =
-    turned.line.text ∙ ap₂ packet_line (turned.number ∙ number) turned.end in
+    let line = line_of c.turn_to.new.self.text.items _ (1 + length walked) _ end turned.line.text (turned.number ∙ number) turned.end in
     let whole = before.whole ∙ ap (λ (rest : List PacketEnd). walked ++ rest) c.in-Some.ensures.steps in
     rw (whole, packets_rest walked c.in-Some.end c.next.new.self)
     (AppendsUpTo-then _ _ _ _ _ _ before.wrote (rw (c.deref.ensures.value ∙ line) at c.write_all.ensures.up_to))
@@ -33,8 +33,7 @@ loop-end-preserved g c =
     let end = c.in-Some.end in
     let turned = c.in_ok-turn_to.ensures in
     let number : c.loop-end.line.number + 1 ≡ 1 + length walked = omega (arith, before.number) in
-    let line : c.turn_to.new.self.text.items ≡ packet_line (1 + length walked) c.in-Some.end =
-    turned.line.text ∙ ap₂ packet_line (turned.number ∙ number) turned.end in
+    let line = line_of c.turn_to.new.self.text.items _ (1 + length walked) _ end turned.line.text (turned.number ∙ number) turned.end in
     record {
       whole = before.whole ∙ ap (λ (rest : List PacketEnd). walked ++ rest) c.in-Some.ensures.steps
           ∙ sym (append_assoc walked (end ∷ []) c.next.new.self);
