@@ -20,6 +20,9 @@ same_handle a b e = eqb-true a b e
 pub same_key : (a b : List ℕ) → bytes_eq a b ≡ true → a ≡ b
 same_key a b e = (bytes_eq-Decides a b).0 e
 
+pub key_is : (a b : List ℕ) → a ≡ b → bytes_eq a b ≡ true
+key_is a b e = (bytes_eq-Decides a b).1 e
+
 turned : (eq : Bool) (other : Bool) → (other ≡ true → eq ≡ true) → eq ≡ false → other ≡ false
 turned eq true same e = absurd (false≢true (sym e ∙ same refl))
 turned eq false same e = refl

@@ -1,5 +1,6 @@
 mod Apart
 mod Calls
+mod Covering
 mod Cuts
 mod Indexed
 mod LastOf

@@ -5,12 +5,18 @@ ghost use Rattle.std.specs.Option.{option_copied};
 ghost use Rattle.std.specs.List.{list_any};
 ghost use Rattle.filter_index.specs.declared.filter.Filter.{Filter};
 ghost use Rattle.filter_index.specs.Listed.{has_key, those_there, AreApart};
+ghost use Rattle.std.specs.List.{All};
+ghost use Rattle.flow_mask.specs.Masks.{each_and};
+ghost use Rattle.flow_mask.specs.Places.{HasPlaces};
+ghost use Rattle.filter_index.specs.Digests.{digest_of};
 ghost use Rattle.filter_index.specs.Places.{digest_in};
+ghost use Rattle.filter_index.specs.Sieves.{sum_of, LooksAt, IsWithin, AreCovered};
 
 use crate::chains::Chains;
 use crate::digests::digest;
 use crate::filter::Filter;
 use crate::room::point;
+use crate::sieve::Sieve;
 use flow_fields::Key;
 use std::alloc::Global;
 use std::collections::HashMap;
@@ -101,6 +107,32 @@ impl Filters {
         ensures { option_copied result ≡ find (has_key key.now.words) self.now.filters }
     {
         with_words(&self.chains, &self.slots, &key.words)
+    }
+
+    /// The filter whose key is that of a frame under the mask. `sum` is what the mask's sieve makes of the
+    /// frame's key. Of that key and the filters' it reads the mask's words alone.
+    #[inline]
+    pub fn with_frame(
+        &self,
+        sieve: &Sieve,
+        mask: &Key<14>,
+        frame: &Key<14>,
+        sum: u64,
+    ) -> Option<&Filter>
+        requires looks { LooksAt mask.now.words sieve.now }
+        requires covered { AreCovered mask.now.words self.now.filters }
+        requires sum { sum ≡ sum_of sieve.now frame.now.words }
+        ensures { option_copied result
+            ≡ find (has_key (each_and frame.now.words mask.now.words)) self.now.filters }
+    {
+        with_masked(
+            &self.chains,
+            &self.slots,
+            sieve,
+            &mask.words,
+            &frame.words,
+            sum,
+        )
     }
 
     /// The filter with that handle.
@@ -258,6 +290,58 @@ fn if_words<'a>(slot: &'a Option<Filter>, key: &[u64]) -> Option<&'a Filter>
 {
     match slot {
         Some(filter) if filter.key.words.as_slice() == key => Some(filter),
+        _ => None,
+    }
+}
+
+// The filter whose key is the frame's under the mask.
+#[inline]
+fn with_masked<'a>(
+    chains: &Chains,
+    slots: &'a [Option<Filter>],
+    sieve: &Sieve,
+    mask: &[u64],
+    frame: &[u64],
+    sought: u64,
+) -> Option<&'a Filter>
+    requires digests { chains.now.digests ≡ map digest_in slots.now }
+    requires apart { AreApart (those_there slots.now) }
+    requires mask { length mask.now ≡ 14 }
+    requires frame { length frame.now ≡ 14 }
+    requires listed { HasPlaces mask.now 14 sieve.now.places sieve.now.count }
+    requires within { All (λ f. IsWithin mask.now f.key.words) (those_there slots.now) }
+    requires sought { sought ≡ digest_of (each_and frame.now mask.now) }
+    ensures { option_copied result
+        ≡ find (has_key (each_and frame.now mask.now)) (those_there slots.now) }
+{
+    let mut at = chains.last(sought);
+    while at != 0 {
+        let slot = (at - 1) as usize;
+        if let Some(filter) = if_masked(&slots[slot], sieve, mask, frame) {
+            return Some(filter);
+        }
+        at = chains.before(sought, slot);
+    }
+    None
+}
+
+// The filter in that slot, if its key is the frame's under the mask.
+#[inline]
+fn if_masked<'a>(
+    slot: &'a Option<Filter>,
+    sieve: &Sieve,
+    mask: &[u64],
+    frame: &[u64],
+) -> Option<&'a Filter>
+    requires mask { length mask.now ≡ 14 }
+    requires frame { length frame.now ≡ 14 }
+    requires listed { HasPlaces mask.now 14 sieve.now.places sieve.now.count }
+    requires within { (f : Filter) → slot.now ≡ Some f → IsWithin mask.now f.key.words }
+    ensures { option_copied result
+        ≡ find (has_key (each_and frame.now mask.now)) (those_there (slot.now ∷ [])) }
+{
+    match slot {
+        Some(filter) if sieve.agrees(mask, frame, &filter.key.words) => Some(filter),
         _ => None,
     }
 }

@@ -19,6 +19,12 @@
 //! costs a look-up. A `Sieve` isn't tied to a `Filters`: whoever holds both puts each key into both
 //! (`MaskList` of `filter_tables`).
 //!
+//! Most masks have so few words that aren't 0 that a sieve looks at all of them. What it makes of a frame's
+//! key is then the digest of that key under the mask, since a word under a 0 adds nothing. So it serves the
+//! mark and the chains at once, and keys are compared at these words alone (`with_frame`). That holds as long
+//! as each filter's key is 0 in all other words, which `Sieve::covers` tells of a key before it is put. Where
+//! it doesn't, a key is put under the mask and looked up whole (`with_key`).
+//!
 //! A `Filters` is the list of its filters, and contracts see no more than that list and for how many more
 //! room is reserved. No two of the filters have the same handle, or the same key. Whoever puts a filter has
 //! looked up both before, and an answer of `with_key` or `with_handle` is that of a search through the whole

@@ -1,7 +1,12 @@
 //! A quick no: whether a mask may have a filter with the key of a frame.
-ghost use Rattle.std.specs.Prelude.{◌≡◌, ◌<◌, ◌≤◌, ◌%◌, ◌^◌, ◌==◌, ◌||◌, ℕ, List, false, length, get_or, min};
-ghost use Rattle.flow_mask.specs.Places.{used_before};
-ghost use Rattle.filter_index.specs.Sieves.{weighed_at, mark_of, lets_through, AreChosen, LooksAt};
+ghost use Rattle.std.specs.Prelude.{◌≡◌, ◌<◌, ◌≤◌, ◌/◌, ◌%◌, ◌^◌, ◌==◌, ◌||◌, ℕ, List, true, false};
+ghost use Rattle.std.specs.Prelude.{length, get_or, min, IfSome, IfNone};
+ghost use Rattle.std.specs.Int.{bit_at};
+ghost use Rattle.std.specs.Str.{bytes_eq};
+ghost use Rattle.flow_mask.specs.Masks.{each_and};
+ghost use Rattle.flow_mask.specs.Places.{used_before, HasPlaces};
+ghost use Rattle.filter_index.specs.Sieves.{weighed_at, sum_of, mark_of, lets_through, AreChosen, LooksAt};
+ghost use Rattle.filter_index.specs.Sieves.{FitsSieve, IsWithin};
 ghost use Rattle.filter_index.specs.declared.digests.TheConstants.{SIEVE_WORDS};
 
 use crate::digests::{FACTORS, SIEVE_WORDS};
@@ -55,7 +60,7 @@ impl Sieve {
         ensures marks { (other : List ℕ) → lets_through self.new other
             ≡ (lets_through self.old other || mark_of self.old other == mark_of self.old key.now.words) }
     {
-        self.marks |= 1 << self.mark(key);
+        self.marks |= 1 << mark(self.sum(key));
     }
 
     /// Whether the mark of that key is set. It reads at most four words of the key.
@@ -63,18 +68,70 @@ impl Sieve {
     pub fn lets_through(&self, key: &Key<14>) -> bool
         ensures { result ≡ lets_through self.now key.now.words }
     {
-        (self.marks >> self.mark(key)) & 1 == 1
+        self.has_mark(mark(self.sum(key)))
     }
 
-    // The mark of that key.
+    /// What the words of that key that are looked at come to, if its mark is set.
     #[inline]
-    fn mark(&self, key: &Key<14>) -> u32
-        ensures mark { result ≡ mark_of self.now key.now.words }
-        ensures below { result < 64 }
+    pub fn sift(&self, key: &Key<14>) -> Option<u64>
+        ensures none { IfNone result (lets_through self.now key.now.words ≡ false) }
+        ensures some { IfSome result (λ sum. sum ≡ sum_of self.now key.now.words) }
     {
-        let sum = weigh(&self.places, &self.words, self.count as usize, &key.words);
-        (sum >> 58) as u32
+        let sum = self.sum(key);
+        if self.has_mark(mark(sum)) {
+            Some(sum)
+        } else {
+            None
+        }
     }
+
+    /// Whether a sieve of that mask looks at each of its words that isn't 0, and the key is 0 in all others.
+    pub fn covers(mask: &Key<14>, key: &Key<14>) -> bool
+        ensures fits { result ≡ true → FitsSieve mask.now.words }
+        ensures within { result ≡ true → IsWithin mask.now.words key.now.words }
+    {
+        is_within(&mask.words, &key.words)
+    }
+
+    /// Whether the words of a frame, under the mask, are those of the key. It reads the words that the sieve
+    /// looks at.
+    #[inline]
+    pub(crate) fn agrees(&self, mask: &[u64], frame: &[u64], key: &[u64]) -> bool
+        requires mask { length mask.now ≡ 14 }
+        requires frame { length frame.now ≡ 14 }
+        requires key { length key.now ≡ 14 }
+        requires listed { HasPlaces mask.now 14 self.now.places self.now.count }
+        requires within { IsWithin mask.now key.now }
+        ensures { result ≡ bytes_eq key.now (each_and frame.now mask.now) }
+    {
+        agree(&self.places, self.count as usize, mask, frame, key)
+    }
+
+    // What the words of that key that are looked at come to.
+    #[inline]
+    fn sum(&self, key: &Key<14>) -> u64
+        ensures { result ≡ sum_of self.now key.now.words }
+    {
+        weigh(&self.places, &self.words, self.count as usize, &key.words)
+    }
+
+    // Whether that mark is set.
+    #[inline]
+    fn has_mark(&self, mark: u32) -> bool
+        requires { mark < 64 }
+        ensures { result ≡ (bit_at self.now.marks mark == 1) }
+    {
+        (self.marks >> mark) & 1 == 1
+    }
+}
+
+// The mark of a key whose words come to that.
+#[inline]
+fn mark(sum: u64) -> u32
+    ensures mark { result ≡ sum / 2 ^ 58 }
+    ensures below { result < 64 }
+{
+    (sum >> 58) as u32
 }
 
 // The words at those places, each under its word and times the factor of its place, added up.
@@ -104,6 +161,7 @@ fn choose(mask: &[u64], places: &mut [u8], words: &mut [u64]) -> u32
     ensures words { length words.new ≡ SIEVE_WORDS }
     ensures count { result ≡ min SIEVE_WORDS (used_before mask.now 14) }
     ensures chosen { AreChosen mask.now places.new words.new result }
+    ensures listed { FitsSieve mask.now → HasPlaces mask.now (length mask.now) places.new result }
 {
     let mut count = 0;
     for i in 0..14 {
@@ -114,4 +172,42 @@ fn choose(mask: &[u64], places: &mut [u8], words: &mut [u64]) -> u32
         }
     }
     count as u32
+}
+
+// Whether the mask has no more words that aren't 0 than a sieve looks at, and the key is 0 in all others.
+fn is_within(mask: &[u64], key: &[u64]) -> bool
+    requires mask { length mask.now ≡ 14 }
+    requires key { length key.now ≡ 14 }
+    ensures fits { result ≡ true → FitsSieve mask.now }
+    ensures within { result ≡ true → IsWithin mask.now key.now }
+{
+    let mut used = 0;
+    for k in 0..14 {
+        if mask[k] != 0 {
+            used += 1;
+        } else if key[k] != 0 {
+            return false;
+        }
+    }
+    used <= SIEVE_WORDS
+}
+
+// Whether the words of a frame at those places, under the mask, are the key's.
+#[inline]
+fn agree(places: &[u8], count: usize, mask: &[u64], frame: &[u64], key: &[u64]) -> bool
+    requires mask { length mask.now ≡ 14 }
+    requires frame { length frame.now ≡ 14 }
+    requires key { length key.now ≡ 14 }
+    requires count { count ≤ length places.now }
+    requires listed { HasPlaces mask.now 14 places.now count }
+    requires within { IsWithin mask.now key.now }
+    ensures { result ≡ bytes_eq key.now (each_and frame.now mask.now) }
+{
+    for n in 0..count {
+        let place = places[n] as usize;
+        if frame[place] & mask[place] != key[place] {
+            return false;
+        }
+    }
+    true
 }

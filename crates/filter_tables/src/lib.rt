@@ -7,8 +7,9 @@
 //! them. A table is found by halving, and a filter in its mask by an index.
 //!
 //! A `MaskList` has a sieve beside its filters, in its first 64 bytes: a frame's key is asked there first,
-//! and most keys that meet no filter are told so (`met`). Each filter's key has gone through the sieve, which
-//! is kept by the type. So its fields are private, and the calls that change it stay in this crate.
+//! and most keys that meet no filter are told so (`met`). Each filter's key has gone through the sieve, and
+//! as long as the sieve looks at all that tells these keys apart, a filter is looked up by what it looks at.
+//! Both is kept by the type. So its fields are private, and the calls that change it stay in this crate.
 //!
 //! Contracts see no more than the lists (specs/Plain.antt), and for how much more there is room at each
 //! place. Each call that changes them says exactly what it leaves: the same lists with one element changed,

@@ -17,22 +17,26 @@ use tc_base::{NoMemory, Numbers};
 /// The filters of one mask of a table, in the order in which they were accepted.
 #[derive(Drop)]
 pub struct MaskList {
-    // The first two are all that a look-up reads whose frame the sieve holds back.
+    // The first three are all that a look-up reads whose frame the sieve holds back.
     serial: u32,
+    // Whether the words that the sieve looks at are all that tells the filters apart.
+    is_covered: bool,
     sieve: Sieve,
     mask: Key<14>,
     filters: Filters,
 }
 
 impl Model for MaskList {
-    ghost use Rattle.filter_index.specs.Sieves.{LooksAt, LetsAll};
+    ghost use Rattle.std.specs.Prelude.{◌≡◌, true};
+    ghost use Rattle.filter_index.specs.Sieves.{LooksAt, LetsAll, AreCovered};
     ghost use Rattle.filter_tables.specs.SievedMask.{SievedMask};
 
     ghost Value = { SievedMask };
 
     ghost view = { λ m. record { serial = m.serial; mask = m.mask; filters = m.filters } };
 
-    ghost invariant = { λ m. LooksAt m.mask.words m.sieve × LetsAll m.sieve m.filters.filters };
+    ghost invariant = { λ m. LooksAt m.mask.words m.sieve × LetsAll m.sieve m.filters.filters
+        × (m.is_covered ≡ true → AreCovered m.mask.words m.filters.filters) };
 }
 
 impl MaskList {
@@ -42,11 +46,13 @@ impl MaskList {
         requires place { 0 < filters.spare }
         ensures { plain_mask result ≡ new_mask serial mask.words filter }
     {
+        let is_covered = Sieve::covers(&mask, &filter.key);
         let mut sieve = Sieve::new(&mask);
         sieve.add(&filter.key);
         filters.push(filter);
         MaskList {
             serial,
+            is_covered,
             sieve,
             mask,
             filters,
@@ -83,10 +89,12 @@ impl MaskList {
         ensures { option_copied result
             ≡ find (has_key (each_and frame.now.words self.now.mask.words)) self.now.filters.filters }
     {
-        if !self.sieve.lets_through(frame) {
-            return None;
+        let sum = self.sieve.sift(frame)?;
+        if self.is_covered {
+            self.filters.with_frame(&self.sieve, &self.mask, frame, sum)
+        } else {
+            self.filters.with_key(&masked(frame, &self.mask))
         }
-        self.filters.with_key(&masked(frame, &self.mask))
     }
 
     /// Makes room for one filter more.
@@ -104,6 +112,7 @@ impl MaskList {
         requires key { has_key_in filter.key.words (plain_mask self.old) ≡ false }
         ensures mask { plain_mask self.new ≡ more_filter filter (plain_mask self.old) }
     {
+        self.is_covered &= Sieve::covers(&self.mask, &filter.key);
         self.sieve.add(&filter.key);
         self.filters.push(filter);
     }

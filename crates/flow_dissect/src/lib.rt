@@ -6,7 +6,7 @@
 //!
 //! The headers are read once each, from left to right, one file a layer: `link` has the two addresses with
 //! the EtherType behind them and up to two VLAN tags, `network` has IPv4 and IPv6, and `transport` has TCP
-//! and UDP. Each puts its fields into a key that starts empty, and reading ends at the first layer that is
+//! and UDP. Each puts its fields into a key that was emptied, and reading ends at the first layer that is
 //! not there.
 //!
 //! `specs/Fields.antt` says what the fields of a frame are, each by its own condition on the whole frame and
@@ -43,14 +43,24 @@ pub fn key_of(bytes: &[u8]) -> Key<14>
     ensures tidy { IsTidy result.words }
 {
     let mut key = Key::new();
-    if bytes.len() < 14 {
-        return key;
-    }
-    put_addresses(&mut key, bytes);
-    let network = network_place(bytes);
-    put_tags(&mut key, bytes, network.start);
-    put_packet(&mut key, bytes, network);
+    put_key(&mut key, bytes);
     key
+}
+
+/// Makes a key that of a frame, where it stands: a key is long to move. What it was doesn't matter.
+#[inline]
+pub fn put_key(key: &mut Key<14>, bytes: &[u8])
+    ensures values { values_of key.new.words ≡ frame_values bytes.now }
+    ensures tidy { IsTidy key.new.words }
+{
+    *key = Key::new();
+    if bytes.len() < 14 {
+        return;
+    }
+    put_addresses(key, bytes);
+    let network = network_place(bytes);
+    put_tags(key, bytes, network.start);
+    put_packet(key, bytes, network);
 }
 
 /// The key of a frame that is being edited, as its bytes are now.

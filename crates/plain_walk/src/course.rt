@@ -4,7 +4,7 @@ ghost use Rattle.frame_edit.specs.Tags.{ether_type_of};
 
 use act_kinds::{Control, Params, act};
 use byteorder::{BigEndian, ByteOrder};
-use flow_dissect::{dissect, key_of};
+use flow_dissect::{dissect, put_key};
 use flow_fields::Key;
 use frame_edit::{Frame, Meta};
 use std::alloc::Global;
@@ -62,7 +62,7 @@ impl Course {
     {
         self.frame.set_meta(Meta::default());
         self.is_edited = false;
-        self.key = key_of(came);
+        put_key(&mut self.key, came);
         self.ether = ether_type(came);
         self.executed.clear();
         self.left = VISITS_MAX - 1;

@@ -1,8 +1,10 @@
+pub mod Counting
 pub mod Due
 pub mod Exact
 pub mod Generating
 pub mod Lines
 pub mod Making
+pub mod PacketLines
 pub mod Readings
 pub mod TooMany
 pub mod Walking

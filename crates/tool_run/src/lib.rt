@@ -7,10 +7,10 @@
 //!
 //! Each command has a module of its own. `input` fetches and reads its files in their order, where the first
 //! fault ends the run; `run_show`, `run_walk` and `run_gen` work out all that one command asks for, then put,
-//! then write; `text` writes line by line, so that a text of a million lines is never held, and `told_end`
-//! keeps what a packet's line tells for the next packet that ended so too. What is put and written comes from
-//! `batch_show`, `batch_walk` and `gen_run`. A walk's output is put in pieces of its input, which therefore
-//! lives until then.
+//! then write; `text` writes line by line, so that a text of a million lines is never held, and `packet_line`
+//! makes each packet's line of the one before, whose number is counted up where it stands. What is put and
+//! written comes from `batch_show`, `batch_walk` and `gen_run`. A walk's output is put in pieces of its
+//! input, which therefore lives until then.
 //!
 //! It is no part of the program since a run needs no process: tests call it with a shelf and a sink of their
 //! own. A command that runs a job on threads will come beside it, as `tool` picks.
@@ -20,11 +20,11 @@
 #![tactic(auto)]
 
 mod input;
+mod packet_line;
 mod run_gen;
 mod run_show;
 mod run_walk;
 mod serving;
 mod text;
-mod told_end;
 
 pub use serving::{obey, plain};

@@ -3,37 +3,14 @@ ghost use Rattle.std.specs.Prelude.{◌≡◌, ◌+◌, ◌<◌, ◌≤◌, ◌^
 ghost use Rattle.tc_base.specs.Outside.{Rose, Appended, AppendsUpTo};
 ghost use Rattle.batch_walk.specs.Texts.{joined, packet_line, packet_lines};
 ghost use Rattle.batch_walk.specs.Walked.{told_text};
-ghost use Rattle.tool_run.specs.Endings.{IsToldEnd};
 
-use crate::told_end::ToldEnd;
-use batch_walk::{WalkText, push_count};
+use crate::packet_line::PacketLine;
+use batch_walk::WalkText;
 use capture_walk::Ends;
 use std::alloc::Global;
 use tc_base::{Put, Sink};
 
-// Writes one packet's line, made in the lent buffer, whose bytes are dropped.
-#[tactic(auto, using(crate::proofs::Lines::line_parts))]
-fn write_packet<O: Sink>(
-    line: &mut Vec<u8>,
-    number: u64,
-    told: &ToldEnd,
-    out: &mut O,
-) -> Result<(), Put>
-    requires { IsToldEnd told.now }
-    ensures all { OnOk result
-        (Appended (O.written out.old) (O.written out.new) (packet_line number told.now.end)) }
-    ensures up_to { AppendsUpTo (O.written out.old) (O.written out.new) (packet_line number told.now.end) }
-    ensures later { O.faults out.old ≤ O.faults out.new }
-    ensures cause { IsErrOf result Put.Failed → Rose (O.faults out.old) (O.faults out.new) }
-{
-    line.clear();
-    push_count(line, "packet ", number)?;
-    line.extend_from_slice(&told.text)?;
-    out.write_all(line)
-}
-
-// Writes a line for each packet, numbered from 1. All lines are made in one buffer, and what a line tells of
-// how its packet ended is made anew only where the packet before ended otherwise.
+// Writes a line for each packet, numbered from 1. Each is made of the one before.
 fn write_packets<O: Sink>(alloc: Global, ends: &Ends, out: &mut O) -> Result<(), Put>
     ensures all { OnOk result (Appended (O.written out.old) (O.written out.new)
         (joined (packet_lines 1 ends.now))) }
@@ -41,13 +18,10 @@ fn write_packets<O: Sink>(alloc: Global, ends: &Ends, out: &mut O) -> Result<(),
     ensures later { O.faults out.old ≤ O.faults out.new }
     ensures cause { IsErrOf result Put.Failed → Rose (O.faults out.old) (O.faults out.new) }
 {
-    let mut line = Vec::new(alloc);
-    let mut told = ToldEnd::new(alloc)?;
-    let mut number = 0;
+    let mut line = PacketLine::new(alloc)?;
     for end in ends.iter() {
-        number += 1;
-        told.turn_to(end)?;
-        write_packet(&mut line, number, &told, out)?;
+        line.turn_to(end)?;
+        out.write_all(&line.text)?;
     }
     Ok(())
 }
