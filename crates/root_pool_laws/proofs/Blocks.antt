@@ -1,7 +1,8 @@
 -- Blocks under a commit.
 use Rattle.std.proofs.Common.{◌≡◌, ◌≢◌, ◌∙◌, ◌⊎◌, inl, inr, ℕ, ◌≤◌, Bool, true, false, eqb, List, []}
-use Rattle.std.proofs.Common.{◌∷◌, ◌++◌, length, slice_get, Some, refl, sym, ap, subst, eqb-true}
+use Rattle.std.proofs.Common.{◌∷◌, ◌++◌, length, take, slice_get, Some, refl, sym, ap, subst, arith, eqb-true}
 use Rattle.std.proofs.lemmas.Bool.{eqb-false}
+use Rattle.std.proofs.lemmas.List.{take_all}
 use Rattle.store_history.specs.declared.history.Link.{Link}
 use Rattle.store_history.specs.declared.history.Commit.{Commit}
 use Rattle.store_history.specs.History.{root_of, IsNamed}
@@ -18,16 +19,42 @@ module _ {E : Type 0} where
       pick : (t : Bool) → eqb c.root r ≡ t → HasBlock h r block
           ⊎ ((c.root ≡ r) × IsBlockOf block c.named.chain)
       pick true e = let is : c.root ≡ r = eqb-true c.root r e in
-          inr (is, (has.0, has.1, ap (λ named. slice_get named.chain has.0)
-          (sym (root_own h c) ∙ ap (root_of (h ++ c ∷ [])) is) ∙ has.2, has.3))
-      pick false e = inl (has.0, has.1, ap (λ named. slice_get named.chain has.0)
-          (sym (root_other h c r (eqb-false c.root r e))) ∙ has.2, has.3)
+          inr (
+            is,
+            (
+              has.0,
+              has.1,
+              ap (λ named. slice_get named.chain has.0)
+                  (sym (root_own h c) ∙ ap (root_of (h ++ c ∷ [])) is) ∙ has.2,
+              has.3,
+            ),
+          )
+      pick false e = inl (
+        has.0,
+        has.1,
+        ap (λ named. slice_get named.chain has.0)
+            (sym (root_other h c r (eqb-false c.root r e))) ∙ has.2,
+        has.3,
+      )
 
   -- no root has a block that no chain has had since the base
   pub unnamed_end : (h : List (Commit E)) (base block : ℕ) → base ≤ length h
       → ((l : Link) → IsNamed base h l → l.block ≢ block) → (r : ℕ) → HasBlock h r block → ⊥
   unnamed_end h base block low free r has = free has.1
       (named_at_end base h r has.0 has.1 low has.2) has.3
+
+  -- where the base is the end, a block that no root has is free
+  pub none_unnamed : (h : List (Commit E)) (block : ℕ) → ((r : ℕ) → HasBlock h r block → ⊥)
+      → (l : Link) → IsNamed (length h) h l → l.block ≢ block
+  none_unnamed h block none l named same = let late = named.late in let made = named.made in
+      let whole : take named.after h ≡ h = take_all named.after h (omega (arith, late, made)) in
+      none named.root (
+        named.place,
+        l,
+        sym (ap (λ (k : List (Commit E)). slice_get (root_of k named.root).chain
+            named.place) whole) ∙ named.there,
+        same,
+      )
 
   module _ (h : List (Commit E)) (c : Commit E) (given : List ℕ) (spends : Spends h c given) where
     module _ (base : ℕ) (low : base ≤ length h) where

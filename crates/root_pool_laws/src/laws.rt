@@ -4,7 +4,7 @@ ghost use Rattle.store_history.specs.declared.history.Commit.{Commit};
 ghost use Rattle.store_history.specs.declared.history.Link.{Link};
 ghost use Rattle.store_history.specs.History.{IsNamed};
 ghost use Rattle.hook_law.specs.Standing.{Role, Stands, IsIn, IsUnused};
-ghost use Rattle.root_pool_laws.specs.Blocks.{HaveOneRoot, IsLeft, Spends};
+ghost use Rattle.root_pool_laws.specs.Blocks.{HasBlock, HaveOneRoot, IsLeft, Spends};
 ghost use Rattle.root_pool_laws.specs.Pools.{IsEmptyRoot};
 
 use hook_law::Terms;
@@ -23,6 +23,12 @@ pub fn blocks_of_a_commit<E>()
     ensures left { (h : List (Commit E)) (c : Commit E) (given : List ℕ) → Spends h c given
         → (gone more : List ℕ) → ((r : ℕ) → IsIn r gone → IsIn r more)
         → (block : ℕ) → (IsIn block given → ⊥) → IsLeft gone h block → IsLeft more (h ++ c ∷ []) block }
+{}
+
+/// Once the base is the end, a block that no root has is free.
+pub fn blocks_at_the_base<E>()
+    ensures free { (h : List (Commit E)) (block : ℕ) → ((r : ℕ) → HasBlock h r block → ⊥)
+        → (l : Link) → IsNamed (length h) h l → l.block ≢ block }
 {}
 
 /// Nothing stands at a root that is free. Where nothing comes to stand at a root with a commit, an empty root

@@ -17,4 +17,4 @@
 
 mod laws;
 
-pub use laws::{blocks_of_a_commit, roots_of_a_commit};
+pub use laws::{blocks_at_the_base, blocks_of_a_commit, roots_of_a_commit};

@@ -1,0 +1,173 @@
+-- Commits that empty roots at which nothing stood since the base.
+use Rattle.std.proofs.Common.{◌≡◌, ◌∙◌, ◌⊎◌, inl, inr, ℕ, zero, suc, ◌+◌, ◌-◌, ◌*◌, ◌<◌, ◌≤◌, List, [], ◌∷◌, ◌++◌, length, map, take, get_or, slice_get, Option, Some, None, refl, sym, ap, subst, arith, append_assoc, append-nil, length-append}
+use Rattle.std.specs.List.{range_with_len, flat_map}
+use Rattle.std.proofs.lemmas.List.{take_more}
+use Rattle.std.proofs.lemmas.List.FromFn.{map-range_with_len_more}
+use Rattle.store_history.specs.declared.history.Commit.{Commit}
+use Rattle.store_history.specs.History.{root_of, edits_of}
+use Rattle.filter_state.specs.declared.edit.Edit.{Edit}
+use Rattle.hook_law.specs.Meaning.{point_of}
+use Rattle.hook_law.specs.Standing.{IsUnused}
+use Rattle.hook_law.specs.Keeping.{Keeps}
+use Rattle.hook_law.specs.Unnumbered.{Empties, EmptiesAll}
+use Rattle.hook_law.proofs.Sparing.{Spared, spares_keep, empties_spare}
+use Rattle.hook_law.proofs.Lists.{root_of_none, root_of_empty}
+use Rattle.hook_meaning.specs.Stated.{hook_meaning}
+use Rattle.hook_meaning.specs.Blocks.{hook_codec}
+use Rattle.hook_law.specs.Standing.{IsIn}
+use Rattle.desk_tidy.specs.Pools.{roots_of, IsFreeAt}
+use Rattle.desk_tidy.specs.Tidied.{empty_at, emptying}
+
+-- ---- lists
+pub mapped_at : {A B : Type 0} (f : A → B) (xs : List A) (j : ℕ) (c : B) → slice_get (map f xs) j ≡ Some c → (x : A) × (slice_get xs j ≡ Some x) × (c ≡ f x)
+mapped_at f [] j c e = absurd (cc e)
+mapped_at f (x ∷ xs) zero c e = let same : f x ≡ c = cc e in (x, refl, sym same)
+mapped_at f (x ∷ xs) (suc j) c e = mapped_at f xs j c e
+
+pub at_mapped : {A B : Type 0} (f : A → B) (xs : List A) (j : ℕ) (x : A) → slice_get xs j ≡ Some x → slice_get (map f xs) j ≡ Some (f x)
+at_mapped f [] j x e = absurd (cc e)
+at_mapped f (y ∷ ys) zero x e = let same : y ≡ x = cc e in ap (λ z. Some (f z)) same
+at_mapped f (y ∷ ys) (suc j) x e = at_mapped f ys j x e
+
+pub in_append : {A : Type 0} (xs ys : List A) (j : ℕ) (x : A) → slice_get (xs ++ ys) j ≡ Some x → IsIn x xs ⊎ IsIn x ys
+in_append [] ys j x e = inr (j, e)
+in_append (z ∷ xs) ys zero x e = inl (zero, e)
+in_append (z ∷ xs) ys (suc j) x e = more (in_append xs ys j x e)
+  where
+    more : IsIn x xs ⊎ IsIn x ys → IsIn x (z ∷ xs) ⊎ IsIn x ys
+    more (inl at) = inl (suc at.0, at.1)
+    more (inr at) = inr at
+
+found_left : {A : Type 0} (ws ys : List A) (k : ℕ) (x : A) → slice_get ws k ≡ Some x → slice_get (ws ++ ys) k ≡ Some x
+found_left [] ys k x e = absurd (cc e)
+found_left (w ∷ ws) ys zero x e = e
+found_left (w ∷ ws) ys (suc k) x e = found_left ws ys k x e
+
+pub in_left : {A : Type 0} (xs ys : List A) (x : A) → IsIn x xs → IsIn x (xs ++ ys)
+in_left xs ys x at = (at.0, found_left xs ys at.0 x at.1)
+
+pub in_right : {A : Type 0} (xs ys : List A) (x : A) → IsIn x ys → IsIn x (xs ++ ys)
+in_right [] ys x at = at
+in_right (z ∷ xs) ys x at = let r = in_right xs ys x at in (suc r.0, r.1)
+
+range_in : (first count place root : ℕ) → slice_get (range_with_len first count) place ≡ Some root → (first ≤ root) × (root < first + count)
+range_in first zero place root e = absurd (cc e)
+range_in first (suc count) zero root e = let same : first ≡ root = cc e in (omega (arith, same), omega (arith, same))
+range_in first (suc count) (suc place) root e = let r = range_in (first + 1) count place root e in let a = r.0 in let b = r.1 in (omega arith, omega arith)
+
+range_has : (first count j : ℕ) → j < count → slice_get (range_with_len first count) j ≡ Some (first + j)
+range_has first zero j less = absurd (omega (arith, less))
+range_has first (suc count) zero less = ap Some (omega arith)
+range_has first (suc count) (suc j) less = range_has (first + 1) count j (omega (arith, less)) ∙ ap Some (omega arith)
+
+-- ---- the roots of numbers
+pub in_roots : (first width : ℕ) (numbers : List ℕ) (root : ℕ) → IsIn root (roots_of first width numbers) → (number : ℕ) × IsIn number numbers × (j : ℕ) × (j < width) × (root ≡ first + width * number + j)
+in_roots first width [] root at = let e = at.1 in absurd (cc e)
+in_roots first width (n ∷ ns) root at = pick (in_append (range_with_len (first + width * n) width) (roots_of first width ns) at.0 root at.1) (in_roots first width ns root)
+  where
+    pick : IsIn root (range_with_len (first + width * n) width) ⊎ IsIn root (roots_of first width ns) → (IsIn root (roots_of first width ns) → (number : ℕ) × IsIn number ns × (j : ℕ) × (j < width) × (root ≡ first + width * number + j))
+        → (number : ℕ) × IsIn number (n ∷ ns) × (j : ℕ) × (j < width) × (root ≡ first + width * number + j)
+    pick (inl own) rest = let r = range_in (first + width * n) width own.0 root own.1 in let a = r.0 in let b = r.1 in let j : ℕ = root - (first + width * n) in (n, (0, refl), j, omega arith, omega arith)
+    pick (inr more) rest = let r = rest more in (r.0, (suc r.1.0, r.1.1), r.2, r.3, r.4)
+
+pub roots_have : (first width : ℕ) (numbers : List ℕ) (number j : ℕ) → IsIn number numbers → j < width → IsIn (first + width * number + j) (roots_of first width numbers)
+roots_have first width [] number j at less = let e = at.1 in absurd (cc e)
+roots_have first width (n ∷ ns) number j at less = walk at.0 at.1 (λ m. roots_have first width ns number j m less)
+  where
+    walk : (place : ℕ) → slice_get (n ∷ ns) place ≡ Some number → (IsIn number ns → IsIn (first + width * number + j) (roots_of first width ns)) → IsIn (first + width * number + j) (roots_of first width (n ∷ ns))
+    walk zero e rest = let same : n ≡ number = cc e in
+        in_left (range_with_len (first + width * n) width) (roots_of first width ns) (first + width * number + j)
+        (j, range_has (first + width * n) width j less ∙ ap (λ (m : ℕ). Some (first + width * m + j)) same)
+    walk (suc place) e rest = in_right (range_with_len (first + width * n) width) (roots_of first width ns) (first + width * number + j) (rest (place, e))
+
+pub roots_more : (first width : ℕ) (xs : List ℕ) (n : ℕ) → roots_of first width (xs ++ n ∷ []) ≡ roots_of first width xs ++ range_with_len (first + width * n) width
+roots_more first width [] n = append-nil (range_with_len (first + width * n) width)
+roots_more first width (x ∷ xs) n = ap (λ (l : List ℕ). range_with_len (first + width * x) width ++ l) (roots_more first width xs n)
+    ∙ sym (append_assoc (range_with_len (first + width * x) width) (roots_of first width xs) (range_with_len (first + width * n) width))
+
+pub emptying_append : (point : ℕ) (xs ys : List ℕ) → emptying point (xs ++ ys) ≡ emptying point xs ++ emptying point ys
+emptying_append point [] ys = refl
+emptying_append point (x ∷ xs) ys = ap (λ (l : List (Commit Edit)). empty_at point x ∷ l) (emptying_append point xs ys)
+
+-- ---- the law
+module _ (h : List (Commit Edit)) (b point : ℕ) (low : b ≤ length h) (keeps : Keeps hook_meaning hook_codec h b) (is : point ≡ point_of h) where
+  abbrev pub AllUnused : List ℕ → Type 0
+  AllUnused roots = (place root : ℕ) → slice_get roots place ≡ Some root → IsUnused hook_meaning hook_codec b h root
+
+  empties : (roots : List ℕ) → AllUnused roots → EmptiesAll hook_meaning hook_codec b h (emptying point roots)
+  empties roots unused j c at = let r = mapped_at (empty_at point) roots j c at in
+      subst (Empties hook_meaning hook_codec b h) (sym r.2) (record { plain = refl; stamp = inl is; unused = unused j r.0 r.1; chain = refl })
+
+  pub emptied : (roots : List ℕ) → AllUnused roots → Spared hook_meaning hook_codec b h (emptying point roots)
+  emptied roots unused = spares_keep hook_meaning hook_codec (emptying point roots) h b low keeps (empties_spare hook_meaning hook_codec h (emptying point roots) b (empties roots unused))
+
+  -- the roots of a range, one more
+  pub range_more : (first k : ℕ) → AllUnused (range_with_len first (k + 1)) → Keeps hook_meaning hook_codec ((h ++ emptying point (range_with_len first k)) ++ empty_at point (first + k) ∷ []) b
+  range_more first k unused = subst (λ (l : List (Commit Edit)). Keeps hook_meaning hook_codec l b) (range_is first k) (emptied (range_with_len first (k + 1)) unused).keeps
+    where
+      range_is : (first k : ℕ) → h ++ emptying point (range_with_len first (k + 1)) ≡ (h ++ emptying point (range_with_len first k)) ++ empty_at point (first + k) ∷ []
+      range_is first k = ap (λ (l : List (Commit Edit)). h ++ l) (map-range_with_len_more (empty_at point) first k (first + k) refl) ∙ sym (append_assoc h (emptying point (range_with_len first k)) (empty_at point (first + k) ∷ []))
+
+pub range_unused : (h : List (Commit Edit)) (b first count k : ℕ) → k ≤ count → ((root : ℕ) → first ≤ root → root < first + count → IsUnused hook_meaning hook_codec b h root)
+    → (place root : ℕ) → slice_get (range_with_len first k) place ≡ Some root → IsUnused hook_meaning hook_codec b h root
+range_unused h b first count k le unused place root e = let r = range_in first k place root e in let c = r.1 in unused root r.0 (omega arith)
+
+pub numbers_unused : (h : List (Commit Edit)) (b first width : ℕ) (numbers : List ℕ) → ((place number : ℕ) → slice_get numbers place ≡ Some number → IsFreeAt h b first width number)
+    → (place root : ℕ) → slice_get (roots_of first width numbers) place ≡ Some root → IsUnused hook_meaning hook_codec b h root
+numbers_unused h b first width numbers unused place root e = let r = in_roots first width numbers root (place, e) in
+    subst (IsUnused hook_meaning hook_codec b h) (sym r.4) (unused r.1.0 r.0 r.1.1 r.2 r.3)
+
+-- one commit more of a range
+pub range_seen : (h g : List (Commit Edit)) (point first k : ℕ) → g ≡ h ++ emptying point (range_with_len first k) → g ++ empty_at point (first + k) ∷ [] ≡ h ++ emptying point (range_with_len first (k + 1))
+range_seen h g point first k e = ap (λ (l : List (Commit Edit)). l ++ empty_at point (first + k) ∷ []) e
+    ∙ (append_assoc h (emptying point (range_with_len first k)) (empty_at point (first + k) ∷ []) ∙ ap (λ (l : List (Commit Edit)). h ++ l) (sym (map-range_with_len_more (empty_at point) first k (first + k) refl)))
+
+-- ---- the roots of the first numbers, and of one more
+at_place : (numbers : List ℕ) (at : ℕ) → at < length numbers → slice_get numbers at ≡ Some (get_or numbers at 0)
+at_place [] at less = absurd (omega (arith, less))
+at_place (n ∷ ns) zero less = refl
+at_place (n ∷ ns) (suc at) less = at_place ns at (omega (arith, less))
+
+of_taken : (numbers : List ℕ) (at place n : ℕ) → slice_get (take at numbers) place ≡ Some n → slice_get numbers place ≡ Some n
+of_taken numbers zero place n e = absurd (cc e)
+of_taken [] (suc at) place n e = absurd (cc e)
+of_taken (m ∷ ms) (suc at) zero n e = e
+of_taken (m ∷ ms) (suc at) (suc place) n e = of_taken ms at place n e
+
+take_one : (numbers : List ℕ) (at : ℕ) → at < length numbers → take (at + 1) numbers ≡ take at numbers ++ get_or numbers at 0 ∷ []
+take_one numbers at less = take_more numbers at 0 less
+
+pub part_within : (numbers : List ℕ) (first width at roots : ℕ) → at < length numbers → ((place number : ℕ) → slice_get numbers place ≡ Some number → first + width * number + width ≤ roots)
+    → first + width * get_or numbers at 0 + width ≤ roots
+part_within numbers first width at roots less within = within at (get_or numbers at 0) (at_place numbers at less)
+
+module _ (h : List (Commit Edit)) (b point : ℕ) (low : b ≤ length h) (keeps : Keeps hook_meaning hook_codec h b) (is : point ≡ point_of h) (numbers : List ℕ) (first width at : ℕ) where
+  abbrev part : List ℕ
+  part = roots_of first width (take at numbers)
+
+  part_spared : ((place number : ℕ) → slice_get numbers place ≡ Some number → IsFreeAt h b first width number) → Spared hook_meaning hook_codec b h (emptying point part)
+  part_spared unused = emptied h b point low keeps is part (numbers_unused h b first width (take at numbers) (λ place n e. unused place n (of_taken numbers at place n e)))
+
+  pub part_lawful : ((place number : ℕ) → slice_get numbers place ≡ Some number → IsFreeAt h b first width number) → (g : List (Commit Edit)) (c : ℕ) → g ≡ h ++ emptying point part → c ≡ b
+      → (c ≤ length g) × Keeps hook_meaning hook_codec g c × (point ≡ point_of g)
+  part_lawful unused g c seen base = let s = part_spared unused in (
+    subst (λ (l : List (Commit Edit)). c ≤ length l) (sym seen) (omega (arith, low, base, length-append h (emptying point part))),
+    subst (Keeps hook_meaning hook_codec g) (sym base) (subst (λ (l : List (Commit Edit)). Keeps hook_meaning hook_codec l b) (sym seen) s.keeps),
+    is ∙ sym (ap point_of seen ∙ ap length s.edits),
+  )
+
+  pub part_unused : at < length numbers → ((place number : ℕ) → slice_get numbers place ≡ Some number → IsFreeAt h b first width number) → (g : List (Commit Edit)) (c : ℕ) → g ≡ h ++ emptying point part → c ≡ b
+      → (root : ℕ) → first + width * get_or numbers at 0 ≤ root → root < first + width * get_or numbers at 0 + width → IsUnused hook_meaning hook_codec c g root
+  part_unused less unused g c seen base root lo hi = let n = get_or numbers at 0 in let j : ℕ = root - (first + width * n) in
+      let free = unused at n (at_place numbers at less) j (omega (arith, lo, hi)) in let is_root : first + width * n + j ≡ root = omega (arith, lo) in
+      subst (λ (k : ℕ). IsUnused hook_meaning hook_codec k g root) (sym base)
+      (subst (λ (l : List (Commit Edit)). IsUnused hook_meaning hook_codec b l root) (sym seen)
+      (subst (IsUnused hook_meaning hook_codec b (h ++ emptying point part)) is_root ((part_spared unused).unused (first + width * n + j) free)))
+
+pub part_seen : (h g : List (Commit Edit)) (point : ℕ) (numbers : List ℕ) (first width at : ℕ) → at < length numbers → g ≡ h ++ emptying point (roots_of first width (take at numbers))
+    → g ++ emptying point (range_with_len (first + width * get_or numbers at 0) width) ≡ h ++ emptying point (roots_of first width (take (at + 1) numbers))
+part_seen h g point numbers first width at less e = let done = roots_of first width (take at numbers) in let range = range_with_len (first + width * get_or numbers at 0) width in
+    ap (λ (l : List (Commit Edit)). l ++ emptying point range) e
+    ∙ (append_assoc h (emptying point done) (emptying point range)
+    ∙ ap (λ (l : List (Commit Edit)). h ++ l) (sym (emptying_append point done range)
+    ∙ ap (emptying point) (sym (roots_more first width (take at numbers) (get_or numbers at 0)) ∙ ap (roots_of first width) (sym (take_one numbers at less)))))
