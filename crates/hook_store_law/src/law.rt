@@ -3,11 +3,15 @@
 use filter_state::Edit;
 use mask_table::MaskLaw;
 use miniq_pair::HeadLaw;
+use pin_store::Store;
 use store_history::Law;
 
 /// The law of the hook's store: what `hook_law` asks of its commits, at this project's terms. Nothing is made
 /// of this type.
 pub struct HookLaw;
+
+/// The store of a hook: blocks and roots that keep the law.
+pub type HookStore = Store<HookLaw>;
 
 impl Law for HookLaw {
     ghost use Rattle.hook_law.specs.Keeping.{Keeps};

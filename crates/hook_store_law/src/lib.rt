@@ -27,4 +27,4 @@ mod law;
 #[cfg(test)]
 mod tests;
 
-pub use law::HookLaw;
+pub use law::{HookLaw, HookStore};
