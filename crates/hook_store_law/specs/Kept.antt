@@ -1,0 +1,13 @@
+-- What the commits of a hook's store keep (this project's own). The base is b.
+use Rattle.std.specs.Prelude.{ℕ, List}
+use Rattle.store_history.specs.declared.history.Commit.{Commit}
+use Rattle.filter_state.specs.declared.edit.Edit.{Edit}
+use Rattle.stamp_laws.specs.Stamps.{StampsRise}
+use Rattle.hook_law.specs.Keeping.{Keeps}
+use Rattle.hook_meaning.specs.Stated.{hook_meaning}
+use Rattle.hook_meaning.specs.Blocks.{hook_codec}
+
+-- the law of a hook, at this project's states and blocks; and one word of a root names one chain
+pub record KeepsHook (h : List (Commit Edit)) (b : ℕ) : Type 0 where
+  pub law : Keeps hook_meaning hook_codec h b
+  pub stamps : StampsRise h
