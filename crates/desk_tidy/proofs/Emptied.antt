@@ -1,5 +1,5 @@
 -- Commits that empty roots at which nothing stood since the base.
-use Rattle.std.proofs.Common.{◌≡◌, ◌∙◌, ◌⊎◌, inl, inr, ℕ, zero, suc, ◌+◌, ◌-◌, ◌*◌, ◌<◌, ◌≤◌, List, [], ◌∷◌, ◌++◌, length, map, take, get_or, slice_get, Option, Some, None, refl, sym, ap, subst, arith, append_assoc, append-nil, length-append}
+use Rattle.std.proofs.Common.{◌≡◌, ◌∙◌, ◌⊎◌, inl, inr, ℕ, zero, suc, ◌+◌, ◌-◌, ◌*◌, ◌<◌, ◌≤◌, List, [], ◌∷◌, ◌++◌, length, map, take, get_or, slice_get, Option, Some, None, Bool, true, false, eqb, eqb-true, refl, sym, ap, subst, arith, append_assoc, append-nil, length-append}
 use Rattle.std.specs.List.{range_with_len, flat_map}
 use Rattle.std.proofs.lemmas.List.{take_more}
 use Rattle.std.proofs.lemmas.List.FromFn.{map-range_with_len_more}
@@ -9,6 +9,12 @@ use Rattle.filter_state.specs.declared.edit.Edit.{Edit}
 use Rattle.hook_law.specs.Meaning.{point_of}
 use Rattle.hook_law.specs.Standing.{IsUnused}
 use Rattle.hook_law.specs.Keeping.{Keeps}
+use Rattle.hook_store_law.specs.Kept.{KeepsHook, IsKeptAt}
+use Rattle.stamp_laws.specs.Stamps.{StampsRise}
+use Rattle.stamp_laws.proofs.Stamps.{more_rise}
+use Rattle.store_history.specs.declared.history.Named.{Named}
+use Rattle.store_history.proofs.Histories.{root_own, root_other}
+use Rattle.std.proofs.lemmas.Bool.{eqb-false}
 use Rattle.hook_law.specs.Unnumbered.{Empties, EmptiesAll}
 use Rattle.hook_law.proofs.Sparing.{Spared, spares_keep, empties_spare}
 use Rattle.hook_law.proofs.Lists.{root_of_none, root_of_empty}
@@ -89,21 +95,46 @@ pub emptying_append : (point : ℕ) (xs ys : List ℕ) → emptying point (xs ++
 emptying_append point [] ys = refl
 emptying_append point (x ∷ xs) ys = ap (λ (l : List (Commit Edit)). empty_at point x ∷ l) (emptying_append point xs ys)
 
+-- ---- stamps
+-- no root has a later stamp
+abbrev AreEarly : List (Commit Edit) → ℕ → Type 0
+AreEarly h point = (r : ℕ) → (root_of h r).stamp ≤ point
+
+early_more : (h : List (Commit Edit)) (point root : ℕ) → AreEarly h point → AreEarly (h ++ empty_at point root ∷ []) point
+early_more h point root early r = pick (eqb root r) refl
+  where
+    pick : (t : Bool) → eqb root r ≡ t → (root_of (h ++ empty_at point root ∷ []) r).stamp ≤ point
+    pick true e = let own = ap (λ (n : Named). n.stamp) (sym (ap (root_of (h ++ empty_at point root ∷ [])) (eqb-true root r e)) ∙ root_own h (empty_at point root)) in omega (arith, own)
+    pick false e = let same = ap (λ (n : Named). n.stamp) (root_other h (empty_at point root) r (eqb-false root r e)) in let low = early r in omega (arith, same, low)
+
+emptied_stamps : (point : ℕ) (roots : List ℕ) (h : List (Commit Edit)) → StampsRise h → AreEarly h point → StampsRise (h ++ emptying point roots) × AreEarly (h ++ emptying point roots) point
+emptied_stamps point [] h rise early = (subst (λ (l : List (Commit Edit)). StampsRise l) (sym (append-nil h)) rise, subst (λ (l : List (Commit Edit)). AreEarly l point) (sym (append-nil h)) early)
+emptied_stamps point (r ∷ rs) h rise early = let c = empty_at point r in let more = emptied_stamps point rs (h ++ c ∷ []) (more_rise h c rise (inr (early r, refl))) (early_more h point r early) in
+    (subst (λ (l : List (Commit Edit)). StampsRise l) (append_assoc h (c ∷ []) (emptying point rs)) more.0, subst (λ (l : List (Commit Edit)). AreEarly l point) (append_assoc h (c ∷ []) (emptying point rs)) more.1)
+
 -- ---- the law
-module _ (h : List (Commit Edit)) (b point : ℕ) (low : b ≤ length h) (keeps : Keeps hook_meaning hook_codec h b) (is : point ≡ point_of h) where
+module _ (h : List (Commit Edit)) (b point : ℕ) (kept : IsKeptAt h b point) where
   abbrev pub AllUnused : List ℕ → Type 0
   AllUnused roots = (place root : ℕ) → slice_get roots place ≡ Some root → IsUnused hook_meaning hook_codec b h root
 
   empties : (roots : List ℕ) → AllUnused roots → EmptiesAll hook_meaning hook_codec b h (emptying point roots)
   empties roots unused j c at = let r = mapped_at (empty_at point) roots j c at in
-      subst (Empties hook_meaning hook_codec b h) (sym r.2) (record { plain = refl; stamp = inl is; unused = unused j r.0 r.1; chain = refl })
+      subst (Empties hook_meaning hook_codec b h) (sym r.2) (record { plain = refl; stamp = inl kept.point_is; unused = unused j r.0 r.1; chain = refl })
 
   pub emptied : (roots : List ℕ) → AllUnused roots → Spared hook_meaning hook_codec b h (emptying point roots)
-  emptied roots unused = spares_keep hook_meaning hook_codec (emptying point roots) h b low keeps (empties_spare hook_meaning hook_codec h (emptying point roots) b (empties roots unused))
+  emptied roots unused = spares_keep hook_meaning hook_codec (emptying point roots) h b kept.low kept.keeps.law (empties_spare hook_meaning hook_codec h (emptying point roots) b (empties roots unused))
+
+  pub emptied_kept : (roots : List ℕ) → AllUnused roots → IsKeptAt (h ++ emptying point roots) b point
+  emptied_kept roots unused = let s = emptied roots unused in let t = emptied_stamps point roots h kept.keeps.stamps kept.early in record {
+    low = let low = kept.low in omega (arith, low, length-append h (emptying point roots));
+    keeps = record { law = s.keeps; stamps = t.0 };
+    point_is = kept.point_is ∙ sym (ap length s.edits);
+    early = t.1;
+  }
 
   -- the roots of a range, one more
-  pub range_more : (first k : ℕ) → AllUnused (range_with_len first (k + 1)) → Keeps hook_meaning hook_codec ((h ++ emptying point (range_with_len first k)) ++ empty_at point (first + k) ∷ []) b
-  range_more first k unused = subst (λ (l : List (Commit Edit)). Keeps hook_meaning hook_codec l b) (range_is first k) (emptied (range_with_len first (k + 1)) unused).keeps
+  pub range_more : (first k : ℕ) → AllUnused (range_with_len first (k + 1)) → KeepsHook ((h ++ emptying point (range_with_len first k)) ++ empty_at point (first + k) ∷ []) b
+  range_more first k unused = subst (λ (l : List (Commit Edit)). KeepsHook l b) (range_is first k) (emptied_kept (range_with_len first (k + 1)) unused).keeps
     where
       range_is : (first k : ℕ) → h ++ emptying point (range_with_len first (k + 1)) ≡ (h ++ emptying point (range_with_len first k)) ++ empty_at point (first + k) ∷ []
       range_is first k = ap (λ (l : List (Commit Edit)). h ++ l) (map-range_with_len_more (empty_at point) first k (first + k) refl) ∙ sym (append_assoc h (emptying point (range_with_len first k)) (empty_at point (first + k) ∷ []))
@@ -141,20 +172,17 @@ pub part_within : (numbers : List ℕ) (first width at roots : ℕ) → at < len
     → first + width * get_or numbers at 0 + width ≤ roots
 part_within numbers first width at roots less within = within at (get_or numbers at 0) (at_place numbers at less)
 
-module _ (h : List (Commit Edit)) (b point : ℕ) (low : b ≤ length h) (keeps : Keeps hook_meaning hook_codec h b) (is : point ≡ point_of h) (numbers : List ℕ) (first width at : ℕ) where
+module _ (h : List (Commit Edit)) (b point : ℕ) (kept : IsKeptAt h b point) (numbers : List ℕ) (first width at : ℕ) where
   abbrev part : List ℕ
   part = roots_of first width (take at numbers)
 
   part_spared : ((place number : ℕ) → slice_get numbers place ≡ Some number → IsFreeAt h b first width number) → Spared hook_meaning hook_codec b h (emptying point part)
-  part_spared unused = emptied h b point low keeps is part (numbers_unused h b first width (take at numbers) (λ place n e. unused place n (of_taken numbers at place n e)))
+  part_spared unused = emptied h b point kept part (numbers_unused h b first width (take at numbers) (λ place n e. unused place n (of_taken numbers at place n e)))
 
-  pub part_lawful : ((place number : ℕ) → slice_get numbers place ≡ Some number → IsFreeAt h b first width number) → (g : List (Commit Edit)) (c : ℕ) → g ≡ h ++ emptying point part → c ≡ b
-      → (c ≤ length g) × Keeps hook_meaning hook_codec g c × (point ≡ point_of g)
-  part_lawful unused g c seen base = let s = part_spared unused in (
-    subst (λ (l : List (Commit Edit)). c ≤ length l) (sym seen) (omega (arith, low, base, length-append h (emptying point part))),
-    subst (Keeps hook_meaning hook_codec g) (sym base) (subst (λ (l : List (Commit Edit)). Keeps hook_meaning hook_codec l b) (sym seen) s.keeps),
-    is ∙ sym (ap point_of seen ∙ ap length s.edits),
-  )
+  pub part_kept : ((place number : ℕ) → slice_get numbers place ≡ Some number → IsFreeAt h b first width number) → (g : List (Commit Edit)) (c : ℕ) → g ≡ h ++ emptying point part → c ≡ b
+      → IsKeptAt g c point
+  part_kept unused g c seen base = subst (λ (n : ℕ). IsKeptAt g n point) (sym base) (subst (λ (l : List (Commit Edit)). IsKeptAt l b point) (sym seen)
+      (emptied_kept h b point kept part (numbers_unused h b first width (take at numbers) (λ place n e. unused place n (of_taken numbers at place n e)))))
 
   pub part_unused : at < length numbers → ((place number : ℕ) → slice_get numbers place ≡ Some number → IsFreeAt h b first width number) → (g : List (Commit Edit)) (c : ℕ) → g ≡ h ++ emptying point part → c ≡ b
       → (root : ℕ) → first + width * get_or numbers at 0 ≤ root → root < first + width * get_or numbers at 0 + width → IsUnused hook_meaning hook_codec c g root

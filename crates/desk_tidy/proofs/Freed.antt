@@ -10,7 +10,7 @@ use Rattle.pin_store.specs.Calls.{IsUnnamed}
 use Rattle.filter_state.specs.declared.edit.Edit.{Edit}
 use Rattle.hook_law.specs.Meaning.{point_of}
 use Rattle.hook_law.specs.Standing.{Role, Stands, IsUnused}
-use Rattle.hook_law.specs.Keeping.{Keeps}
+use Rattle.hook_store_law.specs.Kept.{IsKeptAt}
 use Rattle.hook_law.proofs.Standing.{unused_rises, gone_unused, unused_end}
 use Rattle.hook_law.proofs.Sparing.{Spared}
 use Rattle.hook_law.proofs.Lists.{root_of_none, root_of_empty}
@@ -28,7 +28,7 @@ use Rattle.desk_tidy.specs.declared.pools.Pools.{Pools}
 use Rattle.desk_tidy.specs.Pools.{roots_of, gone_roots, IsFreeAt, IsLeftAt, IsIdle, ArePools}
 use Rattle.desk_tidy.specs.Tidied.{empty_at, emptying}
 use Rattle.root_pool_laws.proofs.Blocks.{free_stays, none_unnamed}
-use Rattle.desk_tidy.proofs.Emptied.{mapped_at, at_mapped, in_append, in_right, numbers_unused, emptying_append, AllUnused, emptied}
+use Rattle.desk_tidy.proofs.Emptied.{mapped_at, at_mapped, in_append, in_right, numbers_unused, emptying_append, AllUnused, emptied, emptied_kept}
 
 -- ---- one pool
 pub pool_as : (size : ℕ) (F G L M : ℕ → Type 0) (free left : List ℕ) → ((x : ℕ) → F x → G x) → ((x : ℕ) → L x → M x) → IsPool size F L free left → IsPool size G M free left
@@ -111,19 +111,19 @@ unnamed_emptied (r ∷ rs) h b point x low free = let c = empty_at point r in
     subst (λ (l : List (Commit Edit)). IsUnnamed b l x) (append_assoc h (c ∷ []) (emptying point rs))
     (unnamed_emptied rs (h ++ c ∷ []) b point x (omega (arith, low, length-append h (c ∷ []))) (free_stays h c [] (λ place l e. absurd (cc e)) b low x (λ at. let e = at.1 in cc e) free))
 
-module _ (h : List (Commit Edit)) (b point : ℕ) (low : b ≤ length h) (keeps : Keeps hook_meaning hook_codec h b) (is : point ≡ point_of h) (roots : List ℕ)
-    (unused : AllUnused h b point low keeps is roots) where
+module _ (h : List (Commit Edit)) (b point : ℕ) (kept : IsKeptAt h b point) (roots : List ℕ)
+    (unused : AllUnused h b point kept roots) where
   -- a free number stays free
   pub free_after : (first width x : ℕ) → IsFreeAt h b first width x → IsFreeAt (h ++ emptying point roots) b first width x
-  free_after first width x free j less = (emptied h b point low keeps is roots unused).unused (first + width * x + j) (free j less)
+  free_after first width x free j less = (emptied h b point kept roots unused).unused (first + width * x + j) (free j less)
 
 -- ---- all that left
-module _ (old : Pools) (h : List (Commit Edit)) (b point : ℕ) (low : b ≤ length h) (keeps : Keeps hook_meaning hook_codec h b) (is : point ≡ point_of h) (end : b ≡ length h) (p : ArePools old h b) where
+module _ (old : Pools) (h : List (Commit Edit)) (b point : ℕ) (kept : IsKeptAt h b point) (end : b ≡ length h) (p : ArePools old h b) where
   all_unused : (first width size : ℕ) (F : ℕ → Type 0) (free left : List ℕ) → IsPool size F (IsLeftAt h first width) free left → (place root : ℕ) → slice_get (roots_of first width left) place ≡ Some root
       → IsUnused hook_meaning hook_codec b h root
   all_unused first width size F free left q = numbers_unused h b first width left (λ place x e. left_free h b first width x end (q.have_left place x e))
 
-  pub gone_unused_roots : AllUnused h b point low keeps is (gone_roots old)
+  pub gone_unused_roots : AllUnused h b point kept (gone_roots old)
   gone_unused_roots place root e = sort (in_append (roots_of 3 1 old.masks.left ++ roots_of 8195 1 old.actions.left) (roots_of 10243 16 old.rows.left) place root e)
     where
       first_two : IsIn root (roots_of 3 1 old.masks.left) ⊎ IsIn root (roots_of 8195 1 old.actions.left) → IsUnused hook_meaning hook_codec b h root
@@ -135,20 +135,20 @@ module _ (old : Pools) (h : List (Commit Edit)) (b point : ℕ) (low : b ≤ len
       sort (inr at) = all_unused 10243 16 8192 (IsFreeAt h b 10243 16) old.rows.free old.rows.left p.rows at.0 root at.1
 
   pub gone_spared : Spared hook_meaning hook_codec b h (emptying point (gone_roots old))
-  gone_spared = emptied h b point low keeps is (gone_roots old) gone_unused_roots
+  gone_spared = emptied h b point kept (gone_roots old) gone_unused_roots
 
   freed : (size first width : ℕ) (free left free2 left2 : List ℕ) → free2 ≡ free ++ left → left2 ≡ [] → IsPool size (IsFreeAt h b first width) (IsLeftAt h first width) free left
       → IsPool size (IsFreeAt (h ++ emptying point (gone_roots old)) b first width) (IsLeftAt (h ++ emptying point (gone_roots old)) first width) free2 left2
   freed size first width free left free2 left2 e none q =
       pool_freed size (IsFreeAt h b first width) (IsFreeAt (h ++ emptying point (gone_roots old)) b first width) (IsLeftAt h first width) (IsLeftAt (h ++ emptying point (gone_roots old)) first width) free left free2 left2 e none
-      (λ x f. free_after h b point low keeps is (gone_roots old) gone_unused_roots first width x f)
-      (λ x l. free_after h b point low keeps is (gone_roots old) gone_unused_roots first width x (left_free h b first width x end l)) q
+      (λ x f. free_after h b point kept (gone_roots old) gone_unused_roots first width x f)
+      (λ x l. free_after h b point kept (gone_roots old) gone_unused_roots first width x (left_free h b first width x end l)) q
 
   idle_emptied : (hook : Hook) (idle : IdlePlace) → IsIdle h b hook idle → IsIdle (h ++ emptying point (gone_roots old)) b hook idle
   idle_emptied hook idle q = record {
     within = q.within;
     none = λ at less r n. q.none at less r (names_before h point (gone_roots old) r (first_block_of hook idle.place + at) n).0;
-    free = λ is at less. unnamed_emptied (gone_roots old) h b point (first_block_of hook idle.place + at) low (q.free is at less);
+    free = λ is at less. unnamed_emptied (gone_roots old) h b point (first_block_of hook idle.place + at) kept.low (q.free is at less);
   }
 
   pub gone_emptied : (new : Pools) → (new.masks.free ≡ old.masks.free ++ old.masks.left) × (new.masks.left ≡ [])
@@ -163,28 +163,23 @@ module _ (old : Pools) (h : List (Commit Edit)) (b point : ℕ) (low : b ≤ len
     rows = freed 8192 10243 16 old.rows.free old.rows.left new.rows.free new.rows.left rows.0 rows.1 p.rows;
     blocks = subst (λ q. IsPool 16384 (IsUnnamed b (h ++ emptying point (gone_roots old))) (IsLeft (gone_roots new) (h ++ emptying point (gone_roots old))) q.free q.left) (sym blocks)
         (pool_as 16384 (IsUnnamed b h) (IsUnnamed b (h ++ emptying point (gone_roots old))) (IsLeft (gone_roots old) h) (IsLeft (gone_roots new) (h ++ emptying point (gone_roots old)))
-        old.blocks.free old.blocks.left (λ x f. unnamed_emptied (gone_roots old) h b point x low f)
+        old.blocks.free old.blocks.left (λ x f. unnamed_emptied (gone_roots old) h b point x kept.low f)
         (λ x l r n. let m = names_before h point (gone_roots old) r x n in absurd (m.1 (l r m.0))) p.blocks);
   }
 
   -- after the first of these roots were emptied
-  pub part_lawful : (roots : List ℕ) → AllUnused h b point low keeps is roots → (g : List (Commit Edit)) (c : ℕ) → g ≡ h ++ emptying point roots → c ≡ b
-      → (c ≤ length g) × Keeps hook_meaning hook_codec g c × (point ≡ point_of g)
-  part_lawful roots unused g c seen base = let s = emptied h b point low keeps is roots unused in (
-    subst (λ (l : List (Commit Edit)). c ≤ length l) (sym seen) (omega (arith, low, base, length-append h (emptying point roots))),
-    subst (Keeps hook_meaning hook_codec g) (sym base) (subst (λ (l : List (Commit Edit)). Keeps hook_meaning hook_codec l b) (sym seen) s.keeps),
-    is ∙ sym (ap point_of seen ∙ ap length s.edits),
-  )
+  pub part_kept : (roots : List ℕ) → AllUnused h b point kept roots → (g : List (Commit Edit)) (c : ℕ) → g ≡ h ++ emptying point roots → c ≡ b → IsKeptAt g c point
+  part_kept roots unused g c seen base = subst (λ (n : ℕ). IsKeptAt g n point) (sym base) (subst (λ (l : List (Commit Edit)). IsKeptAt l b point) (sym seen) (emptied_kept h b point kept roots unused))
 
-  pub part_free : (roots : List ℕ) → AllUnused h b point low keeps is roots → (g : List (Commit Edit)) (c : ℕ) → g ≡ h ++ emptying point roots → c ≡ b
+  pub part_free : (roots : List ℕ) → AllUnused h b point kept roots → (g : List (Commit Edit)) (c : ℕ) → g ≡ h ++ emptying point roots → c ≡ b
       → (first width x : ℕ) → IsLeftAt h first width x → IsFreeAt g c first width x
   part_free roots unused g c seen base first width x left = subst (λ (k : ℕ). IsFreeAt g k first width x) (sym base)
-      (subst (λ (l : List (Commit Edit)). IsFreeAt l b first width x) (sym seen) (free_after h b point low keeps is roots unused first width x (left_free h b first width x end left)))
+      (subst (λ (l : List (Commit Edit)). IsFreeAt l b first width x) (sym seen) (free_after h b point kept roots unused first width x (left_free h b first width x end left)))
 
-  pub masks_unused : AllUnused h b point low keeps is (roots_of 3 1 old.masks.left)
+  pub masks_unused : AllUnused h b point kept (roots_of 3 1 old.masks.left)
   masks_unused = all_unused 3 1 8192 (IsFreeAt h b 3 1) old.masks.free old.masks.left p.masks
 
-  pub two_unused : AllUnused h b point low keeps is (roots_of 3 1 old.masks.left ++ roots_of 8195 1 old.actions.left)
+  pub two_unused : AllUnused h b point kept (roots_of 3 1 old.masks.left ++ roots_of 8195 1 old.actions.left)
   two_unused place root e = sort (in_append (roots_of 3 1 old.masks.left) (roots_of 8195 1 old.actions.left) place root e)
     where
       sort : IsIn root (roots_of 3 1 old.masks.left) ⊎ IsIn root (roots_of 8195 1 old.actions.left) → IsUnused hook_meaning hook_codec b h root

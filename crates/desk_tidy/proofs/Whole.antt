@@ -1,40 +1,41 @@
 -- A whole tidying.
-use Rattle.std.proofs.Common.{◌≡◌, ◌∙◌, inr, ℕ, ◌≤◌, List, [], ◌∷◌, ◌++◌, length, true, refl, ap, sym, subst, le_refl}
+use Rattle.std.proofs.Common.{◌≡◌, ◌∙◌, inr, ℕ, ◌≤◌, List, [], ◌∷◌, ◌++◌, length, true, refl, ap, sym, subst}
 use Rattle.store_history.specs.declared.history.Commit.{Commit}
 use Rattle.filter_state.specs.declared.edit.Edit.{Edit}
-use Rattle.hook_law.specs.Meaning.{point_of}
 use Rattle.hook_law.specs.Standing.{IsUnused}
-use Rattle.hook_law.specs.Keeping.{Keeps}
+use Rattle.hook_law.proofs.Pushing.{keeps_rises}
+use Rattle.hook_store_law.specs.Kept.{IsKeptAt}
 use Rattle.hook_meaning.specs.Stated.{hook_meaning}
 use Rattle.hook_meaning.specs.Blocks.{hook_codec}
 use Rattle.desk_tidy.specs.declared.pools.Pools.{Pools}
 use Rattle.desk_tidy.specs.Pools.{gone_roots, ArePools}
 use Rattle.desk_tidy.specs.Tidied.{emptying, Empties}
-use Rattle.desk_tidy.proofs.Freed.{pools_rise, gone_emptied, gone_unused_roots, part_lawful}
+use Rattle.desk_tidy.proofs.Freed.{pools_rise, gone_emptied, gone_unused_roots, part_kept}
 
 -- the same commits, and a base that rose
 pub raised : (pools : Pools) (h k : List (Commit Edit)) (b c : ℕ) → k ≡ h → b ≤ c → ArePools pools h b → ArePools pools k c
 raised pools h k b c same le p = subst (λ (l : List (Commit Edit)). ArePools pools l c) (sym same) (pools_rise pools h b c le p)
 
-pub kept : (h k : List (Commit Edit)) (point c : ℕ) → k ≡ h → Keeps hook_meaning hook_codec h c → point ≡ point_of h → Keeps hook_meaning hook_codec k c × (point ≡ point_of k)
-kept h k point c same keeps is = (subst (λ (l : List (Commit Edit)). Keeps hook_meaning hook_codec l c) (sym same) keeps, is ∙ ap point_of (sym same))
-
-at_most : (b n : ℕ) → b ≡ n → b ≤ n
-at_most b n e = subst (λ (k : ℕ). b ≤ k) e (le_refl b)
+pub kept_on : (h k : List (Commit Edit)) (b c point : ℕ) → k ≡ h → b ≤ c → c ≤ length k → IsKeptAt h b point → IsKeptAt k c point
+kept_on h k b c point same le low p = subst (λ (l : List (Commit Edit)). IsKeptAt l c point) (sym same) (record {
+  low = subst (λ (l : List (Commit Edit)). c ≤ length l) same low;
+  keeps = record { law = keeps_rises hook_meaning hook_codec h b c le p.keeps.law; stamps = p.keeps.stamps };
+  point_is = p.point_is;
+  early = p.early;
+})
 
 -- the roots of all that left are emptied, where the base is the end
-module _ (old : Pools) (h g : List (Commit Edit)) (b d point : ℕ) (keeps : Keeps hook_meaning hook_codec h b) (is : point ≡ point_of h) (end : b ≡ length h) (p : ArePools old h b)
+module _ (old : Pools) (h g : List (Commit Edit)) (b d point : ℕ) (kept : IsKeptAt h b point) (end : b ≡ length h) (p : ArePools old h b)
     (seen : g ≡ h ++ emptying point (gone_roots old)) (base : d ≡ b) where
-  pub all_lawful : Keeps hook_meaning hook_codec g d × (point ≡ point_of g)
-  all_lawful = let whole = part_lawful old h b point (at_most b (length h) end) keeps is end p (gone_roots old)
-      (gone_unused_roots old h b point (at_most b (length h) end) keeps is end p) g d seen base in (whole.1, whole.2)
+  pub all_kept : IsKeptAt g d point
+  all_kept = part_kept old h b point kept end p (gone_roots old) (gone_unused_roots old h b point kept end p) g d seen base
 
   pub all_emptied : Empties old h point g
   all_emptied = record {
     roots = gone_roots old;
     which = inr refl;
     unused = λ place root e. subst (λ (n : ℕ). IsUnused hook_meaning hook_codec n h root) end
-        (gone_unused_roots old h b point (at_most b (length h) end) keeps is end p place root e);
+        (gone_unused_roots old h b point kept end p place root e);
     seen = seen;
   }
 
@@ -43,4 +44,4 @@ module _ (old : Pools) (h g : List (Commit Edit)) (b d point : ℕ) (keeps : Kee
       → (new.actions.free ≡ old.actions.free ++ old.actions.left) × (new.actions.left ≡ [])
       → new.blocks ≡ old.blocks → (new.ingress ≡ old.ingress) × (new.egress ≡ old.egress) → ArePools new g d
   all_pools new rows masks actions blocks places = subst (ArePools new g) (sym base) (subst (λ (l : List (Commit Edit)). ArePools new l b) (sym seen)
-      (gone_emptied old h b point (at_most b (length h) end) keeps is end p new masks actions rows blocks places))
+      (gone_emptied old h b point kept end p new masks actions rows blocks places))

@@ -3,9 +3,8 @@ ghost use Rattle.std.specs.Prelude.{◌≡◌, ◌<◌, ◌≤◌, ◌+◌, ◌*
 ghost use Rattle.std.specs.List.{range_with_len};
 ghost use Rattle.pin_store.specs.Sheets.{base_of};
 ghost use Rattle.pin_store.specs.Calls.{seen_by, sheet_of, IsSeatOf};
-ghost use Rattle.hook_law.specs.Meaning.{point_of};
 ghost use Rattle.hook_law.specs.Standing.{IsUnused};
-ghost use Rattle.hook_law.specs.Keeping.{Keeps};
+ghost use Rattle.hook_store_law.specs.Kept.{IsKeptAt};
 ghost use Rattle.hook_meaning.specs.Stated.{hook_meaning};
 ghost use Rattle.hook_meaning.specs.Blocks.{hook_codec};
 ghost use Rattle.desk_tidy.specs.Pools.{roots_of, IsFreeAt};
@@ -36,9 +35,7 @@ pub(crate) fn empty_range(
 )
     requires store { IsSeatOf store.now writer.old.place }
     requires within { first + count ≤ store.now.shape.roots }
-    requires lawful { (base_of (sheet_of writer.old.place) ≤ length (seen_by writer.old.place))
-        × Keeps hook_meaning hook_codec (seen_by writer.old.place) (base_of (sheet_of writer.old.place))
-        × (point ≡ point_of (seen_by writer.old.place)) }
+    requires lawful { IsKeptAt (seen_by writer.old.place) (base_of (sheet_of writer.old.place)) point }
     requires unused { (root : ℕ) → first ≤ root → root < first + count
         → IsUnused hook_meaning hook_codec (base_of (sheet_of writer.old.place)) (seen_by writer.old.place)
         root }
@@ -65,9 +62,7 @@ pub(crate) fn empty_each(
     requires within { (place number : ℕ) → slice_get numbers.now place ≡ Some number
         → first + width * number + width ≤ store.now.shape.roots }
     requires small { store.now.shape.roots < 4294967296 }
-    requires lawful { (base_of (sheet_of writer.old.place) ≤ length (seen_by writer.old.place))
-        × Keeps hook_meaning hook_codec (seen_by writer.old.place) (base_of (sheet_of writer.old.place))
-        × (point ≡ point_of (seen_by writer.old.place)) }
+    requires lawful { IsKeptAt (seen_by writer.old.place) (base_of (sheet_of writer.old.place)) point }
     requires unused { (place number : ℕ) → slice_get numbers.now place ≡ Some number
         → IsFreeAt (seen_by writer.old.place) (base_of (sheet_of writer.old.place)) first width number }
     ensures store { IsSeatOf store.now writer.new.place }

@@ -20,6 +20,7 @@ pub fn settle<L: Law>(writer: &mut Writer<L>, store: &Store<L>) -> Scan
     ensures quiet { result ≡ Quiet
         → base_of (sheet_of writer.new.place) ≡ length (seen_by writer.old.place) }
     ensures risen { base_of (sheet_of writer.old.place) ≤ base_of (sheet_of writer.new.place) }
+    ensures low { base_of (sheet_of writer.new.place) ≤ length (seen_by writer.new.place) }
     ensures twice { IsTwiceIn (sheet_of writer.new.place).notes result }
 {
     writer.bump(store);

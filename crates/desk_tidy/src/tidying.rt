@@ -4,10 +4,7 @@ ghost use Rattle.block_codec.specs.declared.places.TheConstants.{ROOTS};
 ghost use Rattle.pin_store.specs.declared.scan.Scan.TheVariants.{Quiet};
 ghost use Rattle.pin_store.specs.Sheets.{base_of};
 ghost use Rattle.pin_store.specs.Calls.{seen_by, sheet_of, IsSeatOf};
-ghost use Rattle.hook_law.specs.Meaning.{point_of};
-ghost use Rattle.hook_law.specs.Keeping.{Keeps};
-ghost use Rattle.hook_meaning.specs.Stated.{hook_meaning};
-ghost use Rattle.hook_meaning.specs.Blocks.{hook_codec};
+ghost use Rattle.hook_store_law.specs.Kept.{IsKeptAt};
 ghost use Rattle.desk_tidy.specs.Pools.{gone_roots, ArePools};
 ghost use Rattle.desk_tidy.specs.Tidied.{emptying, IsTwiceIn, Empties, AreTidied, IsNothingLeft};
 
@@ -23,8 +20,7 @@ use tc_base::Point;
 fn empty_gone(writer: &mut Writer<HookLaw>, store: &Store<HookLaw>, pools: &Pools, point: Point)
     requires store { IsSeatOf store.now writer.old.place }
     requires shape { (ROOTS ≤ store.now.shape.roots) × (store.now.shape.roots < 4294967296) }
-    requires lawful { Keeps hook_meaning hook_codec (seen_by writer.old.place) (base_of (sheet_of writer.old.place))
-        × (point ≡ point_of (seen_by writer.old.place)) }
+    requires lawful { IsKeptAt (seen_by writer.old.place) (base_of (sheet_of writer.old.place)) point }
     requires quiet { base_of (sheet_of writer.old.place) ≡ length (seen_by writer.old.place) }
     requires pools { ArePools pools.now (seen_by writer.old.place) (base_of (sheet_of writer.old.place)) }
     ensures store { IsSeatOf store.now writer.new.place }
@@ -88,13 +84,11 @@ pub fn tidy(
     requires store { IsSeatOf store.now writer.old.place }
     requires shape { (ROOTS ≤ store.now.shape.roots) × (store.now.shape.roots < 4294967296) }
     requires few { (sheet_of writer.old.place).epoch + 1 < 2 ^ 62 }
-    requires lawful { Keeps hook_meaning hook_codec (seen_by writer.old.place) (base_of (sheet_of writer.old.place))
-        × (point ≡ point_of (seen_by writer.old.place)) }
+    requires lawful { IsKeptAt (seen_by writer.old.place) (base_of (sheet_of writer.old.place)) point }
     requires pools { ArePools pools.old (seen_by writer.old.place) (base_of (sheet_of writer.old.place)) }
     ensures store { IsSeatOf store.now writer.new.place }
     ensures seen { Empties pools.old (seen_by writer.old.place) point (seen_by writer.new.place) }
-    ensures lawful { Keeps hook_meaning hook_codec (seen_by writer.new.place) (base_of (sheet_of writer.new.place))
-        × (point ≡ point_of (seen_by writer.new.place)) }
+    ensures lawful { IsKeptAt (seen_by writer.new.place) (base_of (sheet_of writer.new.place)) point }
     ensures pools { ArePools pools.new (seen_by writer.new.place) (base_of (sheet_of writer.new.place)) }
     ensures tidied { AreTidied pools.old pools.new }
     ensures quiet { result ≡ Quiet → IsNothingLeft pools.new }

@@ -7,7 +7,7 @@ use Rattle.pin_store.specs.Sheets.{base_of}
 use Rattle.hook_law.specs.Keeping.{Keeps}
 use Rattle.hook_meaning.specs.Stated.{hook_meaning}
 use Rattle.hook_meaning.specs.Blocks.{hook_codec}
-use Rattle.desk_tidy.proofs.Emptied.{part_lawful, part_unused, part_seen, part_within}
+use Rattle.desk_tidy.proofs.Emptied.{part_kept, part_unused, part_seen, part_within}
 use Rattle.desk_tidy.proofs.emptying.empty_each.Goals as goal
 
 pub empty_range-requires-clause-within : goal.empty_range-requires-clause-within
@@ -15,11 +15,11 @@ empty_range-requires-clause-within c = part_within c.args.numbers.now c.args.fir
 
 pub empty_range-requires-clause-lawful : goal.empty_range-requires-clause-lawful
 empty_range-requires-clause-lawful c = let p = c.args.writer.now.place in let i = c.loop-at.invariant in let r = c.requires.lawful in
-    part_lawful (seen_by p) (base_of (sheet_of p)) c.args.point r.0 r.1 r.2 c.args.numbers.now c.args.first c.args.width c.loop-at.at c.requires.unused (seen_by c.loop-at.writer.place) (base_of (sheet_of c.loop-at.writer.place)) i.seen (ap base_of i.sheet)
+    part_kept (seen_by p) (base_of (sheet_of p)) c.args.point r c.args.numbers.now c.args.first c.args.width c.loop-at.at c.requires.unused (seen_by c.loop-at.writer.place) (base_of (sheet_of c.loop-at.writer.place)) i.seen (ap base_of i.sheet)
 
 pub empty_range-requires-clause-unused : goal.empty_range-requires-clause-unused
 empty_range-requires-clause-unused c = let p = c.args.writer.now.place in let i = c.loop-at.invariant in let r = c.requires.lawful in
-    part_unused (seen_by p) (base_of (sheet_of p)) c.args.point r.0 r.1 r.2 c.args.numbers.now c.args.first c.args.width c.loop-at.at c.loop-at-test.true c.requires.unused (seen_by c.loop-at.writer.place) (base_of (sheet_of c.loop-at.writer.place)) i.seen (ap base_of i.sheet)
+    part_unused (seen_by p) (base_of (sheet_of p)) c.args.point r c.args.numbers.now c.args.first c.args.width c.loop-at.at c.loop-at-test.true c.requires.unused (seen_by c.loop-at.writer.place) (base_of (sheet_of c.loop-at.writer.place)) i.seen (ap base_of i.sheet)
 
 pub loop-at-init : goal.loop-at-init
 loop-at-init c = record { store = c.requires.store; seen = sym (append-nil (seen_by c.args.writer.now.place)); sheet = λ t. sheet_of c.args.writer.now.place }

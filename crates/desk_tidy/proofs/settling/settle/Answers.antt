@@ -1,4 +1,4 @@
-use Rattle.std.proofs.Common.{◌≡◌, ℕ, ◌+◌, ◌<◌, ◌∙◌, List, [], ◌∷◌, ◌++◌, length, get_or, replicate, true, ap, sym, subst, refl, arith}
+use Rattle.std.proofs.Common.{◌≡◌, ℕ, ◌+◌, ◌<◌, ◌∙◌, List, [], ◌∷◌, ◌++◌, length, get_or, replicate, true, ap, sym, subst, refl, arith, le_refl}
 use Rattle.pin_store.specs.declared.note.Note.{Note}
 use Rattle.pin_store.specs.declared.note.Note.TheVariants.{Unknown}
 use Rattle.pin_store.specs.declared.scan.Scan.{Scan}
@@ -23,3 +23,6 @@ returns-clause-quiet g c = λ q. let old = sheet_of c.args.writer.now.place in l
     let quiet = c.scan-2.ensures.quiet.clear all ∙ (c.scan.ensures.same.epoch ∙ ap (λ (d : Sheet). d.epoch) c.bump.ensures.sheet) in
     let starts = c.scan-2.ensures.same.starts ∙ (c.scan.ensures.same.starts ∙ ap (λ (d : Sheet). d.starts) c.bump.ensures.sheet) in
     (λ t. get_or (starts t) (quiet t) 0) ∙ last_start old.starts commits (old.epoch + 1) c.args.writer.now.sound.begun
+
+pub returns-clause-low : goal.returns-clause-low
+returns-clause-low g c = let s = c.scan-2.new.self.sound in let last = sheet_of c.scan-2.new.self.place in let up = s.rising last.quiet last.epoch s.quiet (le_refl last.epoch) in let top = s.recent in omega (arith, up, top)
