@@ -13,7 +13,7 @@ use Rattle.hook_meaning.specs.Stated.{hook_meaning}
 use Rattle.hook_meaning.specs.Blocks.{hook_codec}
 use Rattle.miniq_pair.specs.Pairs.{first_block_of}
 use Rattle.root_pool_laws.specs.Pools.{IsPool, IsEmptyRoot}
-use Rattle.root_pool_laws.specs.Blocks.{HasBlock, IsLeft}
+use Rattle.root_pool_laws.specs.Blocks.{HasBlock, HaveOneRoot, IsLeft}
 use Rattle.desk_tidy.specs.declared.pools.IdlePlace.{IdlePlace}
 use Rattle.desk_tidy.specs.declared.pools.Pools.{Pools}
 
@@ -53,3 +53,4 @@ pub record ArePools (pools : Pools) (h : List (Commit Edit)) (b : ℕ) : Type 0 
       pools.actions.free pools.actions.left
   pub ingress : IsIdle h b Ingress pools.ingress
   pub egress : IsIdle h b Egress pools.egress
+  pub one_root : HaveOneRoot h
