@@ -21,7 +21,8 @@ use Rattle.hook_law.proofs.Lists.{root_of_none, root_of_empty}
 use Rattle.hook_meaning.specs.Stated.{hook_meaning}
 use Rattle.hook_meaning.specs.Blocks.{hook_codec}
 use Rattle.hook_law.specs.Standing.{IsIn}
-use Rattle.desk_tidy.specs.Pools.{roots_of, IsFreeAt}
+use Rattle.desk_pools.specs.Pools.{roots_of, IsFreeAt}
+use Rattle.desk_pools.proofs.RootsOf.{range_in, in_roots}
 use Rattle.desk_tidy.specs.Tidied.{empty_at, emptying}
 
 -- ---- lists
@@ -35,57 +36,7 @@ at_mapped f [] j x e = absurd (cc e)
 at_mapped f (y ∷ ys) zero x e = let same : y ≡ x = cc e in ap (λ z. Some (f z)) same
 at_mapped f (y ∷ ys) (suc j) x e = at_mapped f ys j x e
 
-pub in_append : {A : Type 0} (xs ys : List A) (j : ℕ) (x : A) → slice_get (xs ++ ys) j ≡ Some x → IsIn x xs ⊎ IsIn x ys
-in_append [] ys j x e = inr (j, e)
-in_append (z ∷ xs) ys zero x e = inl (zero, e)
-in_append (z ∷ xs) ys (suc j) x e = more (in_append xs ys j x e)
-  where
-    more : IsIn x xs ⊎ IsIn x ys → IsIn x (z ∷ xs) ⊎ IsIn x ys
-    more (inl at) = inl (suc at.0, at.1)
-    more (inr at) = inr at
-
-found_left : {A : Type 0} (ws ys : List A) (k : ℕ) (x : A) → slice_get ws k ≡ Some x → slice_get (ws ++ ys) k ≡ Some x
-found_left [] ys k x e = absurd (cc e)
-found_left (w ∷ ws) ys zero x e = e
-found_left (w ∷ ws) ys (suc k) x e = found_left ws ys k x e
-
-pub in_left : {A : Type 0} (xs ys : List A) (x : A) → IsIn x xs → IsIn x (xs ++ ys)
-in_left xs ys x at = (at.0, found_left xs ys at.0 x at.1)
-
-pub in_right : {A : Type 0} (xs ys : List A) (x : A) → IsIn x ys → IsIn x (xs ++ ys)
-in_right [] ys x at = at
-in_right (z ∷ xs) ys x at = let r = in_right xs ys x at in (suc r.0, r.1)
-
-range_in : (first count place root : ℕ) → slice_get (range_with_len first count) place ≡ Some root → (first ≤ root) × (root < first + count)
-range_in first zero place root e = absurd (cc e)
-range_in first (suc count) zero root e = let same : first ≡ root = cc e in (omega (arith, same), omega (arith, same))
-range_in first (suc count) (suc place) root e = let r = range_in (first + 1) count place root e in let a = r.0 in let b = r.1 in (omega arith, omega arith)
-
-range_has : (first count j : ℕ) → j < count → slice_get (range_with_len first count) j ≡ Some (first + j)
-range_has first zero j less = absurd (omega (arith, less))
-range_has first (suc count) zero less = ap Some (omega arith)
-range_has first (suc count) (suc j) less = range_has (first + 1) count j (omega (arith, less)) ∙ ap Some (omega arith)
-
 -- ---- the roots of numbers
-pub in_roots : (first width : ℕ) (numbers : List ℕ) (root : ℕ) → IsIn root (roots_of first width numbers) → (number : ℕ) × IsIn number numbers × (j : ℕ) × (j < width) × (root ≡ first + width * number + j)
-in_roots first width [] root at = let e = at.1 in absurd (cc e)
-in_roots first width (n ∷ ns) root at = pick (in_append (range_with_len (first + width * n) width) (roots_of first width ns) at.0 root at.1) (in_roots first width ns root)
-  where
-    pick : IsIn root (range_with_len (first + width * n) width) ⊎ IsIn root (roots_of first width ns) → (IsIn root (roots_of first width ns) → (number : ℕ) × IsIn number ns × (j : ℕ) × (j < width) × (root ≡ first + width * number + j))
-        → (number : ℕ) × IsIn number (n ∷ ns) × (j : ℕ) × (j < width) × (root ≡ first + width * number + j)
-    pick (inl own) rest = let r = range_in (first + width * n) width own.0 root own.1 in let a = r.0 in let b = r.1 in let j : ℕ = root - (first + width * n) in (n, (0, refl), j, omega arith, omega arith)
-    pick (inr more) rest = let r = rest more in (r.0, (suc r.1.0, r.1.1), r.2, r.3, r.4)
-
-pub roots_have : (first width : ℕ) (numbers : List ℕ) (number j : ℕ) → IsIn number numbers → j < width → IsIn (first + width * number + j) (roots_of first width numbers)
-roots_have first width [] number j at less = let e = at.1 in absurd (cc e)
-roots_have first width (n ∷ ns) number j at less = walk at.0 at.1 (λ m. roots_have first width ns number j m less)
-  where
-    walk : (place : ℕ) → slice_get (n ∷ ns) place ≡ Some number → (IsIn number ns → IsIn (first + width * number + j) (roots_of first width ns)) → IsIn (first + width * number + j) (roots_of first width (n ∷ ns))
-    walk zero e rest = let same : n ≡ number = cc e in
-        in_left (range_with_len (first + width * n) width) (roots_of first width ns) (first + width * number + j)
-        (j, range_has (first + width * n) width j less ∙ ap (λ (m : ℕ). Some (first + width * m + j)) same)
-    walk (suc place) e rest = in_right (range_with_len (first + width * n) width) (roots_of first width ns) (first + width * number + j) (rest (place, e))
-
 pub roots_more : (first width : ℕ) (xs : List ℕ) (n : ℕ) → roots_of first width (xs ++ n ∷ []) ≡ roots_of first width xs ++ range_with_len (first + width * n) width
 roots_more first width [] n = append-nil (range_with_len (first + width * n) width)
 roots_more first width (x ∷ xs) n = ap (λ (l : List ℕ). range_with_len (first + width * x) width ++ l) (roots_more first width xs n)

@@ -23,22 +23,16 @@ use Rattle.hook_meaning.specs.Blocks.{hook_codec}
 use Rattle.root_pool_laws.specs.Pools.{IsPool, IsEmptyRoot}
 use Rattle.root_pool_laws.specs.Blocks.{HasBlock, IsLeft}
 use Rattle.hook_law.specs.Standing.{IsIn}
-use Rattle.desk_tidy.specs.declared.pools.IdlePlace.{IdlePlace}
-use Rattle.desk_tidy.specs.declared.pools.Pools.{Pools}
-use Rattle.desk_tidy.specs.Pools.{roots_of, gone_roots, IsFreeAt, IsLeftAt, IsIdle, ArePools}
+use Rattle.desk_pools.specs.declared.pools.IdlePlace.{IdlePlace}
+use Rattle.desk_pools.specs.declared.pools.Pools.{Pools}
+use Rattle.desk_pools.specs.Pools.{roots_of, gone_roots, IsFreeAt, IsLeftAt, IsIdle, ArePools}
 use Rattle.desk_tidy.specs.Tidied.{empty_at, emptying}
 use Rattle.root_pool_laws.proofs.Blocks.{free_stays, none_unnamed}
-use Rattle.desk_tidy.proofs.Emptied.{mapped_at, at_mapped, in_append, in_right, numbers_unused, emptying_append, AllUnused, emptied, emptied_kept}
+use Rattle.root_pool_laws.proofs.Giving.{pool_as}
+use Rattle.root_pool_laws.proofs.Apart.{in_append, in_right}
+use Rattle.desk_tidy.proofs.Emptied.{mapped_at, at_mapped, numbers_unused, emptying_append, AllUnused, emptied, emptied_kept}
 
 -- ---- one pool
-pub pool_as : (size : ℕ) (F G L M : ℕ → Type 0) (free left : List ℕ) → ((x : ℕ) → F x → G x) → ((x : ℕ) → L x → M x) → IsPool size F L free left → IsPool size G M free left
-pool_as size F G L M free left to from p = record {
-  different = p.different;
-  small = p.small;
-  may_be_given = λ place x e. to x (p.may_be_given place x e);
-  have_left = λ place x e. from x (p.have_left place x e);
-}
-
 -- all that left is free
 pub pool_freed : (size : ℕ) (F G L M : ℕ → Type 0) (free left free2 left2 : List ℕ) → free2 ≡ free ++ left → left2 ≡ [] → ((x : ℕ) → F x → G x) → ((x : ℕ) → L x → G x) → IsPool size F L free left
     → IsPool size G M free2 left2
@@ -46,7 +40,7 @@ pool_freed size F G L M free left free2 left2 is none to from p =
     let whole : free2 ++ left2 ≡ free ++ left = (λ t. is t ++ none t) ∙ append-nil (free ++ left) in record {
       different = subst (λ (l : List ℕ). IsDistinct eqb l) (sym whole) p.different;
       small = λ place x e. p.small place x (sym (ap (λ (l : List ℕ). slice_get l place) whole) ∙ e);
-      may_be_given = λ place x e. sort x (in_append free left place x (sym (ap (λ (l : List ℕ). slice_get l place) is) ∙ e));
+      may_be_given = λ place x e. sort x (in_append free left x (place, sym (ap (λ (l : List ℕ). slice_get l place) is) ∙ e));
       have_left = λ place x e. absurd (empty place x (sym (ap (λ (l : List ℕ). slice_get l place) none) ∙ e));
     }
   where
@@ -73,11 +67,11 @@ idle_rises h b c hook idle le p = record {
 
 pub pools_rise : (pools : Pools) (h : List (Commit Edit)) (b c : ℕ) → b ≤ c → ArePools pools h b → ArePools pools h c
 pools_rise pools h b c le p = record {
-  masks = pool_as 8192 (IsFreeAt h b 3 1) (IsFreeAt h c 3 1) (IsLeftAt h 3 1) (IsLeftAt h 3 1) pools.masks.free pools.masks.left (λ x f. free_rises h b c 3 1 x le f) (λ x l. l) p.masks;
-  actions = pool_as 2048 (IsFreeAt h b 8195 1) (IsFreeAt h c 8195 1) (IsLeftAt h 8195 1) (IsLeftAt h 8195 1) pools.actions.free pools.actions.left (λ x f. free_rises h b c 8195 1 x le f) (λ x l. l) p.actions;
-  rows = pool_as 8192 (IsFreeAt h b 10243 16) (IsFreeAt h c 10243 16) (IsLeftAt h 10243 16) (IsLeftAt h 10243 16) pools.rows.free pools.rows.left (λ x f. free_rises h b c 10243 16 x le f) (λ x l. l) p.rows;
+  masks = pool_as 8192 (IsFreeAt h b 3 1) (IsFreeAt h c 3 1) (IsLeftAt h 3 1) (IsLeftAt h 3 1) pools.masks.free pools.masks.left (λ x at f. free_rises h b c 3 1 x le f) (λ x at l. l) p.masks;
+  actions = pool_as 2048 (IsFreeAt h b 8195 1) (IsFreeAt h c 8195 1) (IsLeftAt h 8195 1) (IsLeftAt h 8195 1) pools.actions.free pools.actions.left (λ x at f. free_rises h b c 8195 1 x le f) (λ x at l. l) p.actions;
+  rows = pool_as 8192 (IsFreeAt h b 10243 16) (IsFreeAt h c 10243 16) (IsLeftAt h 10243 16) (IsLeftAt h 10243 16) pools.rows.free pools.rows.left (λ x at f. free_rises h b c 10243 16 x le f) (λ x at l. l) p.rows;
   blocks = pool_as 16384 (IsUnnamed b h) (IsUnnamed c h) (IsLeft (gone_roots pools) h) (IsLeft (gone_roots pools) h) pools.blocks.free pools.blocks.left
-      (λ x f. unnamed_rises h b c x le f) (λ x l. l) p.blocks;
+      (λ x at f. unnamed_rises h b c x le f) (λ x at l. l) p.blocks;
   ingress = idle_rises h b c Ingress pools.ingress le p.ingress;
   egress = idle_rises h b c Egress pools.egress le p.egress;
   one_root = p.one_root;
@@ -125,14 +119,14 @@ module _ (old : Pools) (h : List (Commit Edit)) (b point : ℕ) (kept : IsKeptAt
   all_unused first width size F free left q = numbers_unused h b first width left (λ place x e. left_free h b first width x end (q.have_left place x e))
 
   pub gone_unused_roots : AllUnused h b point kept (gone_roots old)
-  gone_unused_roots place root e = sort (in_append (roots_of 3 1 old.masks.left ++ roots_of 8195 1 old.actions.left) (roots_of 10243 16 old.rows.left) place root e)
+  gone_unused_roots place root e = sort (in_append (roots_of 3 1 old.masks.left ++ roots_of 8195 1 old.actions.left) (roots_of 10243 16 old.rows.left) root (place, e))
     where
       first_two : IsIn root (roots_of 3 1 old.masks.left) ⊎ IsIn root (roots_of 8195 1 old.actions.left) → IsUnused hook_meaning hook_codec b h root
       first_two (inl at) = all_unused 3 1 8192 (IsFreeAt h b 3 1) old.masks.free old.masks.left p.masks at.0 root at.1
       first_two (inr at) = all_unused 8195 1 2048 (IsFreeAt h b 8195 1) old.actions.free old.actions.left p.actions at.0 root at.1
 
       sort : IsIn root (roots_of 3 1 old.masks.left ++ roots_of 8195 1 old.actions.left) ⊎ IsIn root (roots_of 10243 16 old.rows.left) → IsUnused hook_meaning hook_codec b h root
-      sort (inl at) = first_two (in_append (roots_of 3 1 old.masks.left) (roots_of 8195 1 old.actions.left) at.0 root at.1)
+      sort (inl at) = first_two (in_append (roots_of 3 1 old.masks.left) (roots_of 8195 1 old.actions.left) root at)
       sort (inr at) = all_unused 10243 16 8192 (IsFreeAt h b 10243 16) old.rows.free old.rows.left p.rows at.0 root at.1
 
   pub gone_spared : Spared hook_meaning hook_codec b h (emptying point (gone_roots old))
@@ -165,8 +159,8 @@ module _ (old : Pools) (h : List (Commit Edit)) (b point : ℕ) (kept : IsKeptAt
     rows = freed 8192 10243 16 old.rows.free old.rows.left new.rows.free new.rows.left rows.0 rows.1 p.rows;
     blocks = subst (λ q. IsPool 16384 (IsUnnamed b (h ++ emptying point (gone_roots old))) (IsLeft (gone_roots new) (h ++ emptying point (gone_roots old))) q.free q.left) (sym blocks)
         (pool_as 16384 (IsUnnamed b h) (IsUnnamed b (h ++ emptying point (gone_roots old))) (IsLeft (gone_roots old) h) (IsLeft (gone_roots new) (h ++ emptying point (gone_roots old)))
-        old.blocks.free old.blocks.left (λ x f. unnamed_emptied (gone_roots old) h b point x kept.low f)
-        (λ x l r n. let m = names_before h point (gone_roots old) r x n in absurd (m.1 (l r m.0))) p.blocks);
+        old.blocks.free old.blocks.left (λ x at f. unnamed_emptied (gone_roots old) h b point x kept.low f)
+        (λ x at l r n. let m = names_before h point (gone_roots old) r x n in absurd (m.1 (l r m.0))) p.blocks);
   }
 
   -- after the first of these roots were emptied
@@ -182,7 +176,7 @@ module _ (old : Pools) (h : List (Commit Edit)) (b point : ℕ) (kept : IsKeptAt
   masks_unused = all_unused 3 1 8192 (IsFreeAt h b 3 1) old.masks.free old.masks.left p.masks
 
   pub two_unused : AllUnused h b point kept (roots_of 3 1 old.masks.left ++ roots_of 8195 1 old.actions.left)
-  two_unused place root e = sort (in_append (roots_of 3 1 old.masks.left) (roots_of 8195 1 old.actions.left) place root e)
+  two_unused place root e = sort (in_append (roots_of 3 1 old.masks.left) (roots_of 8195 1 old.actions.left) root (place, e))
     where
       sort : IsIn root (roots_of 3 1 old.masks.left) ⊎ IsIn root (roots_of 8195 1 old.actions.left) → IsUnused hook_meaning hook_codec b h root
       sort (inl at) = masks_unused at.0 root at.1

@@ -7,8 +7,8 @@ use Rattle.hook_law.proofs.Pushing.{keeps_rises}
 use Rattle.hook_store_law.specs.Kept.{IsKeptAt}
 use Rattle.hook_meaning.specs.Stated.{hook_meaning}
 use Rattle.hook_meaning.specs.Blocks.{hook_codec}
-use Rattle.desk_tidy.specs.declared.pools.Pools.{Pools}
-use Rattle.desk_tidy.specs.Pools.{gone_roots, ArePools}
+use Rattle.desk_pools.specs.declared.pools.Pools.{Pools}
+use Rattle.desk_pools.specs.Pools.{gone_roots, ArePools}
 use Rattle.desk_tidy.specs.Tidied.{emptying, Empties}
 use Rattle.desk_tidy.proofs.Freed.{pools_rise, gone_emptied, gone_unused_roots, part_kept}
 

@@ -11,8 +11,8 @@ use Rattle.hook_law.specs.Standing.{IsUnused}
 use Rattle.hook_meaning.specs.Stated.{hook_meaning}
 use Rattle.hook_meaning.specs.Blocks.{hook_codec}
 use Rattle.number_pools.specs.Numbers.{PoolNumbers}
-use Rattle.desk_tidy.specs.declared.pools.Pools.{Pools}
-use Rattle.desk_tidy.specs.Pools.{gone_roots}
+use Rattle.desk_pools.specs.declared.pools.Pools.{Pools}
+use Rattle.desk_pools.specs.Pools.{gone_roots}
 
 -- a reader that is named had its pin loaded twice since the epoch began, and it was odd and the same
 abbrev pub IsTwiceIn : List Note → Scan → Type 0

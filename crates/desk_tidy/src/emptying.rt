@@ -7,7 +7,7 @@ ghost use Rattle.hook_law.specs.Standing.{IsUnused};
 ghost use Rattle.hook_store_law.specs.Kept.{IsKeptAt};
 ghost use Rattle.hook_meaning.specs.Stated.{hook_meaning};
 ghost use Rattle.hook_meaning.specs.Blocks.{hook_codec};
-ghost use Rattle.desk_tidy.specs.Pools.{roots_of, IsFreeAt};
+ghost use Rattle.desk_pools.specs.Pools.{roots_of, IsFreeAt};
 ghost use Rattle.desk_tidy.specs.Tidied.{emptying};
 
 use filter_state::Edit;

@@ -1,8 +1,8 @@
 //! Tidying the store of a hook: what left comes back to be given again.
 //!
 //! An edit gives blocks, rows and slots, and takes others out of what walks can come to. Those left, and may
-//! not be given at once: a reader that was inside before may still read them. The pools keep both lists, and
-//! the facts that make them right are facts over the commits and the base (`specs/Pools.antt`).
+//! not be given at once: a reader that was inside before may still read them. The pools keep both lists
+//! (`desk_pools`), and what makes them right are facts over the commits and the base.
 //!
 //! `tidy` begins an epoch and looks at each reader twice. Where all that were inside before have left, the
 //! base is the end of all commits: nobody reads any more what had left by then. The roots of it still name
@@ -18,10 +18,8 @@
 #![tactic(auto)]
 
 mod emptying;
-mod pools;
 mod settling;
 mod tidying;
 
-pub use pools::{IdlePlace, Pools};
 pub use settling::settle;
 pub use tidying::tidy;

@@ -5,13 +5,13 @@ ghost use Rattle.pin_store.specs.declared.scan.Scan.TheVariants.{Quiet};
 ghost use Rattle.pin_store.specs.Sheets.{base_of};
 ghost use Rattle.pin_store.specs.Calls.{seen_by, sheet_of, IsSeatOf};
 ghost use Rattle.hook_store_law.specs.Kept.{IsKeptAt};
-ghost use Rattle.desk_tidy.specs.Pools.{gone_roots, ArePools};
+ghost use Rattle.desk_pools.specs.Pools.{gone_roots, ArePools};
 ghost use Rattle.desk_tidy.specs.Tidied.{emptying, IsTwiceIn, Empties, AreTidied, IsNothingLeft};
 
 use crate::emptying::empty_each;
-use crate::pools::Pools;
 use crate::settling::settle;
 use block_codec::places::{ACTION_ROOTS, BUCKET_ROOTS, MASK_ROOTS, ROW_BUCKETS};
+use desk_pools::Pools;
 use hook_store_law::HookLaw;
 use pin_store::{Scan, Store, Writer};
 use tc_base::Point;

@@ -1,6 +1,6 @@
 use Rattle.std.proofs.Common.{◌≡◌, ◌++◌, ℕ, ◌≤◌, length, take}
 use Rattle.pin_store.specs.Calls.{seen_by, sheet_of, IsSeatAt}
-use Rattle.desk_tidy.specs.Pools.{roots_of}
+use Rattle.desk_pools.specs.Pools.{roots_of}
 use Rattle.desk_tidy.specs.Tidied.{emptying}
 use Rattle.desk_tidy.proofs.emptying.empty_each.Given as goal
 

@@ -8,8 +8,8 @@ use Rattle.hook_law.specs.Meaning.{point_of}
 use Rattle.hook_law.specs.Keeping.{Keeps}
 use Rattle.hook_meaning.specs.Stated.{hook_meaning}
 use Rattle.hook_meaning.specs.Blocks.{hook_codec}
-use Rattle.desk_tidy.specs.declared.pools.Pools.{Pools}
-use Rattle.desk_tidy.specs.Pools.{roots_of, gone_roots, IsFreeAt, IsLeftAt, ArePools}
+use Rattle.desk_pools.specs.declared.pools.Pools.{Pools}
+use Rattle.desk_pools.specs.Pools.{roots_of, gone_roots, IsFreeAt, IsLeftAt, ArePools}
 use Rattle.desk_tidy.specs.Tidied.{emptying}
 use Rattle.desk_tidy.proofs.Freed.{part_kept, part_free, masks_unused, two_unused, left_small, two_seen, gone_emptied, gone_unused_roots}
 use Rattle.desk_tidy.proofs.tidying.empty_gone.Goals as goal

@@ -14,8 +14,8 @@ use Rattle.hook_meaning.specs.Blocks.{hook_codec}
 use Rattle.miniq_pair.specs.Pairs.{first_block_of}
 use Rattle.root_pool_laws.specs.Pools.{IsPool, IsEmptyRoot}
 use Rattle.root_pool_laws.specs.Blocks.{HasBlock, HaveOneRoot, IsLeft}
-use Rattle.desk_tidy.specs.declared.pools.IdlePlace.{IdlePlace}
-use Rattle.desk_tidy.specs.declared.pools.Pools.{Pools}
+use Rattle.desk_pools.specs.declared.pools.IdlePlace.{IdlePlace}
+use Rattle.desk_pools.specs.declared.pools.Pools.{Pools}
 
 -- the roots of some numbers: so many each, one number's behind the other's
 abbrev pub roots_of : ℕ → ℕ → List ℕ → List ℕ
