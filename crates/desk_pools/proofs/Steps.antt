@@ -23,7 +23,7 @@ use Rattle.desk_pools.specs.declared.pools.IdlePlace.{IdlePlace}
 use Rattle.desk_pools.specs.declared.pools.Pools.{Pools}
 use Rattle.desk_pools.specs.Pools.{roots_of, gone_roots, IsFreeAt, IsLeftAt, IsIdle, ArePools}
 use Rattle.desk_pools.proofs.RootsOf.{in_roots, roots_have}
-use Rattle.desk_pools.specs.Steps.{IsInPool, NothingComes, LeavesPools}
+use Rattle.desk_pools.specs.Steps.{IsInPool, IsTaken, NothingComes, LeavesPools}
 
 -- ---- one number is taken
 none_in : (x : ℕ) → IsIn {A = ℕ} x [] → ⊥
@@ -35,12 +35,6 @@ one_in x y at = go at.0 at.1
     go : (place : ℕ) → slice_get {X = ℕ} (y ∷ []) place ≡ Some x → x ≡ y
     go zero e = let same : y ≡ x = cc e in sym same
     go (suc place) e = absurd (cc e)
-
--- what is known of a number that was taken
-pub record IsTaken (size : ℕ) (F : ℕ → Type 0) (now : PoolNumbers) (x : ℕ) : Type 0 where
-  pub small : x < size
-  pub free : F x
-  pub apart : IsInPool x now → ⊥
 
 module _ (size : ℕ) (F L : ℕ → Type 0) (old now : PoolNumbers) (x : ℕ) (p : IsPool size F L old.free old.left) (part : old.free ≡ now.free ++ x ∷ []) (same : now.left ≡ old.left) where
   pub pool_took : IsPool size F L now.free now.left

@@ -16,6 +16,12 @@ use Rattle.desk_pools.specs.declared.pools.Pools.{Pools}
 abbrev pub IsInPool : ℕ → PoolNumbers → Type 0
 IsInPool x pool = IsIn x pool.free ⊎ IsIn x pool.left
 
+-- what is known of a number that was taken out of a pool of so many
+pub record IsTaken (size : ℕ) (IsFree : ℕ → Type 0) (pool : PoolNumbers) (x : ℕ) : Type 0 where
+  pub small : x < size
+  pub free : IsFree x
+  pub apart : IsInPool x pool → ⊥
+
 -- nothing comes to stand at the root with the commit
 abbrev pub NothingComes : List (Commit Edit) → Commit Edit → ℕ → Type 0
 NothingComes h c r = (x : Role) → Stands hook_meaning hook_codec (h ++ c ∷ []) r x

@@ -6,7 +6,7 @@
 //! What left is empty: nothing stands at its roots, and a block that left is named by such roots alone. Of the
 //! two places of a hook's tables one is active; the other is free where no chain had its blocks since the base.
 //!
-//! The facts are kept step by step (`proofs/Steps.antt`): a number is taken, a commit is made that spends what
+//! The facts are kept step by step (`specs/Steps.antt`): a number is taken, a commit is made that spends what
 //! was taken and at whose end nothing stands at the pools' roots that didn't before, and a number leaves at
 //! which nothing stands any more. So each kind of edit shows no more than that of its commits.
 //!
@@ -15,6 +15,8 @@
 //! Not promised: that what left comes back; that is `desk_tidy`'s.
 #![tactic(auto)]
 
+mod laws;
 mod pools;
 
+pub use laws::pools_of_a_commit;
 pub use pools::{IdlePlace, Pools};
