@@ -6,7 +6,7 @@
 //! state to which the edits of the commits lead. So what the lists refuse the journal's state refuses, and
 //! what they answer is its answer.
 //!
-//! `mark` is the first kind of edit: those that no walk can see. The qdisc comes or goes, which changes
+//! `Ledger::mark` is the first kind of edit: those that no walk can see. The qdisc comes or goes, which changes
 //! nothing that a walk asks for; and a deleted action is named by no filter. The commit is to a root that
 //! nobody loads, and carries the edit and its number alone.
 //!
@@ -16,6 +16,6 @@
 //! Not promised: which blocks and slots are free; that is the pools' (`desk_tidy`).
 #![tactic(auto)]
 
-mod marking;
+mod ledger;
 
-pub use marking::mark;
+pub use ledger::Ledger;
