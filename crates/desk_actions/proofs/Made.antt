@@ -144,7 +144,7 @@ module _ (h : List (Commit Edit)) (b : ℕ) (y : Edit) (t : State) (line : Actio
     other_slot action live same = let at = here.slots action live in
         unused_end hook_meaning hook_codec h b (action_root slot) (ActionRole action) a.low unused (slot_of placed action, at, ap action_root (sym same), live)
 
-    module _ where
+    module _ (low_block : blk < 16384) where
       abbrev after : Placed
       after = put_at placed serial slot blk
 
@@ -162,6 +162,7 @@ module _ (h : List (Commit Edit)) (b : ℕ) (y : Edit) (t : State) (line : Actio
 
       own_alone : IsAlone (h ++ c ∷ []) (slot_of after serial) (block_of after (slot_of after serial))
       own_alone = subst (λ (s : ℕ). IsAlone (h ++ c ∷ []) s (block_of after s)) (sym own_slot) (
+        subst (λ (n : ℕ). n < 16384) (sym own_block) low_block,
         action_block (stored_as serial index given),
         ap (λ (n : Named). n.chain) (root_own h c)
             ∙ ap (λ (n : ℕ). record { block = n; words = action_block (stored_as serial index given) } ∷ []) (sym own_block),
@@ -171,7 +172,7 @@ module _ (h : List (Commit Edit)) (b : ℕ) (y : Edit) (t : State) (line : Actio
       other_alone action away live = let at = here.blocks action live in let apart = other_slot action live in
           subst (λ (s : ℕ). IsAlone (h ++ c ∷ []) s (block_of after s)) (sym (same_slot action away))
           (subst (IsAlone (h ++ c ∷ []) (slot_of placed action)) (sym (same_block (slot_of placed action) apart))
-          (at.0, ap (λ (n : Named). n.chain) (root_other h c (action_root (slot_of placed action)) (λ same. apart (omega (arith, same)))) ∙ at.1))
+          (at.0, at.1, ap (λ (n : Named). n.chain) (root_other h c (action_root (slot_of placed action)) (λ same. apart (omega (arith, same)))) ∙ at.2))
 
       pub make_here : AreHere after (h ++ c ∷ [])
       make_here = record {

@@ -113,9 +113,9 @@ module _ (h : List (Commit Edit)) (b : ℕ) (old new : Kept) (point : ℕ) (y : 
       pub next_ledger : IsLedger (h ++ put (point + 1) ∷ []) b new (point + 1)
       next_ledger = ledger_next h b old new point y done (put (point + 1)) l d numbered refl law rests
 
-      pub next_here : AreHere (put_at placed serial slot blk) (h ++ put (point + 1) ∷ [])
-      next_here = subst (λ c. AreHere (put_at placed serial slot blk) (h ++ c ∷ [])) at_point
-          (make_here h b y d.state line index serial given accepted (as_edit (now h) line y making) written l.rest placed here slot blk small unused)
+      pub next_here : blk < 16384 → AreHere (put_at placed serial slot blk) (h ++ put (point + 1) ∷ [])
+      next_here low_block = subst (λ c. AreHere (put_at placed serial slot blk) (h ++ c ∷ [])) at_point
+          (make_here h b y d.state line index serial given accepted (as_edit (now h) line y making) written l.rest placed here slot blk small unused low_block)
 
       back : (r : ℕ) → r ≢ action_root slot → NothingComes h (put (point + 1)) r
       back = subst (λ c. (r : ℕ) → r ≢ action_root slot → NothingComes h c r) at_point

@@ -1,9 +1,9 @@
 -- Where the live actions of a hook's store stand (this project's own). `h` is all commits.
-use Rattle.std.specs.Prelude.{◌≡◌, ℕ, ◌+◌, ◌≤◌, List, [], ◌∷◌, length, slice_index, slice_set}
+use Rattle.std.specs.Prelude.{◌≡◌, ℕ, ◌+◌, ◌<◌, ◌≤◌, List, [], ◌∷◌, length, slice_index, slice_set}
 use Rattle.store_history.specs.declared.history.Commit.{Commit}
 use Rattle.store_history.specs.History.{root_of}
 use Rattle.act_registry.specs.declared.limits.TheConstants.{MADE_MAX}
-use Rattle.block_codec.specs.declared.places.TheConstants.{ACTION_SLOTS}
+use Rattle.block_codec.specs.declared.places.TheConstants.{ACTION_SLOTS, POOL_BLOCKS}
 use Rattle.filter_state.specs.declared.edit.Edit.{Edit}
 use Rattle.hook_law.specs.Places.{action_root}
 use Rattle.hook_law.specs.Meaning.{IsLive}
@@ -23,9 +23,9 @@ slot_of placed action = slice_index placed.slots action
 abbrev pub block_of : Placed → ℕ → ℕ
 block_of placed slot = slice_index placed.blocks slot
 
--- the root of the slot names this block alone
+-- the root of the slot names this block alone, one of the pool's
 abbrev pub IsAlone : List (Commit Edit) → ℕ → ℕ → Type 0
-IsAlone h slot block = (words : List ℕ)
+IsAlone h slot block = (block < POOL_BLOCKS) × (words : List ℕ)
     × ((root_of h (action_root slot)).chain ≡ record { block = block; words = words } ∷ [])
 
 -- each live action has its slot by commits and its record in one block; and no commit put an action that

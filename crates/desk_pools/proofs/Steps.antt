@@ -9,14 +9,14 @@ use Rattle.filter_state.specs.declared.edit.Edit.{Edit}
 use Rattle.block_codec.specs.declared.places.TheConstants.{TABLES}
 use Rattle.miniq_pair.specs.Pairs.{first_block_of}
 use Rattle.hook_law.specs.Places.{mask_root, action_root, bucket_root}
-use Rattle.hook_law.specs.Standing.{IsIn, IsUnused}
+use Rattle.hook_law.specs.Standing.{Role, IsIn, IsUnused, Stands}
 use Rattle.hook_meaning.specs.Stated.{hook_meaning}
 use Rattle.hook_meaning.specs.Blocks.{hook_codec}
 use Rattle.number_pools.specs.Numbers.{PoolNumbers}
 use Rattle.root_pool_laws.specs.Blocks.{IsBlockOf, HasBlock, IsLeft}
-use Rattle.root_pool_laws.specs.Pools.{IsPool}
+use Rattle.root_pool_laws.specs.Pools.{IsPool, IsEmptyRoot}
 use Rattle.root_pool_laws.proofs.Apart.{in_append, in_left, in_right}
-use Rattle.root_pool_laws.proofs.Blocks.{has_push, free_stays, left_stays, one_root_stays}
+use Rattle.root_pool_laws.proofs.Blocks.{has_push, unnamed_end, free_stays, left_stays, one_root_stays}
 use Rattle.root_pool_laws.proofs.Roots.{empty_stays, unused_stays}
 use Rattle.root_pool_laws.proofs.Giving.{pool_as, given_apart, given_was, pool_gives}
 use Rattle.desk_pools.specs.declared.pools.IdlePlace.{IdlePlace}
@@ -157,3 +157,24 @@ module _ (pools : Pools) (h : List (Commit Edit)) (b : ℕ) (c : Commit Edit) (g
     egress = idle_on Egress pools.egress p.egress;
     one_root = one_root_stays h c given leaves.spends b low p.one_root leaves.free;
   }
+
+-- ---- what is gone is empty
+pub gone_empty : (pools : Pools) (h : List (Commit Edit)) (b root : ℕ) → ArePools pools h b → IsIn root (gone_roots pools) → IsEmptyRoot hook_meaning hook_codec h root
+gone_empty pools h b root p at = sort (in_append (roots_of 3 1 pools.masks.left ++ roots_of 8195 1 pools.actions.left) (roots_of 10243 16 pools.rows.left) root at)
+  where
+    of_pool : (first width size : ℕ) (F : ℕ → Type 0) (free left : List ℕ) → IsPool size F (IsLeftAt h first width) free left → IsIn root (roots_of first width left) → IsEmptyRoot hook_meaning hook_codec h root
+    of_pool first width size F free left q in_ = let f = in_roots first width left root in_ in
+        subst (IsEmptyRoot hook_meaning hook_codec h) (sym f.4) (q.have_left f.1.0 f.0 f.1.1 f.2 f.3)
+
+    two : IsIn root (roots_of 3 1 pools.masks.left) ⊎ IsIn root (roots_of 8195 1 pools.actions.left) → IsEmptyRoot hook_meaning hook_codec h root
+    two (inl one) = of_pool 3 1 8192 (IsFreeAt h b 3 1) pools.masks.free pools.masks.left p.masks one
+    two (inr one) = of_pool 8195 1 2048 (IsFreeAt h b 8195 1) pools.actions.free pools.actions.left p.actions one
+
+    sort : IsIn root (roots_of 3 1 pools.masks.left ++ roots_of 8195 1 pools.actions.left) ⊎ IsIn root (roots_of 10243 16 pools.rows.left) → IsEmptyRoot hook_meaning hook_codec h root
+    sort (inl one) = two (in_append (roots_of 3 1 pools.masks.left) (roots_of 8195 1 pools.actions.left) root one)
+    sort (inr one) = of_pool 10243 16 8192 (IsFreeAt h b 10243 16) pools.rows.free pools.rows.left p.rows one
+
+-- a block that the root of something that stands has is in no pool
+pub standing_block : (pools : Pools) (h : List (Commit Edit)) (b r block : ℕ) (x : Role) → b ≤ length h → ArePools pools h b → HasBlock h r block → Stands hook_meaning hook_codec h r x → IsInPool block pools.blocks → ⊥
+standing_block pools h b r block x low p has stands (inl at) = unnamed_end h b block low (p.blocks.may_be_given at.0 block at.1) r has
+standing_block pools h b r block x low p has stands (inr at) = gone_empty pools h b r p (p.blocks.have_left at.0 block at.1 r has) x stands

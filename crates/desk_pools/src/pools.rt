@@ -38,6 +38,7 @@ impl Pools {
             → IsTaken POOL_BLOCKS (IsUnnamed b h) self.new.blocks result }
         ensures free { self.old.blocks.free ≡ self.new.blocks.free ++ result ∷ [] }
         ensures left { self.new.blocks.left ≡ self.old.blocks.left }
+        ensures room { length self.new.blocks.free + length self.new.blocks.left < self.new.blocks.size }
         ensures others { self.new ≡ record self.old { blocks = self.new.blocks } }
     {
         self.blocks.take()
@@ -64,6 +65,7 @@ impl Pools {
             → IsTaken ACTION_SLOTS (IsFreeAt h b ACTION_ROOTS 1) self.new.actions result }
         ensures free { self.old.actions.free ≡ self.new.actions.free ++ result ∷ [] }
         ensures left { self.new.actions.left ≡ self.old.actions.left }
+        ensures room { length self.new.actions.free + length self.new.actions.left < self.new.actions.size }
         ensures others { self.new ≡ record self.old { actions = self.new.actions } }
     {
         self.actions.take()

@@ -75,6 +75,7 @@ impl Pool {
         ensures free { self.old.free ≡ self.new.free ++ result ∷ [] }
         ensures left { self.new.left ≡ self.old.left }
         ensures size { self.new.size ≡ self.old.size }
+        ensures room { length self.new.free + length self.new.left < self.new.size }
     {
         self.free.take_last()
     }
