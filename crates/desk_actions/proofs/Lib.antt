@@ -1,3 +1,6 @@
 pub mod Rooms
 pub mod Made
 pub mod Stepping
+pub mod Changed
+pub mod Turning
+pub mod Names

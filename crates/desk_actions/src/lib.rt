@@ -15,8 +15,11 @@
 //! Not promised: that what left is free again, which is `desk_tidy`'s.
 #![tactic(auto)]
 
+mod changing;
 mod making;
+mod naming;
 mod places;
 
+pub use changing::change;
 pub use making::make;
 pub use places::ActionPlaces;

@@ -78,6 +78,6 @@ returns-clause-places g c = let old = c.args.ledger.now in let h = commits old i
     let slot = c.take_action-slot.ensures.taken h (base old) c.requires.pools in
     let here = next_here h (base old) old.lists c.finish-done.new.self old.point y c.args.line.now l c.requires.edit.1 c.requires.making c.finish-done.result f x.index x.serial x.params c.made-action.ensures.done c.made-action.ensures.params c.args.places.now c.requires.places
     c.take_action-slot.result c.take_block-at.result slot.small (slot_unused h (base old) c.take_action-slot.result slot.free)
-        (c.take_block-at.ensures.taken h (base old) (c.take_action-slot.ensures.pools h (base old) c.requires.pools)).small in
+    (c.take_block-at.ensures.taken h (base old) (c.take_action-slot.ensures.pools h (base old) c.requires.pools)).small in
     subst (λ p. AreHere p (seen_by c.put_action.new.writer.place)) (sym c.put.ensures)
     (subst (AreHere (put_at c.args.places.now x.serial c.take_action-slot.result c.take_block-at.result)) (sym c.put_action.ensures.seen) here)
