@@ -4,3 +4,4 @@ pub mod Stepping
 pub mod Changed
 pub mod Turning
 pub mod Names
+pub mod Gone

@@ -16,10 +16,12 @@
 #![tactic(auto)]
 
 mod changing;
+mod deleting;
 mod making;
 mod naming;
 mod places;
 
 pub use changing::change;
+pub use deleting::delete;
 pub use making::make;
 pub use places::ActionPlaces;
