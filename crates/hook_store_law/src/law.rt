@@ -3,25 +3,31 @@
 use filter_state::Edit;
 use mask_table::MaskLaw;
 use miniq_pair::HeadLaw;
+use pin_store::Store;
 use store_history::Law;
 
-/// The law of the hook's store: what `hook_law` asks of its commits, at this project's terms. Nothing is made
-/// of this type.
+/// The law of the hook's store: what `hook_law` asks of its commits, at this project's terms, and that one word
+/// of a root names one chain. Nothing is made of this type.
 pub struct HookLaw;
 
+/// The store of a hook: blocks and roots that keep the law.
+pub type HookStore = Store<HookLaw>;
+
 impl Law for HookLaw {
-    ghost use Rattle.hook_law.specs.Keeping.{Keeps};
-    ghost use Rattle.hook_meaning.specs.Stated.{hook_meaning};
-    ghost use Rattle.hook_meaning.specs.Blocks.{hook_codec};
     ghost use Rattle.hook_meaning.proofs.Opening.{hook_opens, hook_rises};
+    ghost use Rattle.stamp_laws.proofs.Stamps.{none_rise};
+    ghost use Rattle.hook_store_law.specs.Kept.{KeepsHook};
 
     type Entry = Edit;
 
-    ghost keeps = { Keeps hook_meaning hook_codec };
+    ghost keeps = { KeepsHook };
 
-    ghost opens = { hook_opens };
+    ghost opens = { record { law = hook_opens; stamps = none_rise } };
 
-    ghost rises = { hook_rises };
+    ghost rises = { λ h b c later kept. record {
+      law = hook_rises h b c later kept.law;
+      stamps = kept.stamps;
+    } };
 }
 
 // The tables of a hook are those of the plain state. A sound state has few.
@@ -31,9 +37,9 @@ impl HeadLaw for HookLaw {
 
     ghost heads = { λ h k hook. heads_after h k hook };
 
-    ghost tells = { heads_told };
+    ghost tells = { λ h b n hook kept. heads_told h b n hook kept.law };
 
-    ghost few = { heads_most };
+    ghost few = { λ h b k hook kept. heads_most h b k hook kept.law };
 }
 
 // A mask stands where a head names it. Its words and its filters are those of the plain state, and each
@@ -50,11 +56,12 @@ impl MaskLaw for HookLaw {
 
     ghost filters = { λ h k mask. filters_after h k mask };
 
-    ghost stood = { slot_stood };
+    ghost stood = { λ h b n slot mask kept. slot_stood h b n slot mask kept.law };
 
-    ghost tells = { mask_told };
+    ghost tells = { λ h b n slot mask kept. mask_told h b n slot mask kept.law };
 
-    ghost buckets = { bucket_told };
+    ghost buckets = { λ h b n slot mask bucket record_read kept.
+        bucket_told h b n slot mask bucket record_read kept.law };
 
-    ghost distinct = { keys_distinct };
+    ghost distinct = { λ h b k mask one other f g kept. keys_distinct h b k mask one other f g kept.law };
 }

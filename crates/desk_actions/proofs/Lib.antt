@@ -1,0 +1,7 @@
+pub mod Rooms
+pub mod Made
+pub mod Stepping
+pub mod Changed
+pub mod Turning
+pub mod Names
+pub mod Gone

@@ -1,0 +1,24 @@
+-- Places of actions before any edit.
+use Rattle.std.proofs.Common.{◌≡◌, ℕ, zero, suc, ◌<◌, List, [], length, get_or, replicate, slice_get, Some, refl, arith}
+use Rattle.filter_state.specs.declared.edit.Edit.{Edit}
+use Rattle.store_history.specs.declared.history.Commit.{Commit}
+use Rattle.hook_meaning.specs.Stated.{hook_meaning}
+use Rattle.hook_meaning.specs.Blocks.{hook_codec}
+use Rattle.desk_actions.specs.Places.{Placed, AreHere}
+
+zeros : (n i : ℕ) → ◌≡◌ {A = ℕ} (get_or (replicate n 0) i 0) 0
+zeros zero i = refl
+zeros (suc n) zero = refl
+zeros (suc n) (suc i) = zeros n i
+
+pub zeros_are_small : (n i : ℕ) → get_or {A = ℕ} (replicate n 0) i 0 < 2048
+zeros_are_small n i = let none = zeros n i in omega (arith, none)
+
+pub nothing_here : (placed : Placed) → length placed.slots ≡ 16385 → length placed.blocks ≡ 2048 → AreHere placed []
+nothing_here placed long wide = record {
+  long = long;
+  wide = wide;
+  slots = λ action live. absurd (live refl);
+  blocks = λ action live. absurd (live refl);
+  made = λ action slot at. let there = at.there in absurd (cc there);
+}

@@ -1,0 +1,2 @@
+pub mod RootsOf
+pub mod Steps

@@ -1,0 +1,4 @@
+pub mod Twice
+pub mod Emptied
+pub mod Freed
+pub mod Whole
