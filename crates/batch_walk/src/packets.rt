@@ -1,9 +1,8 @@
-//! The line of a packet.
+//! How a packet's line tells that it ended.
 ghost use Rattle.std.specs.Prelude.{◌≡◌, ◌++◌, OnOk};
-ghost use Rattle.batch_walk.specs.Texts.{verdict_text, meta_text, end_text, packet_line};
+ghost use Rattle.batch_walk.specs.Texts.{verdict_text, meta_text, end_text};
 
 use crate::pieces::{push_count, push_text};
-use capture_walk::PacketEnd;
 use frame_edit::Meta;
 use line_texts::push_class;
 use std::alloc::AllocError;
@@ -44,14 +43,4 @@ pub fn push_end(
 {
     push_count(out, verdict_text(verdict), length)?;
     push_meta(out, meta)
-}
-
-/// Puts the line of a packet, numbered from 1, behind what is there.
-pub fn push_packet(out: &mut Vec<u8>, number: u64, end: &PacketEnd) -> Result<(), AllocError>
-    ensures { OnOk result (out.new.items ≡ out.old.items ++ packet_line number end.now) }
-{
-    push_count(out, "packet ", number)?;
-    push_end(out, end.verdict, u64::from(end.length), end.meta)?;
-    out.push(b'\n')?;
-    Ok(())
 }

@@ -9,7 +9,7 @@ use Rattle.gen_files.specs.Generated.{batch_text, packets_of, job_text}
 use Rattle.batch_run.specs.Commands.{commands_of}
 use Rattle.batch_run.specs.Runs.{Ran, IsRun}
 use Rattle.batch_walk.specs.Walked.{closing_text}
-use Rattle.batch_walk.specs.Output.{output_of}
+use Rattle.capture_walk.specs.Captures.{output_of}
 use Rattle.gen_run.specs.declared.workload.Generated.{Generated}
 
 -- a capture of packets: the lowest byte first, and microseconds

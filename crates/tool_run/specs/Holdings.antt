@@ -16,7 +16,7 @@ use Rattle.tool_words.specs.Requests.{Names}
 use Rattle.capture_walk.specs.declared.limits.TheConstants.{PACKETS_MAX}
 use Rattle.tool_run.specs.Broken.{IsBroken}
 use Rattle.tool_words.specs.Ends.{status_after}
-use Rattle.batch_walk.specs.Output.{output_of}
+use Rattle.capture_walk.specs.Captures.{output_of}
 
 -- these bytes stand under the name, where the shelf tells what it holds
 abbrev pub Holds : Option Held → List ℕ → List ℕ → Type 0
