@@ -28,8 +28,8 @@ ghost use Rattle.hook_meaning.specs.Told.{state_after_edits, stands_at, heads_af
 ghost use Rattle.hook_meaning.specs.Told.{filters_after};
 ghost use Rattle.hook_visit_laws.specs.Known.{MaskStood, ActionLived};
 
-/// A head that was told is the state's at each point from its own up to all edits, and each mask that it names
-/// stands at its slot.
+/// A head that was told is the state's at each point from its own up to all edits, and each mask that it
+/// names stands at its slot.
 pub fn heads_answer()
     ensures answer { (h : List (Commit Edit)) (hook : Hook) (told : List TableHead) (stamp point : ℕ)
         → HeadTold (λ k. heads_after h k hook) h hook told stamp → stamp ≤ point → point ≤ point_of h
