@@ -1,6 +1,6 @@
 -- What a visit tells (this project's own).
-use Rattle.std.specs.Prelude.{◌≡◌, ℕ, ◌+◌, ◌≤◌, Bool, true, false, List, length, max, min, slice_index, slice_set}
-use Rattle.std.specs.Prelude.{Option, Some, None}
+use Rattle.std.specs.Prelude.{◌≡◌, ℕ, ◌+◌, ◌≤◌, Bool, true, false, List, length, max, min, slice_index}
+use Rattle.std.specs.Prelude.{slice_set, Option, Some, None}
 use mathlib.Core.List.{IsPrefix}
 use Rattle.store_history.specs.History.{root_of}
 use Rattle.pin_store.specs.Calls.{seen_by, floor_start, IsSameReader}
@@ -41,7 +41,8 @@ pub record IsHeadPoint (old : HookSeat) (root point : ℕ) (new : HookSeat) : Ty
 
 -- A look-up's is the greatest of the stamps that were loaded, the head's point, and the point of the last
 -- look-up at the slot.
-pub record IsMaskPoint (old : HookSeat) (mask : ℕ) (values : List ℕ) (point : ℕ) (new : HookSeat) : Type 0 where
+pub record IsMaskPoint (old : HookSeat) (mask : ℕ) (values : List ℕ) (point : ℕ)
+    (new : HookSeat) : Type 0 where
   pub slot : ℕ
   pub known : KnowsMask old (record { serial = mask; slot = slot })
   pub key : List ℕ
@@ -68,7 +69,8 @@ IsVisitPoint old (params_of serial) point new = IsActionPoint old serial point n
 
 -- WHAT A VISIT TELLS: the answer is that of the state after so many of the edits that the reader has seen as
 -- the point says; what it has seen has only grown, and keeps the law since it went inside
-pub record WalkTold (old : HookSeat) (question : Question) (answer : Answer) (point : ℕ) (new : HookSeat) : Type 0 where
+pub record WalkTold (old : HookSeat) (question : Question) (answer : Answer) (point : ℕ)
+    (new : HookSeat) : Type 0 where
   pub longer : IsPrefix (seen_by old.place) (seen_by new.place)
   pub lawful : Keeps hook_meaning hook_codec (seen_by new.place) (floor_start new.place)
   pub same : IsSameReader old.place new.place

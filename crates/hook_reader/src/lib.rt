@@ -32,8 +32,8 @@
 //! A reader may be sent to any thread and is used by one at a time; there are as many as the store has. Only
 //! `HookReader::new` takes memory. Nothing here changes the store, and nothing stands on the crates that do.
 //!
-//! Not promised: that a visit sees the latest edit. It sees what its loads told, and `learn` is how one thread
-//! hands to another what it has seen.
+//! Not promised: that a visit sees the latest edit. It sees what its loads told, and `learn` is how one
+//! thread hands to another what it has seen.
 #![tactic(auto)]
 
 mod acting;

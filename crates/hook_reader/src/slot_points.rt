@@ -35,7 +35,8 @@ impl Model for SlotPoints {
 
     ghost view = { λ p. points_in p.walk p.marks.items };
 
-    ghost invariant = { λ p. (length p.marks.items ≡ MASK_SLOTS) × All (λ mark. mark.walk ≤ p.walk) p.marks.items };
+    ghost invariant = { λ p. (length p.marks.items ≡ MASK_SLOTS)
+        × All (λ mark. mark.walk ≤ p.walk) p.marks.items };
 }
 
 impl SlotPoints {

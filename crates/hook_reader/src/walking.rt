@@ -27,7 +27,9 @@ impl Visits for Walking<'_> {
     ghost use Rattle.hook_reader.specs.Known.{KnowsMask, KnowsAction};
     ghost use Rattle.hook_reader.specs.Told.{WalkTold};
 
-    ghost told = { λ old question answer point new. WalkTold old.reader.now question answer point new.reader.now
+    // And the reference to the reader is the same one.
+    ghost told = { λ old question answer point new.
+        WalkTold old.reader.now question answer point new.reader.now
         × (new.store ≡ old.store) × (new.reader.ghost_name ≡ old.reader.ghost_name) };
 
     ghost knows_mask = { λ v table mask. KnowsMask v.reader.now mask };
