@@ -15,7 +15,7 @@ use Rattle.hook_law.specs.Keeping.{Keeps}
 use Rattle.hook_meaning.specs.Stated.{hook_meaning}
 use Rattle.hook_meaning.specs.Blocks.{hook_codec}
 use Rattle.hook_meaning.specs.Told.{state_after_edits}
-use Rattle.hook_reader.specs.Seats.{FirstHead, HookSeat}
+use Rattle.hook_reader.specs.Seats.{FirstHead, HookSeat, IsReading}
 use Rattle.hook_reader.specs.Known.{KnowsMask, KnowsAction}
 
 -- a count stands still at its type's end
@@ -79,3 +79,5 @@ pub record WalkTold (old : HookSeat) (question : Question) (answer : Answer) (po
   pub counted : new.visits ≡ one_visit_more old.visits
   pub latest : new.latest ≡ max old.latest point
   pub pointed : IsVisitPoint old question point new
+  pub before : IsReading old
+  pub after : IsReading new

@@ -43,6 +43,8 @@ returns-clause-told c = let s = c.self.inside in let e = c.read_action-stored.en
       reached = act_reached old new c.self.invariant e.longer e.same e.lawful c.args.action known c.read_action-stored.result.0 e.action c.in-Some.stored c.in-Some.is c.max-point.result point_is latest;
       counted = c.saturating_add.ensures;
       latest = latest;
+      before = c.self.invariant;
+      after = act_reading old new c.self.invariant e.longer e.same e.lawful c.args.action known c.read_action-stored.result.0 e.action c.in-Some.stored c.in-Some.is c.max-point.result point_is latest refl refl;
       pointed = record { slot = c.args.action.slot; known = known; is = point_is; head = refl; points = refl };
     })
 

@@ -42,6 +42,9 @@ returns-clause-told c = let s = c.self.inside in let e = c.read_head.ensures in
       reached = reached;
       counted = c.saturating_add.ensures;
       latest = latest;
+      before = is;
+      after = reading old new is e.longer e.same c.max-point.result latest reached (heads_noted old new is e.longer e.same c.max-point.result latest reached refl head) is.wide
+          (points_still old new is e.longer e.same (omega (arith, latest)) refl);
       pointed = record { is = point_is; head = head; points = refl };
     })
 

@@ -56,6 +56,8 @@ returns-clause-told c = λ table. let s = c.self.inside in let e = c.look-found.
       reached = look_reached old new is e.longer e.same e.lawful mask known known.stood.there.small loaded point point_is stood latest refl c.set.ensures;
       counted = c.saturating_add.ensures;
       latest = latest;
+      before = is;
+      after = look_reading old new is e.longer e.same e.lawful mask known known.stood.there.small loaded point point_is stood latest refl c.set.ensures;
       pointed = record {
         slot = mask.slot;
         known = known;
