@@ -1,0 +1,6 @@
+mod Points
+mod Reading
+mod Visits
+mod Heads
+mod Looks
+mod Acts

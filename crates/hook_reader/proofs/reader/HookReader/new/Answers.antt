@@ -1,0 +1,5 @@
+use Rattle.hook_reader.proofs.Reading.{new_reading}
+use Rattle.hook_reader.proofs.reader.HookReader.new.Goals as goal
+
+pub invariant_of-result : goal.invariant_of-result
+invariant_of-result c = new_reading c.args.reader.place c.in_ok-with_room.field-0 c.requires.outside c.in_ok-with_room.ensures

@@ -1,0 +1,4 @@
+pub mod Marks
+pub mod Seats
+pub mod Known
+pub mod Told

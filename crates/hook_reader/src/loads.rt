@@ -1,0 +1,181 @@
+//! The loads of the three visits, which nobody counts here.
+ghost use Rattle.block_codec.specs.declared.places.TheConstants.{ACTION_SLOTS, MASK_SLOTS, ROOTS};
+ghost use Rattle.std.specs.Prelude.{◌≡◌, ◌<◌, ◌≤◌, ◌-◌, ℕ, length, take};
+ghost use mathlib.Core.List.{IsPrefix};
+ghost use Rattle.store_history.specs.History.{root_of};
+ghost use Rattle.store_history.specs.Reads.{read_first};
+ghost use Rattle.pin_store.specs.Calls.{seen_by, floor_start, loads_of, IsInside, IsSeatOf, IsSameReader};
+ghost use Rattle.block_reading.specs.Read.{action_of_words};
+ghost use Rattle.block_chain.specs.Ways.{block_words};
+ghost use Rattle.mask_table.specs.Told.{LookedUp, IsLoadedPoint};
+ghost use Rattle.miniq_pair.specs.Heads.{head_root, HeadTold};
+ghost use Rattle.hook_law.specs.Places.{action_root};
+ghost use Rattle.hook_law.specs.Keeping.{Keeps};
+ghost use Rattle.hook_meaning.specs.Stated.{hook_meaning};
+ghost use Rattle.hook_meaning.specs.Blocks.{hook_codec};
+ghost use Rattle.hook_meaning.specs.Told.{heads_after, stands_at, words_after, filters_after};
+
+use action_roots::load_action;
+use block_codec::StoredAction;
+use flow_fields::Key;
+use hook_store_law::{HookLaw, HookStore};
+use mask_table::lookup;
+use miniq_pair::head;
+use pin_store::{Reader, Steps};
+use std::marker::Brand;
+use std::sync::ledger::{Blank, Ledger};
+use tc_base::{Hook, Point};
+use visit_room::{HeadRoom, Hit};
+
+fn head_as<M: Ledger>(
+    reader: &mut Reader<HookLaw>,
+    store: &HookStore,
+    hook: Hook,
+    into: &mut HeadRoom,
+    blank: Blank,
+) -> Point
+    requires store { IsSeatOf store.now reader.old.place }
+    requires shape { (store.now.shape.words ≡ block_words) × (ROOTS ≤ store.now.shape.roots) }
+    requires inside { IsInside reader.old.place }
+    requires blank { (blank.name ≡ M.name) × (blank.parts ≡ M.parts) × (0 < M.parts) }
+    ensures store { IsSeatOf store.now reader.new.place }
+    ensures same { IsSameReader reader.old.place reader.new.place }
+    ensures longer { IsPrefix (seen_by reader.old.place) (seen_by reader.new.place) }
+    ensures lawful { Keeps hook_meaning hook_codec (seen_by reader.new.place)
+        (floor_start reader.new.place) }
+    ensures stamp { result ≡ (root_of (seen_by reader.new.place) (head_root hook)).stamp }
+    ensures told { HeadTold (λ k. heads_after (seen_by reader.new.place) k hook)
+        (seen_by reader.new.place) hook into.new.tables result }
+{
+    let mut steps = Steps::<M>::new(blank);
+    head(reader, store, hook, into, &mut steps)
+}
+
+/// The tables of a hook, and the stamp of its root.
+pub(crate) fn read_head(
+    reader: &mut Reader<HookLaw>,
+    store: &HookStore,
+    hook: Hook,
+    into: &mut HeadRoom,
+) -> Point
+    requires store { IsSeatOf store.now reader.old.place }
+    requires shape { (store.now.shape.words ≡ block_words) × (ROOTS ≤ store.now.shape.roots) }
+    requires inside { IsInside reader.old.place }
+    ensures store { IsSeatOf store.now reader.new.place }
+    ensures same { IsSameReader reader.old.place reader.new.place }
+    ensures longer { IsPrefix (seen_by reader.old.place) (seen_by reader.new.place) }
+    ensures lawful { Keeps hook_meaning hook_codec (seen_by reader.new.place)
+        (floor_start reader.new.place) }
+    ensures stamp { result ≡ (root_of (seen_by reader.new.place) (head_root hook)).stamp }
+    ensures told { HeadTold (λ k. heads_after (seen_by reader.new.place) k hook)
+        (seen_by reader.new.place) hook into.new.tables result }
+{
+    head_as::<Brand>(reader, store, hook, into, Blank::new(1))
+}
+
+fn look_as<M: Ledger>(
+    reader: &mut Reader<HookLaw>,
+    store: &HookStore,
+    slot: u32,
+    key: &Key<14>,
+    into: &mut Hit,
+    blank: Blank,
+) -> (bool, Point)
+    requires store { IsSeatOf store.now reader.old.place }
+    requires shape { (store.now.shape.words ≡ block_words) × (ROOTS ≤ store.now.shape.roots) }
+    requires slot { slot < MASK_SLOTS }
+    requires inside { IsInside reader.old.place }
+    requires blank { (blank.name ≡ M.name) × (blank.parts ≡ M.parts) × (0 < M.parts) }
+    ensures store { IsSeatOf store.now reader.new.place }
+    ensures same { IsSameReader reader.old.place reader.new.place }
+    ensures longer { IsPrefix (seen_by reader.old.place) (seen_by reader.new.place) }
+    ensures lawful { Keeps hook_meaning hook_codec (seen_by reader.new.place)
+        (floor_start reader.new.place) }
+    ensures stamps { IsLoadedPoint (seen_by reader.old.place) (seen_by reader.new.place) slot key.now.words
+        result.0 result.1 }
+    ensures found { (n serial : ℕ) → floor_start reader.old.place ≤ n → n ≤ length (seen_by reader.old.place)
+        → stands_at (take n (seen_by reader.old.place)) slot serial
+        → LookedUp stands_at (λ k. words_after (seen_by reader.new.place) k serial)
+        (λ k. filters_after (seen_by reader.new.place) k serial)
+        (seen_by reader.new.place) n slot serial key.now.words result.0 into.new result.1
+        (loads_of reader.new.place - loads_of reader.old.place) }
+{
+    let mut steps = Steps::<M>::new(blank);
+    lookup(reader, store, slot, key, into, &mut steps)
+}
+
+/// Whether the mask at a slot has a filter with the packet's key under the mask, with its actions, and the
+/// greatest of the stamps.
+pub(crate) fn look(
+    reader: &mut Reader<HookLaw>,
+    store: &HookStore,
+    slot: u32,
+    key: &Key<14>,
+    into: &mut Hit,
+) -> (bool, Point)
+    requires store { IsSeatOf store.now reader.old.place }
+    requires shape { (store.now.shape.words ≡ block_words) × (ROOTS ≤ store.now.shape.roots) }
+    requires slot { slot < MASK_SLOTS }
+    requires inside { IsInside reader.old.place }
+    ensures store { IsSeatOf store.now reader.new.place }
+    ensures same { IsSameReader reader.old.place reader.new.place }
+    ensures longer { IsPrefix (seen_by reader.old.place) (seen_by reader.new.place) }
+    ensures lawful { Keeps hook_meaning hook_codec (seen_by reader.new.place)
+        (floor_start reader.new.place) }
+    ensures stamps { IsLoadedPoint (seen_by reader.old.place) (seen_by reader.new.place) slot key.now.words
+        result.0 result.1 }
+    ensures found { (n serial : ℕ) → floor_start reader.old.place ≤ n → n ≤ length (seen_by reader.old.place)
+        → stands_at (take n (seen_by reader.old.place)) slot serial
+        → LookedUp stands_at (λ k. words_after (seen_by reader.new.place) k serial)
+        (λ k. filters_after (seen_by reader.new.place) k serial)
+        (seen_by reader.new.place) n slot serial key.now.words result.0 into.new result.1
+        (loads_of reader.new.place - loads_of reader.old.place) }
+{
+    look_as::<Brand>(reader, store, slot, key, into, Blank::new(1))
+}
+
+fn action_as<M: Ledger>(
+    reader: &mut Reader<HookLaw>,
+    store: &HookStore,
+    slot: u32,
+    blank: Blank,
+) -> (Option<StoredAction>, Point)
+    requires store { IsSeatOf store.now reader.old.place }
+    requires shape { (store.now.shape.words ≡ block_words) × (ROOTS ≤ store.now.shape.roots) }
+    requires slot { slot < ACTION_SLOTS }
+    requires inside { IsInside reader.old.place }
+    requires blank { (blank.name ≡ M.name) × (blank.parts ≡ M.parts) × (0 < M.parts) }
+    ensures store { IsSeatOf store.now reader.new.place }
+    ensures same { IsSameReader reader.old.place reader.new.place }
+    ensures longer { IsPrefix (seen_by reader.old.place) (seen_by reader.new.place) }
+    ensures lawful { Keeps hook_meaning hook_codec (seen_by reader.new.place)
+        (floor_start reader.new.place) }
+    ensures action { result.0
+        ≡ read_first action_of_words (root_of (seen_by reader.new.place) (action_root slot)).chain }
+    ensures stamp { result.1 ≡ (root_of (seen_by reader.new.place) (action_root slot)).stamp }
+{
+    let mut steps = Steps::<M>::new(blank);
+    load_action(reader, store, slot, &mut steps)
+}
+
+/// The record at the slot of an action, and the stamp of the slot's root.
+pub(crate) fn read_action(
+    reader: &mut Reader<HookLaw>,
+    store: &HookStore,
+    slot: u32,
+) -> (Option<StoredAction>, Point)
+    requires store { IsSeatOf store.now reader.old.place }
+    requires shape { (store.now.shape.words ≡ block_words) × (ROOTS ≤ store.now.shape.roots) }
+    requires slot { slot < ACTION_SLOTS }
+    requires inside { IsInside reader.old.place }
+    ensures store { IsSeatOf store.now reader.new.place }
+    ensures same { IsSameReader reader.old.place reader.new.place }
+    ensures longer { IsPrefix (seen_by reader.old.place) (seen_by reader.new.place) }
+    ensures lawful { Keeps hook_meaning hook_codec (seen_by reader.new.place)
+        (floor_start reader.new.place) }
+    ensures action { result.0
+        ≡ read_first action_of_words (root_of (seen_by reader.new.place) (action_root slot)).chain }
+    ensures stamp { result.1 ≡ (root_of (seen_by reader.new.place) (action_root slot)).stamp }
+{
+    action_as::<Brand>(reader, store, slot, Blank::new(1))
+}

@@ -1,0 +1,4 @@
+pub mod Heads
+pub mod Looks
+pub mod Actions
+pub mod Names
