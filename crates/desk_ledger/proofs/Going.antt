@@ -14,8 +14,8 @@ use Rattle.hook_lists.specs.declared.kept.Kept.{Kept}
 use Rattle.filter_lists.specs.Spells.{Spells}
 use Rattle.filter_state.specs.Order.{SameState}
 use Rattle.filter_lists.specs.Edits.{Stays, IsFinished}
-use Rattle.stamp_laws.specs.Stamps.{StampsRise}
-use Rattle.stamp_laws.proofs.Stamps.{more_rise}
+use Rattle.root_word_laws.specs.Words.{StampsRise}
+use Rattle.root_word_laws.proofs.Words.{more_rise}
 use Rattle.hook_store_law.specs.Kept.{KeepsHook, IsKeptAt}
 use Rattle.hook_law.specs.Meaning.{point_of}
 use Rattle.hook_law.specs.Keeping.{Keeps, IsAtRest}

@@ -10,8 +10,8 @@ use Rattle.hook_law.specs.Meaning.{point_of}
 use Rattle.hook_law.specs.Standing.{IsUnused}
 use Rattle.hook_law.specs.Keeping.{Keeps}
 use Rattle.hook_store_law.specs.Kept.{KeepsHook, IsKeptAt}
-use Rattle.stamp_laws.specs.Stamps.{StampsRise}
-use Rattle.stamp_laws.proofs.Stamps.{more_rise}
+use Rattle.root_word_laws.specs.Words.{StampsRise}
+use Rattle.root_word_laws.proofs.Words.{more_rise}
 use Rattle.store_history.specs.declared.history.Named.{Named}
 use Rattle.store_history.proofs.Histories.{root_own, root_other}
 use Rattle.std.proofs.lemmas.Bool.{eqb-false}
