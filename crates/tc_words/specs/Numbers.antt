@@ -1,6 +1,6 @@
 -- Numbers in decimal digits, and those that may be in hexadecimal digits.
-use Rattle.std.specs.Prelude.{ℕ, ◌+◌, ◌-◌, ◌*◌, Bool, true, false, ◌&&◌, ◌||◌, ◌==◌, nat_le, nat_lt, List, length}
-use Rattle.std.specs.Prelude.{drop, fold, slice_index, Option, Some, None, if◌then◌else◌}
+use Rattle.std.specs.Prelude.{ℕ, ◌+◌, ◌-◌, ◌*◌, Bool, true, false, ◌&&◌, ◌||◌, ◌==◌, nat_le, nat_lt, List}
+use Rattle.std.specs.Prelude.{length, drop, fold, slice_index, Option, Some, None, if◌then◌else◌}
 use Rattle.std.specs.List.{list_all}
 use Rattle.std.specs.Char.{is_ascii_digit}
 use Rattle.tc_words.specs.Hexadecimal.{hex_of}
