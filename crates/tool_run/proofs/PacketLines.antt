@@ -17,9 +17,12 @@ counted_is number = refl
 pub length_counted : (number : ℕ) → length (counted label number) ≡ 7 + length (decimal number)
 length_counted number = ap length (counted_is number) ∙ length-append label (decimal number)
 
-pub line_of : (text : List ℕ) (m n : ℕ) (d e : PacketEnd) → text ≡ packet_line m d → m ≡ n → d ≡ e → text ≡ packet_line n e
+pub line_of : (text : List ℕ) (m n : ℕ) (d e : PacketEnd) → text ≡ packet_line m d → m ≡ n → d ≡ e → text
+    ≡ packet_line n e
 line_of text m n d e is number end = is ∙ ap₂ packet_line number end
 
-pub line_in_three : (number : ℕ) (end : PacketEnd) → packet_line number end ≡ label ++ (decimal number ++ ending_of end)
+pub line_in_three : (number : ℕ) (end : PacketEnd) → packet_line number end ≡ label ++ (decimal number
+    ++ ending_of end)
 line_in_three number end =
-    sym (line_parts number end) ∙ ap (λ xs. xs ++ ending_of end) (counted_is number) ∙ append_assoc label (decimal number) (ending_of end)
+    sym (line_parts number end) ∙ ap (λ xs. xs ++ ending_of end) (counted_is number)
+    ∙ append_assoc label (decimal number) (ending_of end)

@@ -21,10 +21,12 @@ returns-in_err-write_all-clause-up_to g c =
     let end = c.in-Some.end in
     let turned = c.in_ok-turn_to.ensures in
     let number : c.loop-end.line.number + 1 ≡ 1 + length walked = omega (arith, before.number) in
-    let line = line_of c.turn_to.new.self.text.items _ (1 + length walked) _ end turned.line.text (turned.number ∙ number) turned.end in
+    let line = line_of c.turn_to.new.self.text.items _ (1 + length walked) _ end turned.line.text
+    (turned.number ∙ number) turned.end in
     let whole = before.whole ∙ ap (λ (rest : List PacketEnd). walked ++ rest) c.in-Some.ensures.steps in
     rw (whole, packets_rest walked c.in-Some.end c.next.new.self)
-    (AppendsUpTo-then _ _ _ _ _ _ before.wrote (rw (c.deref.ensures.value ∙ line) at c.write_all.ensures.up_to))
+    (AppendsUpTo-then _ _ _ _ _ _ before.wrote (rw (c.deref.ensures.value
+    ∙ line) at c.write_all.ensures.up_to))
 
 pub loop-end-preserved : goal.loop-end-preserved
 loop-end-preserved g c =
@@ -33,14 +35,16 @@ loop-end-preserved g c =
     let end = c.in-Some.end in
     let turned = c.in_ok-turn_to.ensures in
     let number : c.loop-end.line.number + 1 ≡ 1 + length walked = omega (arith, before.number) in
-    let line = line_of c.turn_to.new.self.text.items _ (1 + length walked) _ end turned.line.text (turned.number ∙ number) turned.end in
+    let line = line_of c.turn_to.new.self.text.items _ (1 + length walked) _ end turned.line.text
+    (turned.number ∙ number) turned.end in
     record {
       whole = before.whole ∙ ap (λ (rest : List PacketEnd). walked ++ rest) c.in-Some.ensures.steps
           ∙ sym (append_assoc walked (end ∷ []) c.next.new.self);
       number = omega (arith, turned.number, before.number, length_push walked end);
       line = turned.line;
       wrote = rw (packets_more walked end)
-          (Appended-then _ _ _ _ _ before.wrote (rw (c.deref.ensures.value ∙ line) at c.in_ok-write_all.ensures.all));
+          (Appended-then _ _ _ _ _ before.wrote (rw (c.deref.ensures.value
+          ∙ line) at c.in_ok-write_all.ensures.all));
       later = omega (arith, c.write_all.ensures.counts.later, before.later);
     }
 

@@ -8,7 +8,8 @@ use Rattle.tool_run.proofs.packet_line.PacketLine.count_up.Given as goal
 -- each digit so far was 9, and is 0
 abbrev pub invariant-loop-at : goal.invariant-loop-at
 invariant-loop-at l = record {
-  carried : IsCarriedIn label (decimal l.initial.self.number) (ending_of l.initial.self.end) l.self.text.items l.at;
+  carried : IsCarriedIn label (decimal l.initial.self.number) (ending_of l.initial.self.end)
+      l.self.text.items l.at;
   number : l.self.number ≡ l.initial.self.number;
   end : l.self.end ≡ l.initial.self.end;
   digits : l.self.digits_end ≡ l.initial.self.digits_end;
