@@ -44,6 +44,8 @@ mod looking;
 mod reader;
 mod receipt;
 mod slot_points;
+#[cfg(test)]
+mod tests;
 mod walking;
 
 pub use reader::HookReader;

@@ -16,4 +16,5 @@ MayFollow before now = (before.stamp < now.stamp) ⊎ ((before.stamp ≤ now.sta
 
 -- EACH COMMIT OF THE HISTORY DOES
 abbrev pub StampsRise : {E : Type 0} → List (Commit E) → Type 0
-StampsRise {E} h = (n : ℕ) (c : Commit E) → slice_get h n ≡ Some c → MayFollow (root_of (take n h) c.root) c.named
+StampsRise {E} h = (n : ℕ) (c : Commit E) → slice_get h n ≡ Some c
+    → MayFollow (root_of (take n h) c.root) c.named
