@@ -36,6 +36,12 @@ one_named a z (inr (inr none)) word =
     let empty : a.chain ≡ [] = no_block a.chain (word.first ∙ ap first_block none.1) in
     let chain : a.chain ≡ z.chain = empty ∙ sym none.1 in λ t. record { chain = chain t; stamp = word.stamp t }
 
+-- with one stamp, and a block, it is the same
+stamp_named : (a z : Named) (block : ℕ) → Came a z → a.stamp ≡ z.stamp → first_block z.chain ≡ Some block → a ≡ z
+stamp_named a z block (inl same) stamp some = same
+stamp_named a z block (inr (inl less)) stamp some = absurd (omega (arith, less, stamp))
+stamp_named a z block (inr (inr none)) stamp some = let empty : None ≡ Some block = sym (ap first_block none.1) ∙ some in absurd (cc empty)
+
 module _ {E : Type 0} where
   -- ---- one commit more
   pub none_rise : StampsRise {E = E} []
@@ -87,12 +93,19 @@ module _ {E : Type 0} where
         let step = one_on n (n + d) c.0 c.1 (so_many_on d n (omega arith)) in
         let same : suc (n + d) ≡ n + suc d = omega arith in subst (λ (m : ℕ). Came (named_at n) (named_at m)) same step
 
-  pub one_word : (g h : List (Commit E)) (r : ℕ) → IsPrefix g h → StampsRise h → HaveOneWord (root_of g r) (root_of h r) → root_of g r ≡ root_of h r
-  one_word g h r prefix rise word =
+  -- what a root named after the beginning, and what it names after all
+  came_from : (g h : List (Commit E)) (r : ℕ) → IsPrefix g h → StampsRise h → Came (root_of g r) (root_of h r)
+  came_from g h r prefix rise =
       let low = prefix_length g h prefix in
       let front : root_of (take (length g) h) r ≡ root_of g r = ap (λ (k : List (Commit E)). root_of k r) (prefix_take g h (length g) prefix (le_refl (length g)) ∙ take_all (length g) g (le_refl (length g))) in
       let whole : root_of (take (length h) h) r ≡ root_of h r = ap (λ (k : List (Commit E)). root_of k r) (take_all (length h) h (le_refl (length h))) in
       let there : length g + (length h - length g) ≡ length h = omega (arith, low) in
       let came : Came (root_of (take (length g) h) r) (root_of (take (length h) h) r) =
       subst (λ (m : ℕ). Came (root_of (take (length g) h) r) (root_of (take m h) r)) there (so_many_on h r rise (length h - length g) (length g) (omega (arith, low))) in
-      one_named (root_of g r) (root_of h r) (subst (λ (x : Named). Came x (root_of h r)) front (subst (Came (root_of (take (length g) h) r)) whole came)) word
+      subst (λ (x : Named). Came x (root_of h r)) front (subst (Came (root_of (take (length g) h) r)) whole came)
+
+  pub one_word : (g h : List (Commit E)) (r : ℕ) → IsPrefix g h → StampsRise h → HaveOneWord (root_of g r) (root_of h r) → root_of g r ≡ root_of h r
+  one_word g h r prefix rise word = one_named (root_of g r) (root_of h r) (came_from g h r prefix rise) word
+
+  pub one_stamp : (g h : List (Commit E)) (r block : ℕ) → IsPrefix g h → StampsRise h → (root_of g r).stamp ≡ (root_of h r).stamp → first_block (root_of h r).chain ≡ Some block → root_of g r ≡ root_of h r
+  one_stamp g h r block prefix rise same some = stamp_named (root_of g r) (root_of h r) block (came_from g h r prefix rise) same some
