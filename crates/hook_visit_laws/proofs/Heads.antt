@@ -7,7 +7,7 @@ use Rattle.tc_base.specs.declared.hook.Hook.{Hook}
 use Rattle.tc_base.specs.declared.hook.Hook.TheVariants as hooks
 use Rattle.store_history.specs.declared.history.Link.{Link}
 use Rattle.store_history.specs.declared.history.Commit.{Commit}
-use Rattle.store_history.specs.History.{root_of}
+use Rattle.store_history.specs.History.{root_of, edits_of}
 use Rattle.store_history.specs.Reads.{in_front, read_all}
 use Rattle.visit_room.specs.declared.names.MaskName.{MaskName}
 use Rattle.visit_room.specs.declared.table_head.TableHead.{TableHead}
