@@ -6,14 +6,16 @@ use miniq_pair::HeadLaw;
 use pin_store::Store;
 use store_history::Law;
 
-/// The law of the hook's store: what `hook_law` asks of its commits, at this project's terms. Nothing is made
-/// of this type.
+/// The law of the hook's store: what `hook_law` asks of its commits, at this project's terms, and that the
+/// stamps of each root rise. Nothing is made of this type.
 pub struct HookLaw;
 
 /// The store of a hook: blocks and roots that keep the law.
 pub type HookStore = Store<HookLaw>;
 
 impl Law for HookLaw {
+    ghost use Rattle.root_word_laws.specs.Words.{StampsRise};
+    ghost use Rattle.root_word_laws.proofs.Words.{none_rise};
     ghost use Rattle.hook_law.specs.Keeping.{Keeps};
     ghost use Rattle.hook_meaning.specs.Stated.{hook_meaning};
     ghost use Rattle.hook_meaning.specs.Blocks.{hook_codec};
@@ -21,11 +23,11 @@ impl Law for HookLaw {
 
     type Entry = Edit;
 
-    ghost keeps = { Keeps hook_meaning hook_codec };
+    ghost keeps = { λ h b. Keeps hook_meaning hook_codec h b × StampsRise h };
 
-    ghost opens = { hook_opens };
+    ghost opens = { (hook_opens, none_rise) };
 
-    ghost rises = { hook_rises };
+    ghost rises = { λ h b c late kept. (hook_rises h b c late kept.0, kept.1) };
 }
 
 // The tables of a hook are those of the plain state. A sound state has few.
@@ -35,9 +37,9 @@ impl HeadLaw for HookLaw {
 
     ghost heads = { λ h k hook. heads_after h k hook };
 
-    ghost tells = { heads_told };
+    ghost tells = { λ h b n hook kept. heads_told h b n hook kept.0 };
 
-    ghost few = { heads_most };
+    ghost few = { λ h b k hook kept. heads_most h b k hook kept.0 };
 }
 
 // A mask stands where a head names it. Its words and its filters are those of the plain state, and each
@@ -54,11 +56,11 @@ impl MaskLaw for HookLaw {
 
     ghost filters = { λ h k mask. filters_after h k mask };
 
-    ghost stood = { slot_stood };
+    ghost stood = { λ h b n slot mask kept. slot_stood h b n slot mask kept.0 };
 
-    ghost tells = { mask_told };
+    ghost tells = { λ h b n slot mask kept. mask_told h b n slot mask kept.0 };
 
-    ghost buckets = { bucket_told };
+    ghost buckets = { λ h b n slot mask bucket stored kept. bucket_told h b n slot mask bucket stored kept.0 };
 
-    ghost distinct = { keys_distinct };
+    ghost distinct = { λ h b k mask one other f g kept. keys_distinct h b k mask one other f g kept.0 };
 }
