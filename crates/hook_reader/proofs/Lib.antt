@@ -4,3 +4,4 @@ mod Visits
 mod Heads
 mod Looks
 mod Acts
+mod Copies

@@ -16,7 +16,7 @@ use Rattle.mask_table.specs.Told.{edits_by}
 use Rattle.hook_visit_laws.proofs.Names.{edits_all}
 use Rattle.hook_reader.specs.Seats.{FirstHead, IsHeadOf, IsReading}
 
-abbrev Place : Type 0
+abbrev pub Place : Type 0
 Place = Seat (Unit {0}) (View Edit)
 
 -- ---- points of longer lists

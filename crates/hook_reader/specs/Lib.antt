@@ -2,3 +2,4 @@ pub mod Marks
 pub mod Seats
 pub mod Known
 pub mod Told
+pub mod KeptHeads

@@ -5,8 +5,8 @@ ghost use Rattle.hook_reader.specs.Seats.{first_head_of};
 ghost use Rattle.hook_reader.specs.Told.{first_of};
 
 use crate::head_seen::HeadSeen;
-use crate::loads::read_head;
 use crate::reader::HookReader;
+use crate::telling::tell_hook;
 use hook_store_law::{HookLaw, HookStore};
 use pin_store::Reader;
 use std::snapshot::Snapshot;
@@ -61,9 +61,11 @@ impl HookReader {
             visits,
             latest,
             head,
+            ingress,
+            egress,
             ..
         } = self;
-        let point = read_head(reader, store, hook, into).max(*latest);
+        let point = tell_hook(reader, ingress, egress, store, hook, into).max(*latest);
         *visits = visits.saturating_add(1);
         *latest = point;
         note_head(head, reader, point);

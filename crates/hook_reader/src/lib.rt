@@ -20,6 +20,14 @@
 //! - An action's is the greater of its root's stamp and the head's point. Its root is one, and stamps of one
 //!   root rise, so that nothing has to be remembered.
 //!
+//! # What is kept of a head
+//!
+//! A head is asked for by every packet and changes seldom. So a reader keeps the tables of each hook as it
+//! read them last, with the root's stamp. A visit loads the root's word, and where the stamp is that one, and
+//! there is a block, the root names the same chain: the law of the store says that stamps of one root rise.
+//! It doesn't matter how long ago that was, nor whether the reader was outside meanwhile and the blocks were
+//! given again. Else the blocks are read and decoded.
+//!
 //! # What is known
 //!
 //! A walk asks for masks and actions by names that it was told, with the slot of each. That the name is still
@@ -39,11 +47,15 @@
 mod acting;
 mod head_seen;
 mod heading;
+mod kept_head;
 mod loads;
 mod looking;
 mod reader;
 mod receipt;
 mod slot_points;
+mod telling;
+#[cfg(test)]
+mod tests;
 mod walking;
 
 pub use reader::HookReader;

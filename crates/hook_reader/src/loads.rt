@@ -2,7 +2,8 @@
 ghost use Rattle.block_codec.specs.declared.places.TheConstants.{ACTION_SLOTS, MASK_SLOTS, ROOTS};
 ghost use Rattle.std.specs.Prelude.{◌≡◌, ◌<◌, ◌≤◌, ◌-◌, ℕ, length, take};
 ghost use mathlib.Core.List.{IsPrefix};
-ghost use Rattle.store_history.specs.History.{root_of};
+ghost use Rattle.store_history.specs.History.{root_of, first_block};
+ghost use Rattle.root_word_laws.specs.Words.{StampsRise};
 ghost use Rattle.store_history.specs.Reads.{read_first};
 ghost use Rattle.pin_store.specs.Calls.{seen_by, floor_start, loads_of, IsInside, IsSeatOf, IsSameReader};
 ghost use Rattle.block_reading.specs.Read.{action_of_words};
@@ -21,7 +22,7 @@ use flow_fields::Key;
 use hook_store_law::{HookLaw, HookStore};
 use mask_table::lookup;
 use miniq_pair::head;
-use pin_store::{Reader, Steps};
+use pin_store::{Reader, RootWord, Steps};
 use std::marker::Brand;
 use std::sync::ledger::{Blank, Ledger};
 use tc_base::{Hook, Point};
@@ -178,4 +179,46 @@ pub(crate) fn read_action(
     ensures stamp { result.1 ≡ (root_of (seen_by reader.new.place) (action_root slot)).stamp }
 {
     action_as::<Brand>(reader, store, slot, Blank::new(1))
+}
+
+fn word_as<M: Ledger>(
+    reader: &mut Reader<HookLaw>,
+    store: &HookStore,
+    root: u32,
+    blank: Blank,
+) -> RootWord
+    requires store { IsSeatOf store.now reader.old.place }
+    requires root { root < store.now.shape.roots }
+    requires inside { IsInside reader.old.place }
+    requires blank { (blank.name ≡ M.name) × (blank.parts ≡ M.parts) × (0 < M.parts) }
+    ensures store { IsSeatOf store.now reader.new.place }
+    ensures same { IsSameReader reader.old.place reader.new.place }
+    ensures longer { IsPrefix (seen_by reader.old.place) (seen_by reader.new.place) }
+    ensures recent { floor_start reader.new.place ≤ length (seen_by reader.new.place) }
+    ensures lawful { Keeps hook_meaning hook_codec (seen_by reader.new.place)
+        (floor_start reader.new.place) }
+    ensures rising { StampsRise (seen_by reader.new.place) }
+    ensures first { result.first ≡ first_block (root_of (seen_by reader.new.place) root).chain }
+    ensures stamp { result.stamp ≡ (root_of (seen_by reader.new.place) root).stamp }
+{
+    let mut steps = Steps::<M>::new(blank);
+    reader.load_root(store, root, &mut steps)
+}
+
+/// The word of a root.
+pub(crate) fn load_word(reader: &mut Reader<HookLaw>, store: &HookStore, root: u32) -> RootWord
+    requires store { IsSeatOf store.now reader.old.place }
+    requires root { root < store.now.shape.roots }
+    requires inside { IsInside reader.old.place }
+    ensures store { IsSeatOf store.now reader.new.place }
+    ensures same { IsSameReader reader.old.place reader.new.place }
+    ensures longer { IsPrefix (seen_by reader.old.place) (seen_by reader.new.place) }
+    ensures recent { floor_start reader.new.place ≤ length (seen_by reader.new.place) }
+    ensures lawful { Keeps hook_meaning hook_codec (seen_by reader.new.place)
+        (floor_start reader.new.place) }
+    ensures rising { StampsRise (seen_by reader.new.place) }
+    ensures first { result.first ≡ first_block (root_of (seen_by reader.new.place) root).chain }
+    ensures stamp { result.stamp ≡ (root_of (seen_by reader.new.place) root).stamp }
+{
+    word_as::<Brand>(reader, store, root, Blank::new(1))
 }

@@ -80,6 +80,7 @@ impl HookReader {
             latest,
             head,
             points,
+            ..
         } = self;
         let _words = words_of(key);
         let floor = head_point(head).max(points.at(mask.slot));

@@ -1,6 +1,7 @@
 //! A reader of a hook's store.
 
 use crate::head_seen::HeadSeen;
+use crate::kept_head::KeptHead;
 use crate::receipt::HookReceipt;
 use crate::slot_points::SlotPoints;
 use hook_store_law::{HookLaw, HookStore};
@@ -17,10 +18,14 @@ pub struct HookReader {
     pub(crate) latest: Point,
     pub(crate) head: Option<HeadSeen>,
     pub(crate) points: SlotPoints,
+    pub(crate) ingress: KeptHead,
+    pub(crate) egress: KeptHead,
 }
 
 impl Model for HookReader {
+    ghost use Rattle.pin_store.specs.Calls.{seen_by};
     ghost use Rattle.hook_reader.specs.Seats.{HookSeat, first_head_of, IsReading};
+    ghost use Rattle.hook_reader.specs.KeptHeads.{KeepsHeads};
 
     ghost Value = { HookSeat };
 
@@ -38,7 +43,7 @@ impl Model for HookReader {
       latest = r.latest;
       head = first_head_of r.head;
       points = r.points;
-    }) };
+    }) × KeepsHeads (seen_by r.reader.place) r.ingress r.egress };
 }
 
 impl HookReader {
@@ -61,6 +66,8 @@ impl HookReader {
             latest: 0,
             head: None,
             points: SlotPoints::with_room(alloc)?,
+            ingress: KeptHead::with_room(alloc)?,
+            egress: KeptHead::with_room(alloc)?,
         })
     }
 

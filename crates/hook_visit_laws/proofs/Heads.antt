@@ -7,7 +7,7 @@ use Rattle.tc_base.specs.declared.hook.Hook.{Hook}
 use Rattle.tc_base.specs.declared.hook.Hook.TheVariants as hooks
 use Rattle.store_history.specs.declared.history.Link.{Link}
 use Rattle.store_history.specs.declared.history.Commit.{Commit}
-use Rattle.store_history.specs.History.{root_of}
+use Rattle.store_history.specs.History.{root_of, edits_of}
 use Rattle.store_history.specs.Reads.{in_front, read_all}
 use Rattle.visit_room.specs.declared.names.MaskName.{MaskName}
 use Rattle.visit_room.specs.declared.table_head.TableHead.{TableHead}
@@ -22,13 +22,19 @@ use Rattle.block_codec.specs.Names.{mask_in, IsMaskName}
 use Rattle.block_codec.specs.Reading.{table_read}
 use Rattle.block_reading.specs.Read.{is_table, table_in}
 use Rattle.block_reading.proofs.Testing.{table_has}
-use Rattle.miniq_pair.specs.Heads.{PlainTable, plain, told_of, hook_number, head_root, HeadTold}
+use Rattle.miniq_pair.specs.Heads.{PlainTable, plain, told_of, hook_number, head_root, HeadTold, TellsHead}
 use Rattle.hook_law.specs.Places as places
 use Rattle.hook_law.specs.Records.{Slotted}
 use Rattle.hook_law.specs.Chains.{masks_in, masks_read}
 use Rattle.hook_law.specs.Chains as chains
 use Rattle.hook_law.specs.Meaning.{point_of}
 use Rattle.hook_law.specs.Standing.{IsIn}
+use Rattle.hook_law.specs.Keeping.{Keeps}
+use Rattle.hook_meaning.specs.Stated.{hook_meaning}
+use Rattle.hook_meaning.proofs.Heading.{heads_told as heads_told_at}
+use Rattle.store_history.proofs.Lists.{some_is}
+use Rattle.std.proofs.lemmas.List.{take_all}
+use Rattle.std.proofs.Common.{le_refl, length}
 use Rattle.hook_meaning.specs.Blocks.{mask_slotted, table_record, hook_codec}
 use Rattle.hook_meaning.specs.Told.{plain_table, state_after_edits, heads_after, stands_at}
 
@@ -136,3 +142,18 @@ head_masks h hook told stamp t =
     ap masks_read (codec_reads chain ∙ ap (option_map (map table_record)) t.read) in
     subst (MasksKnown (λ table mask. stands_at h mask.slot mask.serial)) (sym t.told_are)
     (tables_stand h hook (masks_in (map table_record t.tables)) read t.tables (λ x i. i) (tables_small chain t.tables t.read))
+
+-- ---- tables that were read before
+pub kept_told : (h : List (Commit Edit)) (b : ℕ) (hook : Hook) (tables : List StoredTable) → Keeps hook_meaning hook_codec h b → b ≤ length h → read_all table_in (root_of h (head_root hook)).chain ≡ Some tables
+    → HeadTold (λ k. heads_after h k hook) h hook (map told_of tables) (root_of h (head_root hook)).stamp
+kept_told h b hook tables keeps low read =
+    let whole = take_all (length h) h (le_refl (length h)) in
+    let t : TellsHead (λ k. heads_after h k hook) (root_of h (head_root hook)) (length (edits_of h)) =
+    subst (λ (g : List (Commit Edit)). TellsHead (λ k. heads_after h k hook) (root_of g (head_root hook)) (length (edits_of g))) whole (heads_told_at h b (length h) hook keeps low (le_refl (length h))) in
+    let same : t.tables ≡ tables = some_is t.tables tables (sym t.read ∙ read) in record {
+      tables = tables;
+      read = read;
+      told_are = refl;
+      early = t.early;
+      are = λ k since until. ap (map plain) (sym same) ∙ t.are k since until;
+    }

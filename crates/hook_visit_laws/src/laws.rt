@@ -1,12 +1,12 @@
 //! The three visits.
-ghost use Rattle.std.specs.Prelude.{◌≡◌, ℕ, ◌≤◌, Bool, true, List, length, take, max, Some};
+ghost use Rattle.std.specs.Prelude.{◌≡◌, ℕ, ◌≤◌, Bool, true, List, length, map, take, max, Some};
 ghost use mathlib.Core.List.{IsPrefix};
 ghost use Rattle.tc_base.specs.declared.hook.Hook.{Hook};
 ghost use Rattle.act_kinds.specs.Acts.{FitsFrames};
 ghost use Rattle.flow_fields.specs.Values.{values_of};
 ghost use Rattle.store_history.specs.declared.history.Commit.{Commit};
 ghost use Rattle.store_history.specs.History.{root_of};
-ghost use Rattle.store_history.specs.Reads.{read_first};
+ghost use Rattle.store_history.specs.Reads.{read_all, read_first};
 ghost use Rattle.visit_room.specs.declared.names.ActionName.{ActionName};
 ghost use Rattle.visit_room.specs.declared.names.MaskName.{MaskName};
 ghost use Rattle.visit_room.specs.declared.table_head.TableHead.{TableHead};
@@ -16,9 +16,10 @@ ghost use Rattle.walk_rules.specs.Questions.{heads_of, filter_of, params_of, tol
 ghost use Rattle.walk_rules.specs.Answers.{answer_of};
 ghost use Rattle.walk_steps.specs.Told.{heads_told, filter_told, MasksKnown};
 ghost use Rattle.block_codec.specs.declared.action.StoredAction.{StoredAction};
-ghost use Rattle.block_reading.specs.Read.{action_of_words};
+ghost use Rattle.block_codec.specs.declared.table.StoredTable.{StoredTable};
+ghost use Rattle.block_reading.specs.Read.{action_of_words, table_in};
 ghost use Rattle.mask_table.specs.Told.{edits_by, LookedUp};
-ghost use Rattle.miniq_pair.specs.Heads.{HeadTold};
+ghost use Rattle.miniq_pair.specs.Heads.{told_of, head_root, HeadTold};
 ghost use Rattle.hook_law.specs.Places.{action_root};
 ghost use Rattle.hook_law.specs.Meaning.{point_of};
 ghost use Rattle.hook_law.specs.Keeping.{Keeps};
@@ -37,6 +38,16 @@ pub fn heads_answer()
     ensures masks { (h : List (Commit Edit)) (hook : Hook) (told : List TableHead) (stamp : ℕ)
         → HeadTold (λ k. heads_after h k hook) h hook told stamp
         → MasksKnown (λ table mask. stands_at h mask.slot mask.serial) told }
+{}
+
+/// Tables that the chain of a hook's root reads as, whenever they were read, are what a visit of the head
+/// tells, with the root's stamp as their point.
+pub fn kept_heads_tell()
+    ensures { (h : List (Commit Edit)) (b : ℕ) (hook : Hook) (tables : List StoredTable)
+        → Keeps hook_meaning hook_codec h b → b ≤ length h
+        → read_all table_in (root_of h (head_root hook)).chain ≡ Some tables
+        → HeadTold (λ k. heads_after h k hook) h hook (map told_of tables)
+        (root_of h (head_root hook)).stamp }
 {}
 
 /// A look-up of a mask that stood answers for the state at the greater of its own point and a floor up to

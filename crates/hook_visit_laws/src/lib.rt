@@ -23,6 +23,6 @@
 mod laws;
 
 pub use laws::{
-    actions_answer, heads_answer, look_ups_answer, names_stay_known, one_mask_a_slot,
-    one_slot_a_mask,
+    actions_answer, heads_answer, kept_heads_tell, look_ups_answer, names_stay_known,
+    one_mask_a_slot, one_slot_a_mask,
 };

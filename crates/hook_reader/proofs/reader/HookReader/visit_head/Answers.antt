@@ -14,31 +14,33 @@ use Rattle.hook_reader.proofs.Heads.{heads_noted, masks_further, actions_further
 use Rattle.hook_reader.proofs.reader.HookReader.visit_head.Goals as goal
 
 pub invariant_of-self : goal.invariant_of-self
-invariant_of-self c = let s = c.self.inside in let e = c.read_head.ensures in
+invariant_of-self c = let s = c.self.inside in let e = c.tell_hook.ensures in
     let old : HookSeat = record { place = s.reader.place; visits = s.visits; latest = s.latest; head = first_head_of s.head; points = s.points } in
-    let new : HookSeat = record { place = c.read_head.new.reader.place; visits = c.saturating_add.result; latest = c.max-point.result; head = first_head_of c.note_head.new.head; points = s.points } in
-    let most = c.max-point.ensures in let is = c.self.invariant in let early = e.told.early in let late = late_old old new is e.longer e.same in
+    let new : HookSeat = record { place = c.tell_hook.new.reader.place; visits = c.saturating_add.result; latest = c.max-point.result; head = first_head_of c.note_head.new.head; points = s.points } in
+    let most = c.max-point.ensures in let is = c.self.invariant.0 in let early = e.told.early in let late = late_old old new is e.longer e.same in
     let latest : c.max-point.result ≡ max s.latest c.max-point.result = omega (arith, most) in
     let reached : c.max-point.result ≤ point_of (seen_by new.place) = omega (arith, most, early, late) in
-    let head : first_head_of c.note_head.new.head ≡ first_of old.head (record { point = c.max-point.result; made = length (seen_by new.place); alone = true }) = c.note_head.ensures in
-    reading old new is e.longer e.same c.max-point.result latest reached (heads_noted old new is e.longer e.same c.max-point.result latest reached refl head) is.wide
-    (points_still old new is e.longer e.same (omega (arith, latest)) refl)
+    let head : first_head_of c.note_head.new.head ≡ first_of old.head (record { point = c.max-point.result; made = length (seen_by new.place); alone = true }) = c.note_head.ensures in (
+      reading old new is e.longer e.same c.max-point.result latest reached (heads_noted old new is e.longer e.same c.max-point.result latest reached refl head) is.wide
+          (points_still old new is e.longer e.same (omega (arith, latest)) refl),
+      c.tell_hook.ensures.kept,
+    )
 
 pub returns-clause-told : goal.returns-clause-told
-returns-clause-told c = let s = c.self.inside in let e = c.read_head.ensures in
+returns-clause-told c = let s = c.self.inside in let e = c.tell_hook.ensures in
     let old : HookSeat = record { place = s.reader.place; visits = s.visits; latest = s.latest; head = first_head_of s.head; points = s.points } in
-    let new : HookSeat = record { place = c.read_head.new.reader.place; visits = c.saturating_add.result; latest = c.max-point.result; head = first_head_of c.note_head.new.head; points = s.points } in
-    let most = c.max-point.ensures in let is = c.self.invariant in let early = e.told.early in let late = late_old old new is e.longer e.same in
+    let new : HookSeat = record { place = c.tell_hook.new.reader.place; visits = c.saturating_add.result; latest = c.max-point.result; head = first_head_of c.note_head.new.head; points = s.points } in
+    let most = c.max-point.ensures in let is = c.self.invariant.0 in let early = e.told.early in let late = late_old old new is e.longer e.same in
     let latest : c.max-point.result ≡ max s.latest c.max-point.result = omega (arith, most) in
     let reached : c.max-point.result ≤ point_of (seen_by new.place) = omega (arith, most, early, late) in
     let head : first_head_of c.note_head.new.head ≡ first_of old.head (record { point = c.max-point.result; made = length (seen_by new.place); alone = true }) = c.note_head.ensures in
     let stamp = e.stamp in
     let point_is : c.max-point.result ≡ max (root_of (seen_by new.place) (head_root c.args.hook)).stamp s.latest = omega (arith, most, stamp) in
-    subst (λ (v : HookSeat). WalkTold v (heads_of c.args.hook) (told_heads (heads_told c.read_head.new.into.tables)) c.max-point.result new) c.self.view_is (record {
+    subst (λ (v : HookSeat). WalkTold v (heads_of c.args.hook) (told_heads (heads_told c.tell_hook.new.into.tables)) c.max-point.result new) c.self.view_is (record {
       longer = e.longer;
       lawful = e.lawful;
       same = e.same;
-      answers = head_answered (seen_by new.place) c.args.hook c.read_head.new.into.tables c.read_head.result e.told c.max-point.result (omega (arith, most)) reached;
+      answers = head_answered (seen_by new.place) c.args.hook c.tell_hook.new.into.tables c.tell_hook.result e.told c.max-point.result (omega (arith, most)) reached;
       reached = reached;
       counted = c.saturating_add.ensures;
       latest = latest;
@@ -49,30 +51,30 @@ returns-clause-told c = let s = c.self.inside in let e = c.read_head.ensures in
     })
 
 pub returns-clause-masks : goal.returns-clause-masks
-returns-clause-masks c = let s = c.self.inside in let e = c.read_head.ensures in
+returns-clause-masks c = let s = c.self.inside in let e = c.tell_hook.ensures in
     let old : HookSeat = record { place = s.reader.place; visits = s.visits; latest = s.latest; head = first_head_of s.head; points = s.points } in
-    let new : HookSeat = record { place = c.read_head.new.reader.place; visits = c.saturating_add.result; latest = c.max-point.result; head = first_head_of c.note_head.new.head; points = s.points } in
-    let most = c.max-point.ensures in let is = c.self.invariant in let early = e.told.early in let late = late_old old new is e.longer e.same in
+    let new : HookSeat = record { place = c.tell_hook.new.reader.place; visits = c.saturating_add.result; latest = c.max-point.result; head = first_head_of c.note_head.new.head; points = s.points } in
+    let most = c.max-point.ensures in let is = c.self.invariant.0 in let early = e.told.early in let late = late_old old new is e.longer e.same in
     let latest : c.max-point.result ≡ max s.latest c.max-point.result = omega (arith, most) in
     let reached : c.max-point.result ≤ point_of (seen_by new.place) = omega (arith, most, early, late) in
     let head : first_head_of c.note_head.new.head ≡ first_of old.head (record { point = c.max-point.result; made = length (seen_by new.place); alone = true }) = c.note_head.ensures in
-    masks_told old new is e.longer e.same c.max-point.result latest reached refl head c.read_head.new.into.tables (head_masks (seen_by new.place) c.args.hook c.read_head.new.into.tables c.read_head.result e.told)
+    masks_told old new is e.longer e.same c.max-point.result latest reached refl head c.tell_hook.new.into.tables (head_masks (seen_by new.place) c.args.hook c.tell_hook.new.into.tables c.tell_hook.result e.told)
 
 pub returns-clause-kept_masks : goal.returns-clause-kept_masks
-returns-clause-kept_masks c = let s = c.self.inside in let e = c.read_head.ensures in
+returns-clause-kept_masks c = let s = c.self.inside in let e = c.tell_hook.ensures in
     let old : HookSeat = record { place = s.reader.place; visits = s.visits; latest = s.latest; head = first_head_of s.head; points = s.points } in
-    let new : HookSeat = record { place = c.read_head.new.reader.place; visits = c.saturating_add.result; latest = c.max-point.result; head = first_head_of c.note_head.new.head; points = s.points } in
-    let most = c.max-point.ensures in let is = c.self.invariant in let early = e.told.early in let late = late_old old new is e.longer e.same in
+    let new : HookSeat = record { place = c.tell_hook.new.reader.place; visits = c.saturating_add.result; latest = c.max-point.result; head = first_head_of c.note_head.new.head; points = s.points } in
+    let most = c.max-point.ensures in let is = c.self.invariant.0 in let early = e.told.early in let late = late_old old new is e.longer e.same in
     let latest : c.max-point.result ≡ max s.latest c.max-point.result = omega (arith, most) in
     let reached : c.max-point.result ≤ point_of (seen_by new.place) = omega (arith, most, early, late) in
     let head : first_head_of c.note_head.new.head ≡ first_of old.head (record { point = c.max-point.result; made = length (seen_by new.place); alone = true }) = c.note_head.ensures in
     λ mask k. masks_further old new is e.longer e.same c.max-point.result latest reached refl head mask (subst (λ (v : HookSeat). KnowsMask v mask) (sym c.self.view_is) k)
 
 pub returns-clause-kept_actions : goal.returns-clause-kept_actions
-returns-clause-kept_actions c = let s = c.self.inside in let e = c.read_head.ensures in
+returns-clause-kept_actions c = let s = c.self.inside in let e = c.tell_hook.ensures in
     let old : HookSeat = record { place = s.reader.place; visits = s.visits; latest = s.latest; head = first_head_of s.head; points = s.points } in
-    let new : HookSeat = record { place = c.read_head.new.reader.place; visits = c.saturating_add.result; latest = c.max-point.result; head = first_head_of c.note_head.new.head; points = s.points } in
-    let most = c.max-point.ensures in let is = c.self.invariant in let early = e.told.early in let late = late_old old new is e.longer e.same in
+    let new : HookSeat = record { place = c.tell_hook.new.reader.place; visits = c.saturating_add.result; latest = c.max-point.result; head = first_head_of c.note_head.new.head; points = s.points } in
+    let most = c.max-point.ensures in let is = c.self.invariant.0 in let early = e.told.early in let late = late_old old new is e.longer e.same in
     let latest : c.max-point.result ≡ max s.latest c.max-point.result = omega (arith, most) in
     let reached : c.max-point.result ≤ point_of (seen_by new.place) = omega (arith, most, early, late) in
     let head : first_head_of c.note_head.new.head ≡ first_of old.head (record { point = c.max-point.result; made = length (seen_by new.place); alone = true }) = c.note_head.ensures in

@@ -13,6 +13,7 @@ use Rattle.hook_reader.specs.Known.{KnowsMask, KnowsAction}
 use Rattle.hook_reader.specs.Told.{head_point, WalkTold}
 use Rattle.hook_reader.proofs.Visits.{actions_stay}
 use Rattle.hook_reader.proofs.Looks.{stood_after, answered_after, lived_after, look_reached, look_reading, masks_after, actions_found, found_or_none, told_as_kept}
+use Rattle.hook_reader.proofs.Copies.{heads_longer}
 use Rattle.hook_reader.proofs.reader.HookReader.visit_mask.Goals as goal
 
 pub invariant_of-self : goal.invariant_of-self
@@ -20,7 +21,7 @@ invariant_of-self c = let s = c.self.inside in let e = c.look-found.ensures in l
     let old : HookSeat = record { place = s.reader.place; visits = s.visits; latest = s.latest; head = first_head_of s.head; points = s.points } in
     let new : HookSeat = record { place = c.look-found.new.reader.place; visits = c.saturating_add.result; latest = c.max.result; head = first_head_of s.head; points = c.set.new.self } in
     let known = subst (λ (v : HookSeat). KnowsMask v mask) (sym c.self.view_is) c.requires.known in
-    let is = c.self.invariant in let hp = c.head_point.ensures in let at = c.at.ensures in let mf = c.max-floor.ensures in let mp = c.max-point.ensures in let ml = c.max.ensures in
+    let is = c.self.invariant.0 in let hp = c.head_point.ensures in let at = c.at.ensures in let mf = c.max-floor.ensures in let mp = c.max-point.ensures in let ml = c.max.ensures in
     let floor = c.max-floor.result in let loaded = c.look-found.result.1 in let point = c.max-point.result in
     let floor_is : max (head_point old.head) (slice_index s.points mask.slot) ≡ floor = omega (arith, hp, at, mf) in
     let same_point : max loaded floor ≡ point = omega (arith, mp) in
@@ -28,15 +29,17 @@ invariant_of-self c = let s = c.self.inside in let e = c.look-found.ensures in l
     let latest : c.max.result ≡ max s.latest point = omega (arith, ml) in
     let key = c.args.key.now.words in let found = c.look-found.result.0 in let actions = c.look-found.new.into in
     let stood = subst (λ (n : ℕ). MaskStood (seen_by new.place) (floor_start new.place) n mask.slot mask.serial) same_point
-    (stood_after old new e.longer e.same e.lawful mask known floor floor_is key found actions loaded _ e.found) in
-    look_reading old new is e.longer e.same e.lawful mask known known.stood.there.small loaded point point_is stood latest refl c.set.ensures
+    (stood_after old new e.longer e.same e.lawful mask known floor floor_is key found actions loaded _ e.found) in (
+      look_reading old new is e.longer e.same e.lawful mask known known.stood.there.small loaded point point_is stood latest refl c.set.ensures,
+      heads_longer (seen_by s.reader.place) (seen_by c.look-found.new.reader.place) s.ingress s.egress e.longer c.self.invariant.1,
+    )
 
 pub returns-clause-told : goal.returns-clause-told
 returns-clause-told c = λ table. let s = c.self.inside in let e = c.look-found.ensures in let mask = c.args.mask in
     let old : HookSeat = record { place = s.reader.place; visits = s.visits; latest = s.latest; head = first_head_of s.head; points = s.points } in
     let new : HookSeat = record { place = c.look-found.new.reader.place; visits = c.saturating_add.result; latest = c.max.result; head = first_head_of s.head; points = c.set.new.self } in
     let known = subst (λ (v : HookSeat). KnowsMask v mask) (sym c.self.view_is) c.requires.known in
-    let is = c.self.invariant in let hp = c.head_point.ensures in let at = c.at.ensures in let mf = c.max-floor.ensures in let mp = c.max-point.ensures in let ml = c.max.ensures in
+    let is = c.self.invariant.0 in let hp = c.head_point.ensures in let at = c.at.ensures in let mf = c.max-floor.ensures in let mp = c.max-point.ensures in let ml = c.max.ensures in
     let floor = c.max-floor.result in let loaded = c.look-found.result.1 in let point = c.max-point.result in
     let floor_is : max (head_point old.head) (slice_index s.points mask.slot) ≡ floor = omega (arith, hp, at, mf) in
     let same_point : max loaded floor ≡ point = omega (arith, mp) in
@@ -77,7 +80,7 @@ returns-clause-actions c = let s = c.self.inside in let e = c.look-found.ensures
     let old : HookSeat = record { place = s.reader.place; visits = s.visits; latest = s.latest; head = first_head_of s.head; points = s.points } in
     let new : HookSeat = record { place = c.look-found.new.reader.place; visits = c.saturating_add.result; latest = c.max.result; head = first_head_of s.head; points = c.set.new.self } in
     let known = subst (λ (v : HookSeat). KnowsMask v mask) (sym c.self.view_is) c.requires.known in
-    let is = c.self.invariant in let hp = c.head_point.ensures in let at = c.at.ensures in let mf = c.max-floor.ensures in let mp = c.max-point.ensures in let ml = c.max.ensures in
+    let is = c.self.invariant.0 in let hp = c.head_point.ensures in let at = c.at.ensures in let mf = c.max-floor.ensures in let mp = c.max-point.ensures in let ml = c.max.ensures in
     let floor = c.max-floor.result in let loaded = c.look-found.result.1 in let point = c.max-point.result in
     let floor_is : max (head_point old.head) (slice_index s.points mask.slot) ≡ floor = omega (arith, hp, at, mf) in
     let same_point : max loaded floor ≡ point = omega (arith, mp) in
@@ -96,7 +99,7 @@ returns-clause-kept_masks c = let s = c.self.inside in let e = c.look-found.ensu
     let old : HookSeat = record { place = s.reader.place; visits = s.visits; latest = s.latest; head = first_head_of s.head; points = s.points } in
     let new : HookSeat = record { place = c.look-found.new.reader.place; visits = c.saturating_add.result; latest = c.max.result; head = first_head_of s.head; points = c.set.new.self } in
     let known = subst (λ (v : HookSeat). KnowsMask v mask) (sym c.self.view_is) c.requires.known in
-    let is = c.self.invariant in let hp = c.head_point.ensures in let at = c.at.ensures in let mf = c.max-floor.ensures in let mp = c.max-point.ensures in let ml = c.max.ensures in
+    let is = c.self.invariant.0 in let hp = c.head_point.ensures in let at = c.at.ensures in let mf = c.max-floor.ensures in let mp = c.max-point.ensures in let ml = c.max.ensures in
     let floor = c.max-floor.result in let loaded = c.look-found.result.1 in let point = c.max-point.result in
     let floor_is : max (head_point old.head) (slice_index s.points mask.slot) ≡ floor = omega (arith, hp, at, mf) in
     let same_point : max loaded floor ≡ point = omega (arith, mp) in
@@ -112,7 +115,7 @@ returns-clause-kept_actions c = let s = c.self.inside in let e = c.look-found.en
     let old : HookSeat = record { place = s.reader.place; visits = s.visits; latest = s.latest; head = first_head_of s.head; points = s.points } in
     let new : HookSeat = record { place = c.look-found.new.reader.place; visits = c.saturating_add.result; latest = c.max.result; head = first_head_of s.head; points = c.set.new.self } in
     let known = subst (λ (v : HookSeat). KnowsMask v mask) (sym c.self.view_is) c.requires.known in
-    let is = c.self.invariant in let hp = c.head_point.ensures in let at = c.at.ensures in let mf = c.max-floor.ensures in let mp = c.max-point.ensures in let ml = c.max.ensures in
+    let is = c.self.invariant.0 in let hp = c.head_point.ensures in let at = c.at.ensures in let mf = c.max-floor.ensures in let mp = c.max-point.ensures in let ml = c.max.ensures in
     let floor = c.max-floor.result in let loaded = c.look-found.result.1 in let point = c.max-point.result in
     let floor_is : max (head_point old.head) (slice_index s.points mask.slot) ≡ floor = omega (arith, hp, at, mf) in
     let same_point : max loaded floor ≡ point = omega (arith, mp) in
