@@ -1,0 +1,3 @@
+pub mod Living
+pub mod Apart
+pub mod Resizing
