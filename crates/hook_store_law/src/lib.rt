@@ -15,6 +15,13 @@
 //! the tables, the words and the filters are those of the plain state after so many of the edits that the
 //! commits carry. A mask stands at a slot where a head names it with that slot.
 //!
+//! # Why stamps rise
+//!
+//! The second part of the law is about words of roots alone (`root_word_laws`): each commit has a later stamp
+//! than what its root named, or names no chain. The law of a hook says nothing of the kind: two commits
+//! without a number could put two chains to a root that stands for nothing, at one point. Readers rest on it
+//! when they find a word again that they have read before.
+//!
 //! # Who uses it
 //!
 //! The desk above, which makes the store, its writer and its readers, and decides which commits an edit

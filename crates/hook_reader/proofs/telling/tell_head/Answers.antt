@@ -1,4 +1,4 @@
-use Rattle.std.proofs.Common.{◌≡◌, ◌∙◌, ℕ, ◌≤◌, sym, ap, arith}
+use Rattle.std.proofs.Common.{◌≡◌, ◌∙◌, sym, ap, arith}
 use Rattle.store_history.proofs.Histories.{prefix_length}
 use Rattle.pin_store.specs.Calls.{seen_by, floor_start, start_in}
 use Rattle.hook_reader.proofs.Copies.{few_told, told_by_word}
