@@ -27,4 +27,5 @@ pub record IsKept (h : List (Commit Edit)) (root : ℕ) (kept : Kept) : Type 0 w
 
 -- those of both hooks are
 abbrev pub KeepsHeads : List (Commit Edit) → Kept → Kept → Type 0
-KeepsHeads h ingress egress = IsKept h (head_root hooks.Ingress) ingress × IsKept h (head_root hooks.Egress) egress
+KeepsHeads h ingress egress = IsKept h (head_root hooks.Ingress) ingress
+    × IsKept h (head_root hooks.Egress) egress

@@ -3,9 +3,8 @@
 //! The hook is kept in a store of blocks that one writer fills and many readers walk. Such a store keeps one
 //! law, over the list of its commits, and its readers learn what the law says of what they loaded. `HookLaw`
 //! is that law (`specs/Kept.antt`): the law of a hook (`hook_law`) at this project's states, edits and blocks
-//! (`hook_meaning`), and that each commit gives its root a greater stamp than it had (`root_word_laws`). So a
-//! reader that meets a root's word again knows the chain behind it. What a numbered commit carries is an
-//! `Edit`.
+//! (`hook_meaning`), and that the stamps of each root rise (`root_word_laws`). What a numbered commit carries
+//! is an `Edit`.
 //!
 //! # Why one type
 //!
