@@ -1,2 +1,3 @@
 pub mod RootsOf
 pub mod Steps
+pub mod Opening

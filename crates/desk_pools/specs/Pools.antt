@@ -1,5 +1,5 @@
 -- What of a hook's store may be given again (this project's own). `h` is all commits, b is the base.
-use Rattle.std.specs.Prelude.{◌≡◌, ℕ, ◌+◌, ◌*◌, ◌<◌, ◌≤◌, List, ◌++◌, true}
+use Rattle.std.specs.Prelude.{◌≡◌, ℕ, ◌+◌, ◌*◌, ◌<◌, ◌≤◌, List, [], ◌++◌, true}
 use Rattle.std.specs.List.{range_with_len, flat_map}
 use Rattle.tc_base.specs.declared.hook.Hook.{Hook}
 use Rattle.tc_base.specs.declared.hook.Hook.TheVariants.{Ingress, Egress}
@@ -54,3 +54,12 @@ pub record ArePools (pools : Pools) (h : List (Commit Edit)) (b : ℕ) : Type 0 
   pub ingress : IsIdle h b Ingress pools.ingress
   pub egress : IsIdle h b Egress pools.egress
   pub one_root : HaveOneRoot h
+
+-- nothing has left that isn't free
+pub record IsNothingLeft (pools : Pools) : Type 0 where
+  pub blocks : pools.blocks.left ≡ []
+  pub rows : pools.rows.left ≡ []
+  pub masks : pools.masks.left ≡ []
+  pub actions : pools.actions.left ≡ []
+  pub ingress : pools.ingress.is_free ≡ true
+  pub egress : pools.egress.is_free ≡ true

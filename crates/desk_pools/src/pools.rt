@@ -1,6 +1,9 @@
 //! What of each pool may be given, and what left.
 
+use block_codec::places::{ACTION_SLOTS, MASK_SLOTS, POOL_BLOCKS, ROWS};
 use number_pools::Pool;
+use std::alloc::Global;
+use tc_base::NoMemory;
 
 /// The place of a hook's tables that isn't active: 0 or 1, and whether it may be filled.
 #[derive(Clone, Copy)]
@@ -8,6 +11,12 @@ pub struct IdlePlace {
     pub place: u32,
     pub is_free: bool,
 }
+
+// Each hook's tables begin at place 0.
+const FIRST_IDLE: IdlePlace = IdlePlace {
+    place: 1,
+    is_free: true,
+};
 
 /// The pools of a hook's store.
 #[derive(Drop)]
@@ -21,14 +30,33 @@ pub struct Pools {
 }
 
 impl Pools {
-    ghost use Rattle.std.specs.Prelude.{◌≡◌, ◌<◌, ◌+◌, ◌++◌, ◌∷◌, [], ℕ, List, length};
+    ghost use Rattle.std.specs.Prelude.{◌≡◌, ◌<◌, ◌+◌, ◌++◌, ◌∷◌, [], ℕ, List, length, IfOk};
     ghost use Rattle.store_history.specs.declared.history.Commit.{Commit};
     ghost use Rattle.filter_state.specs.declared.edit.Edit.{Edit};
     ghost use Rattle.pin_store.specs.Calls.{IsUnnamed};
     ghost use Rattle.block_codec.specs.declared.places.TheConstants.{POOL_BLOCKS, ACTION_SLOTS, ACTION_ROOTS};
     ghost use Rattle.root_pool_laws.specs.Blocks.{IsLeft};
-    ghost use Rattle.desk_pools.specs.Pools.{gone_roots, IsFreeAt, IsLeftAt, ArePools};
+    ghost use Rattle.desk_pools.specs.Pools.{gone_roots, IsFreeAt, IsLeftAt, ArePools, IsNothingLeft};
     ghost use Rattle.desk_pools.specs.Steps.{IsInPool, IsTaken};
+
+    /// The pools of a new store, in which all is free: the active place of each hook is 0. It takes all the
+    /// room that they ever need.
+    ///
+    /// `NoMemory`: memory was refused.
+    pub fn new(alloc: Global) -> Result<Pools, NoMemory>
+        ensures pools { IfOk result (λ p. ArePools p [] 0) }
+        ensures none { IfOk result IsNothingLeft }
+        ensures places { IfOk result (λ p. (p.ingress.place ≡ 1) × (p.egress.place ≡ 1)) }
+    {
+        Ok(Pools {
+            blocks: Pool::with_size(alloc, POOL_BLOCKS)?,
+            rows: Pool::with_size(alloc, ROWS)?,
+            masks: Pool::with_size(alloc, MASK_SLOTS)?,
+            actions: Pool::with_size(alloc, ACTION_SLOTS)?,
+            ingress: FIRST_IDLE,
+            egress: FIRST_IDLE,
+        })
+    }
 
     /// Takes a free block.
     pub fn take_block(&mut self) -> u32

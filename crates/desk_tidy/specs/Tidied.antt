@@ -50,12 +50,3 @@ AreTidied old new = IsTidied old.blocks new.blocks × IsTidied old.rows new.rows
     × (new.ingress.place ≡ old.ingress.place) × (new.egress.place ≡ old.egress.place)
     × (old.ingress.is_free ≡ true → new.ingress.is_free ≡ true)
     × (old.egress.is_free ≡ true → new.egress.is_free ≡ true)
-
--- nothing has left that isn't free
-pub record IsNothingLeft (pools : Pools) : Type 0 where
-  pub blocks : pools.blocks.left ≡ []
-  pub rows : pools.rows.left ≡ []
-  pub masks : pools.masks.left ≡ []
-  pub actions : pools.actions.left ≡ []
-  pub ingress : pools.ingress.is_free ≡ true
-  pub egress : pools.egress.is_free ≡ true

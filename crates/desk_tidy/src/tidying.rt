@@ -5,8 +5,8 @@ ghost use Rattle.pin_store.specs.declared.scan.Scan.TheVariants.{Quiet};
 ghost use Rattle.pin_store.specs.Sheets.{base_of};
 ghost use Rattle.pin_store.specs.Calls.{seen_by, sheet_of, IsSeatOf};
 ghost use Rattle.hook_store_law.specs.Kept.{IsKeptAt};
-ghost use Rattle.desk_pools.specs.Pools.{gone_roots, ArePools};
-ghost use Rattle.desk_tidy.specs.Tidied.{emptying, IsTwiceIn, Empties, AreTidied, IsNothingLeft};
+ghost use Rattle.desk_pools.specs.Pools.{gone_roots, ArePools, IsNothingLeft};
+ghost use Rattle.desk_tidy.specs.Tidied.{emptying, IsTwiceIn, Empties, AreTidied};
 
 use crate::emptying::empty_each;
 use crate::settling::settle;

@@ -1,0 +1,17 @@
+use Rattle.std.proofs.Common.{◌≡◌, refl}
+use Rattle.desk_pools.proofs.Opening.{pools_open}
+use Rattle.desk_pools.proofs.pools.Pools.new.Goals as goal
+
+pub returns-clause-pools : goal.returns-clause-pools
+returns-clause-pools c = let blocks = c.in_ok-with_size.ensures in let rows = c.in_ok-with_size-2.ensures in let masks = c.in_ok-with_size-3.ensures in let actions = c.in_ok-with_size-4.ensures in
+    pools_open _ (blocks.free, blocks.left) (rows.free, rows.left) (masks.free, masks.left) (actions.free, actions.left) (refl, refl)
+
+pub returns-clause-none : goal.returns-clause-none
+returns-clause-none c = record {
+  blocks = c.in_ok-with_size.ensures.left;
+  rows = c.in_ok-with_size-2.ensures.left;
+  masks = c.in_ok-with_size-3.ensures.left;
+  actions = c.in_ok-with_size-4.ensures.left;
+  ingress = refl;
+  egress = refl;
+}
