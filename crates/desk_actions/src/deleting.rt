@@ -39,7 +39,8 @@ pub fn delete<E: EditName<Edit>>(
     requires live { is_live kind index (now (commits ledger.old)).actions ≡ true }
     requires pools { ArePools pools.old (commits ledger.old) (base ledger.old) }
     requires blocks { length pools.old.blocks.free + length pools.old.blocks.left < pools.old.blocks.size }
-    requires actions { length pools.old.actions.free + length pools.old.actions.left < pools.old.actions.size }
+    requires actions { length pools.old.actions.free + length pools.old.actions.left
+        < pools.old.actions.size }
     requires places { AreHere places.now (commits ledger.old) }
     requires few { ledger.old.point + 1 < 2 ^ 32 }
     ensures store { IsSeatOf store.now ledger.new.writer.place }

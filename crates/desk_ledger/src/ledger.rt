@@ -27,7 +27,8 @@ impl Ledger {
     ghost use Rattle.desk_ledger.specs.Kept.{commits, IsWhole};
 
     /// Does an edit that was made ready and that no walk can see, and makes its commit, to the marker root.
-    /// The commit carries the edit that `E` names, which is the one that was made ready, with the next number.
+    /// The commit carries the edit that `E` names, which is the one that was made ready, with the next
+    /// number.
     pub fn mark<E: EditName<Edit>>(&mut self, store: &HookStore, prepared: Prepared) -> Done
         requires store { IsSeatOf store.now self.old.writer.place }
         requires shape { ROOTS ≤ store.now.shape.roots }

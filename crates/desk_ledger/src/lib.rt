@@ -6,9 +6,9 @@
 //! state to which the edits of the commits lead. So what the lists refuse the journal's state refuses, and
 //! what they answer is its answer.
 //!
-//! `Ledger::mark` is the first kind of edit: those that no walk can see. The qdisc comes or goes, which changes
-//! nothing that a walk asks for; and a deleted action is named by no filter. The commit is to a root that
-//! nobody loads, and carries the edit and its number alone.
+//! `Ledger::mark` is the first kind of edit: those that no walk can see. The qdisc comes or goes, which
+//! changes nothing that a walk asks for; and a deleted action is named by no filter. The commit is to a root
+//! that nobody loads, and carries the edit and its number alone.
 //!
 //! The thread that has the store's writer calls. No call takes memory: an edit was made ready before
 //! (`filter_lists::Lists::prepare`), so that nothing can fail once the lists have changed.

@@ -6,8 +6,10 @@ use Rattle.tc_base.specs.declared.hook.Hook.TheVariants.{Ingress, Egress}
 use Rattle.store_history.specs.declared.history.Commit.{Commit}
 use Rattle.pin_store.specs.Calls.{IsUnnamed}
 use Rattle.filter_state.specs.declared.edit.Edit.{Edit}
-use Rattle.block_codec.specs.declared.places.TheConstants.{MASK_SLOTS, ACTION_SLOTS, ROWS, ROW_BUCKETS, TABLES}
-use Rattle.block_codec.specs.declared.places.TheConstants.{MASK_ROOTS, ACTION_ROOTS, BUCKET_ROOTS, POOL_BLOCKS}
+use Rattle.block_codec.specs.declared.places.TheConstants.{MASK_SLOTS, ACTION_SLOTS, ROWS, ROW_BUCKETS}
+use Rattle.block_codec.specs.declared.places.TheConstants.{TABLES}
+use Rattle.block_codec.specs.declared.places.TheConstants.{MASK_ROOTS, ACTION_ROOTS, BUCKET_ROOTS}
+use Rattle.block_codec.specs.declared.places.TheConstants.{POOL_BLOCKS}
 use Rattle.hook_law.specs.Standing.{IsUnused}
 use Rattle.hook_meaning.specs.Stated.{hook_meaning}
 use Rattle.hook_meaning.specs.Blocks.{hook_codec}
@@ -40,11 +42,13 @@ IsLeftAt h first width number = (j : ℕ) → j < width
 pub record IsIdle (h : List (Commit Edit)) (b : ℕ) (hook : Hook) (idle : IdlePlace) : Type 0 where
   pub within : idle.place ≤ 1
   pub none : (at : ℕ) → at < TABLES → (r : ℕ) → HasBlock h r (first_block_of hook idle.place + at) → ⊥
-  pub free : idle.is_free ≡ true → (at : ℕ) → at < TABLES → IsUnnamed b h (first_block_of hook idle.place + at)
+  pub free : idle.is_free ≡ true → (at : ℕ) → at < TABLES
+      → IsUnnamed b h (first_block_of hook idle.place + at)
 
 -- THE POOLS, as facts over the commits and the base
 pub record ArePools (pools : Pools) (h : List (Commit Edit)) (b : ℕ) : Type 0 where
-  pub blocks : IsPool POOL_BLOCKS (IsUnnamed b h) (IsLeft (gone_roots pools) h) pools.blocks.free pools.blocks.left
+  pub blocks : IsPool POOL_BLOCKS (IsUnnamed b h) (IsLeft (gone_roots pools) h) pools.blocks.free
+      pools.blocks.left
   pub rows : IsPool ROWS (IsFreeAt h b BUCKET_ROOTS ROW_BUCKETS) (IsLeftAt h BUCKET_ROOTS ROW_BUCKETS)
       pools.rows.free pools.rows.left
   pub masks : IsPool MASK_SLOTS (IsFreeAt h b MASK_ROOTS 1) (IsLeftAt h MASK_ROOTS 1) pools.masks.free

@@ -18,8 +18,8 @@ pub fn head_chains_read()
     ensures reads { (hook : Hook) (place : ℕ) (tables : List StoredTable) (s : State) → place ≤ 1
         → All FitsTable tables → length tables ≤ TABLES
         → map stated_of tables ≡ tables_at s (hook_number hook)
-        → ReadsHead hook_meaning hook_codec (hook_number hook) (table_links (first_block_of hook place) tables)
-        s }
+        → ReadsHead hook_meaning hook_codec (hook_number hook)
+        (table_links (first_block_of hook place) tables) s }
     ensures names { (first : ℕ) (tables : List StoredTable) (mask slot : ℕ) → All FitsTable tables
         → first + length tables < 2 ^ 32
         → Names hook_codec (table_links first tables) mask slot → IsNamedIn tables mask slot }

@@ -6,8 +6,8 @@ use miniq_pair::HeadLaw;
 use pin_store::Store;
 use store_history::Law;
 
-/// The law of the hook's store: what `hook_law` asks of its commits, at this project's terms, and that one word
-/// of a root names one chain. Nothing is made of this type.
+/// The law of the hook's store: what `hook_law` asks of its commits, at this project's terms, and that the
+/// stamps of each root rise. Nothing is made of this type.
 pub struct HookLaw;
 
 /// The store of a hook: blocks and roots that keep the law.

@@ -1,5 +1,5 @@
--- A mask that is given another number of buckets, in the law's terms (this project's own). `h` is all commits,
--- b is the base.
+-- A mask that is given another number of buckets, in the law's terms (this project's own). `h` is all
+-- commits, b is the base.
 use Rattle.std.specs.Prelude.{◌≡◌, ℕ, ◌<◌, ◌^◌, List, length, map, eqb}
 use Rattle.std.specs.List.{IsDistinct}
 use Rattle.store_history.specs.declared.history.Commit.{Commit}

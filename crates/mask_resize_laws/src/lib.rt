@@ -8,8 +8,8 @@
 //!
 //! Laws only: there is nothing here to call at run time, so any thread may do anything with it.
 //!
-//! Not promised: that blocks and rows are there, which is the pools' matter; nor anything of a mask that comes
-//! new with its head.
+//! Not promised: that blocks and rows are there, which is the pools' matter; nor anything of a mask that
+//! comes new with its head.
 #![tactic(auto)]
 
 mod laws;
