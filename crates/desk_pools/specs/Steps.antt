@@ -1,5 +1,5 @@
--- What a commit may do to what is in the pools (this project's own). `h` is all commits before it, and b is the
--- base.
+-- What a commit may do to what is in the pools (this project's own). `h` is all commits before it, and b is
+-- the base.
 use Rattle.std.specs.Prelude.{ℕ, ◌<◌, ◌⊎◌, List, [], ◌∷◌, ◌++◌}
 use Rattle.store_history.specs.declared.history.Commit.{Commit}
 use Rattle.pin_store.specs.Calls.{IsUnnamed}
