@@ -15,6 +15,7 @@
 #![tactic(auto)]
 
 mod carrying;
+mod counting;
 mod names;
 mod plan;
 mod planned;

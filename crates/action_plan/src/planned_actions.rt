@@ -8,6 +8,7 @@ ghost use Rattle.action_plan.specs.Entries.{actions_of};
 ghost use Rattle.action_plan.specs.Plans.{made_of, carried, AreFit, made_by};
 
 use crate::carrying::carry_out;
+use crate::counting::count_made;
 use crate::planned::PlannedAction;
 use act_kinds::Params;
 use act_registry::Registry;
@@ -52,6 +53,14 @@ impl PlannedActions {
         ensures short { length self.now ≤ LINE_ACTIONS_MAX }
     {
         self.parts.len()
+    }
+
+    /// How many actions are to be made.
+    pub fn made(&self) -> u32
+        ensures made { result ≡ made_by self.now }
+        ensures few { result ≤ LINE_ACTIONS_MAX }
+    {
+        count_made(&self.parts)
     }
 
     /// Does what was planned. It takes no memory.

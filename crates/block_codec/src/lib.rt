@@ -27,8 +27,6 @@ mod parameters;
 pub mod places;
 mod row_numbers;
 mod table;
-#[cfg(test)]
-mod tests;
 
 pub use action::{StoredAction, read_action, write_action};
 pub use filter::{StoredFilter, read_filter, write_filter};

@@ -3,7 +3,6 @@ pub mod Limits
 pub mod StandingMasks
 pub mod StillHeads
 pub mod Searching
-pub mod MaskRows
 pub mod MetFilters
 pub mod EvenKeys
 pub mod StandingFilters

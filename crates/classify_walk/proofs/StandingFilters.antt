@@ -23,7 +23,7 @@ use Rattle.walk_rules.proofs.OtherOrder.{answers_same}
 use Rattle.walk_steps.specs.Told.{action_serials, filter_told}
 use Rattle.classify_walk.specs.Answered.{StandsMask, StandsAction}
 use Rattle.classify_walk.specs.Found.{IsMaskOf, is_met, actions_in, FewActions, AreTidy}
-use Rattle.classify_walk.proofs.MaskRows.{mask_rows, filters_stand}
+use Rattle.head_laws.proofs.MaskRows.{mask_rows, filters_stand}
 use Rattle.classify_walk.proofs.MetFilters.{met_actions, told_is}
 
 -- ---- of all to one

@@ -13,11 +13,9 @@ use Rattle.filter_tables.specs.Rows.{tables_on}
 use Rattle.hook_lists.specs.declared.kept.Kept.{Kept}
 use Rattle.hook_lists.specs.States.{both_of, AreKept}
 use Rattle.walk_rules.specs.Questions.{Answer, told_no_filter, told_actions}
+pub use Rattle.head_laws.specs.Heads.{is_mask}
 
 -- ---- a mask by its serial
-abbrev pub is_mask : ℕ → PlainMask → Bool
-is_mask serial mask = mask.serial == serial
-
 abbrev pub has_mask : ℕ → PlainTable → Bool
 has_mask serial table = list_any (is_mask serial) table.masks
 

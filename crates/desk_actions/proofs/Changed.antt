@@ -1,27 +1,24 @@
 -- An action that an edit changes: the law goes on, and where it is.
-use Rattle.std.proofs.Common.{◌≡◌, ◌≢◌, ◌∙◌, ◌⊎◌, inl, inr, ℕ, ◌+◌, ◌*◌, ◌<◌, ◌≤◌, ◌&&◌, ◌==◌, Bool, true, false, cond, eqb, List, [], ◌∷◌, ◌++◌, length, get_or, slice_get, slice_set, Option, Some, None, Ok, Err, refl, sym, ap, subst, arith, eqb-true, zero, suc}
+use Rattle.std.proofs.Common.{◌≡◌, ◌≢◌, ◌∙◌, ◌⊎◌, inl, inr, ℕ, ◌+◌, ◌<◌, ◌≤◌, ◌&&◌, ◌==◌, Bool, true, false, cond, eqb, List, [], ◌∷◌, ◌++◌, Option, Some, None, Ok, refl, sym, ap, subst, arith, eqb-true}
 use Rattle.std.specs.Option.{option_map, unwrap_or}
 use Rattle.std.proofs.lemmas.Bool.{eqb-false}
 use Rattle.std.proofs.lemmas.List.{get_or-set_same, get_or-set_other, length-set}
-use Rattle.store_history.specs.declared.history.Link.{Link}
 use Rattle.store_history.specs.declared.history.Named.{Named}
 use Rattle.store_history.specs.declared.history.Commit.{Commit}
-use Rattle.store_history.specs.History.{root_of}
 use Rattle.store_history.proofs.Lists.{some_is}
 use Rattle.store_history.proofs.Histories.{root_own, root_other}
 use Rattle.act_kinds.specs.declared.params.Kind.{Kind}
 use Rattle.act_kinds.specs.declared.params.Params.{Params}
 use Rattle.filter_state.specs.declared.action_line.ActionLine.{ActionLine}
 use Rattle.filter_state.specs.declared.edit.Edit.{Edit}
-use Rattle.filter_state.specs.declared.edit.Edit.TheVariants as edits
 use Rattle.filter_state.specs.declared.refusal.Done.{Done}
 use Rattle.filter_state.specs.declared.refusal.Done.TheVariants as dones
 use Rattle.filter_state.specs.States.{Action, State}
-use Rattle.filter_state.specs.Actions.{is_named, is_live, kind_eq}
+use Rattle.filter_state.specs.Actions.{is_named, kind_eq}
 use Rattle.act_kinds.specs.Params.{kind_of}
 use Rattle.edit_effect_laws.proofs.Accepted.{same_step}
 use Rattle.filter_state.specs.Tables.{first_where}
-use Rattle.filter_state.specs.Steps.{Stepped, step, make_given, change_given, with_params}
+use Rattle.filter_state.specs.Steps.{step, make_given, change_given}
 use Rattle.block_reading.specs.Read.{action_of_words}
 use Rattle.hook_law.specs.Places.{action_root}
 use Rattle.hook_law.specs.Records.{ActionRecord}

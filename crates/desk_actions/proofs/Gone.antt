@@ -1,15 +1,12 @@
 -- An action that an edit deletes: where the others are, and what leaves.
-use Rattle.std.proofs.Common.{◌≡◌, ◌≢◌, ◌∙◌, ◌⊎◌, inl, inr, ℕ, ◌+◌, ◌*◌, ◌<◌, ◌≤◌, Bool, true, false, cond, eqb, eqb-true, eq-eqb, List, [], ◌∷◌, ◌++◌, length, slice_get, Option, Some, None, Ok, refl, sym, ap, subst, arith, zero, suc}
+use Rattle.std.proofs.Common.{◌≡◌, ◌≢◌, ◌∙◌, ◌⊎◌, inl, inr, ℕ, ◌+◌, ◌*◌, ◌<◌, ◌≤◌, Bool, true, false, cond, eq-eqb, List, [], ◌∷◌, ◌++◌, Option, Some, None, Ok, refl, sym, ap, subst, arith}
 use Rattle.std.specs.Option.{option_map}
-use Rattle.std.proofs.lemmas.Bool.{eqb-false}
-use Rattle.store_history.specs.declared.history.Link.{Link}
 use Rattle.store_history.specs.declared.history.Named.{Named}
 use Rattle.store_history.specs.declared.history.Commit.{Commit}
 use Rattle.store_history.specs.History.{root_of}
 use Rattle.store_history.proofs.Lists.{some_is}
 use Rattle.store_history.proofs.Histories.{root_other}
 use Rattle.act_kinds.specs.declared.params.Kind.{Kind}
-use Rattle.act_kinds.specs.declared.params.Params.{Params}
 use Rattle.filter_state.specs.declared.edit.Edit.{Edit}
 use Rattle.filter_state.specs.declared.edit.Edit.TheVariants as edits
 use Rattle.filter_state.specs.declared.refusal.Done.{Done}
@@ -40,7 +37,7 @@ use Rattle.root_pool_laws.proofs.Blocks.{has_push}
 use Rattle.root_pool_laws.proofs.Apart.{in_left, in_right}
 use Rattle.desk_pools.specs.declared.pools.Pools.{Pools}
 use Rattle.desk_pools.specs.Pools.{roots_of, gone_roots, IsLeftAt, ArePools}
-use Rattle.desk_pools.specs.Steps.{IsInPool, LeavesPools}
+use Rattle.desk_pools.specs.Steps.{IsInPool}
 use Rattle.desk_pools.proofs.RootsOf.{roots_have}
 use Rattle.desk_pools.proofs.Steps.{pools_commit, standing_block}
 use Rattle.desk_ledger.specs.Ledger.{mark_at}

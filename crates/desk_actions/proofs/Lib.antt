@@ -5,3 +5,4 @@ pub mod Changed
 pub mod Turning
 pub mod Names
 pub mod Gone
+pub mod Counted

@@ -1,9 +1,5 @@
 -- Places of actions before any edit.
-use Rattle.std.proofs.Common.{◌≡◌, ℕ, zero, suc, ◌<◌, List, [], length, get_or, replicate, slice_get, Some, refl, arith}
-use Rattle.filter_state.specs.declared.edit.Edit.{Edit}
-use Rattle.store_history.specs.declared.history.Commit.{Commit}
-use Rattle.hook_meaning.specs.Stated.{hook_meaning}
-use Rattle.hook_meaning.specs.Blocks.{hook_codec}
+use Rattle.std.proofs.Common.{◌≡◌, ℕ, zero, suc, ◌<◌, [], length, get_or, replicate, refl, arith}
 use Rattle.desk_actions.specs.Places.{Placed, AreHere}
 
 zeros : (n i : ℕ) → ◌≡◌ {A = ℕ} (get_or (replicate n 0) i 0) 0

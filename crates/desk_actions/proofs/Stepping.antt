@@ -1,5 +1,5 @@
 -- An edit that makes an action, from the lists to the commit.
-use Rattle.std.proofs.Common.{◌≡◌, ◌≢◌, ◌∙◌, ◌⊎◌, inl, inr, ℕ, ◌+◌, ◌*◌, ◌<◌, ◌≤◌, List, [], ◌∷◌, ◌++◌, length, get_or, slice_get, Option, Some, None, Ok, refl, sym, ap, subst, arith, zero, suc}
+use Rattle.std.proofs.Common.{◌≡◌, ◌≢◌, ◌∙◌, ◌⊎◌, inl, inr, ℕ, ◌+◌, ◌*◌, ◌<◌, List, [], ◌∷◌, ◌++◌, get_or, slice_get, Some, refl, sym, ap, subst, arith, zero, suc}
 use Rattle.store_history.specs.declared.history.Link.{Link}
 use Rattle.store_history.specs.declared.history.Commit.{Commit}
 use Rattle.pin_store.specs.declared.view.Sheet.{Sheet}
@@ -16,7 +16,7 @@ use Rattle.hook_lists.specs.declared.kept.Kept.{Kept}
 use Rattle.filter_lists.specs.Edits.{IsFinished}
 use Rattle.hook_law.specs.Places.{mask_root, action_root, bucket_root}
 use Rattle.hook_law.specs.Meaning.{point_of}
-use Rattle.hook_law.specs.Standing.{Role, IsIn, IsUnused, Stands}
+use Rattle.hook_law.specs.Standing.{IsIn, IsUnused}
 use Rattle.hook_law.specs.Keeping.{Keeps, IsAtRest}
 use Rattle.hook_meaning.specs.Stated.{hook_meaning}
 use Rattle.hook_meaning.specs.Blocks.{hook_codec}

@@ -1,11 +1,10 @@
 -- An edit that changes an action, from the lists to what leaves.
-use Rattle.std.proofs.Common.{◌≡◌, ◌≢◌, ◌∙◌, ◌⊎◌, inl, inr, ℕ, ◌+◌, ◌*◌, ◌<◌, ◌≤◌, Bool, true, false, eqb, eqb-true, List, [], ◌∷◌, ◌++◌, length, slice_get, Option, Some, None, refl, sym, ap, subst, arith, zero, suc}
+use Rattle.std.proofs.Common.{◌≡◌, ◌∙◌, inl, inr, ℕ, ◌+◌, ◌*◌, ◌<◌, ◌≤◌, Bool, true, false, eqb, eqb-true, List, [], ◌∷◌, ◌++◌, length, slice_get, Some, refl, sym, ap, subst, arith, zero, suc}
 use Rattle.std.specs.Option.{unwrap_or}
 use Rattle.std.proofs.lemmas.Bool.{eqb-false}
 use Rattle.store_history.specs.declared.history.Link.{Link}
 use Rattle.store_history.specs.declared.history.Named.{Named}
 use Rattle.store_history.specs.declared.history.Commit.{Commit}
-use Rattle.store_history.specs.History.{root_of}
 use Rattle.store_history.proofs.Histories.{root_own, root_other}
 use Rattle.pin_store.specs.Calls.{IsUnnamed}
 use Rattle.act_kinds.specs.declared.params.Params.{Params}
@@ -22,7 +21,7 @@ use Rattle.hook_lists.specs.declared.kept.Kept.{Kept}
 use Rattle.filter_lists.specs.Edits.{IsFinished}
 use Rattle.hook_law.specs.Places.{action_root}
 use Rattle.hook_law.specs.Meaning.{point_of}
-use Rattle.hook_law.specs.Standing.{Role, Action as ActionRole, IsIn, Stands}
+use Rattle.hook_law.specs.Standing.{Role, Action as ActionRole, Stands}
 use Rattle.hook_law.specs.Keeping.{Keeps, IsAtRest}
 use Rattle.hook_law.proofs.Standing.{unused_end}
 use Rattle.hook_meaning.specs.Stated.{hook_meaning}

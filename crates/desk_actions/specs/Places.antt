@@ -5,6 +5,7 @@ use Rattle.store_history.specs.History.{root_of}
 use Rattle.act_registry.specs.declared.limits.TheConstants.{MADE_MAX}
 use Rattle.block_codec.specs.declared.places.TheConstants.{ACTION_SLOTS, POOL_BLOCKS}
 use Rattle.filter_state.specs.declared.edit.Edit.{Edit}
+use Rattle.filter_state.specs.States.{State}
 use Rattle.hook_law.specs.Places.{action_root}
 use Rattle.hook_law.specs.Meaning.{IsLive}
 use Rattle.hook_law.specs.Standing.{IsSlotOf}
@@ -28,16 +29,20 @@ abbrev pub IsAlone : List (Commit Edit) → ℕ → ℕ → Type 0
 IsAlone h slot block = (block < POOL_BLOCKS) × (words : List ℕ)
     × ((root_of h (action_root slot)).chain ≡ record { block = block; words = words } ∷ [])
 
--- each live action has its slot by commits and its record in one block; and no commit put an action that
--- was never made
-pub record AreHere (placed : Placed) (h : List (Commit Edit)) : Type 0 where
+-- each action that is live in the state has its slot by commits and its record in one block; and no commit
+-- put an action that was never made there
+pub record AreHereFor (placed : Placed) (h : List (Commit Edit)) (s : State) : Type 0 where
   pub long : length placed.slots ≡ MADE_MAX + 1
   pub wide : length placed.blocks ≡ ACTION_SLOTS
-  pub slots : (action : ℕ) → IsLive hook_meaning (now h) action
+  pub slots : (action : ℕ) → IsLive hook_meaning s action
       → IsSlotOf hook_codec h action (slot_of placed action)
-  pub blocks : (action : ℕ) → IsLive hook_meaning (now h) action
+  pub blocks : (action : ℕ) → IsLive hook_meaning s action
       → IsAlone h (slot_of placed action) (block_of placed (slot_of placed action))
-  pub made : (action slot : ℕ) → IsSlotOf hook_codec h action slot → action ≤ (now h).actions_made
+  pub made : (action slot : ℕ) → IsSlotOf hook_codec h action slot → action ≤ s.actions_made
+
+-- those of the state that the commits have come to
+abbrev pub AreHere : Placed → List (Commit Edit) → Type 0
+AreHere placed h = AreHereFor placed h (now h)
 
 -- an action at a slot, with its record in a block
 abbrev pub put_at : Placed → ℕ → ℕ → ℕ → Placed
@@ -45,3 +50,7 @@ put_at placed action slot block = record {
   slots = slice_set placed.slots action slot;
   blocks = slice_set placed.blocks slot block;
 }
+
+-- no record at a slot
+abbrev pub cleared_at : Placed → ℕ → Placed
+cleared_at placed slot = record placed { blocks = slice_set placed.blocks slot POOL_BLOCKS }

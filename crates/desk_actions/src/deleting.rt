@@ -1,15 +1,18 @@
 //! A live action is deleted.
-ghost use Rattle.std.specs.Prelude.{◌≡◌, ◌<◌, ◌≤◌, ◌+◌, ◌^◌, length, true, Ok};
+ghost use Rattle.std.specs.Prelude.{◌≡◌, ◌<◌, ◌≤◌, ◌+◌, ◌^◌, ◌∷◌, ◌++◌, [], length, true, Ok};
 ghost use Rattle.block_codec.specs.declared.places.TheConstants.{ROOTS};
-ghost use Rattle.pin_store.specs.Calls.{IsSeatOf};
+ghost use Rattle.store_history.specs.History.{edits_of};
+ghost use Rattle.pin_store.specs.Calls.{sheet_of, IsSeatOf};
 ghost use Rattle.filter_state.specs.declared.edit.Edit.TheVariants as edits;
 ghost use Rattle.filter_state.specs.Actions.{is_live};
 ghost use Rattle.filter_state.specs.Lines.{IsLine};
 ghost use Rattle.filter_state.specs.Steps.{step};
 ghost use Rattle.hook_edit_laws.specs.Premises.{now, next};
 ghost use Rattle.desk_pools.specs.Pools.{ArePools};
+ghost use Rattle.desk_ledger.specs.Ledger.{mark_at};
 ghost use Rattle.desk_ledger.specs.Kept.{commits, base, IsWhole};
 ghost use Rattle.desk_actions.specs.Places.{AreHere};
+ghost use Rattle.desk_actions.specs.Effects.{IsCounted};
 
 use crate::naming::serial_of;
 use crate::places::ActionPlaces;
@@ -48,6 +51,13 @@ pub fn delete<E: EditName<Edit>>(
     ensures point { ledger.new.point ≡ ledger.old.point + 1 }
     ensures pools { ArePools pools.new (commits ledger.new) (base ledger.new) }
     ensures places { AreHere places.now (commits ledger.new) }
+    ensures seen { commits ledger.new ≡ commits ledger.old ++ mark_at ledger.new.point E.edit ∷ [] }
+    ensures journal { edits_of (commits ledger.new) ≡ edits_of (commits ledger.old) ++ E.edit ∷ [] }
+    ensures sheet { sheet_of ledger.new.writer.place ≡ sheet_of ledger.old.writer.place }
+    ensures left_blocks { IsCounted pools.old.blocks pools.new.blocks 0 1 }
+    ensures left_slots { IsCounted pools.old.actions pools.new.actions 0 1 }
+    ensures rest { pools.new
+        ≡ record pools.old { blocks = pools.new.blocks; actions = pools.new.actions } }
     ensures done { step (now (commits ledger.old)) E.edit
         ≡ Ok (next (commits ledger.old) E.edit, result) }
 {

@@ -1,8 +1,10 @@
 //! An action is made.
-ghost use Rattle.std.specs.Prelude.{◌≡◌, ◌<◌, ◌≤◌, ◌+◌, ◌^◌, ℕ, length, Some, Ok};
+ghost use Rattle.std.specs.Prelude.{◌≡◌, ◌<◌, ◌≤◌, ◌+◌, ◌^◌, ◌∷◌, ◌++◌, [], ℕ, length, Some, Ok};
 ghost use Rattle.act_kinds.specs.declared.params.Params.{Params};
 ghost use Rattle.block_codec.specs.declared.places.TheConstants.{BLOCK_WORDS, BLOCKS, ROOTS};
-ghost use Rattle.pin_store.specs.Calls.{IsSeatOf};
+ghost use Rattle.store_history.specs.History.{edits_of};
+ghost use Rattle.pin_store.specs.Sheets.{IsSameButCells};
+ghost use Rattle.pin_store.specs.Calls.{sheet_of, IsSeatOf};
 ghost use Rattle.filter_state.specs.declared.refusal.Done.TheVariants as dones;
 ghost use Rattle.filter_state.specs.Lines.{IsLine};
 ghost use Rattle.filter_state.specs.Steps.{step};
@@ -10,6 +12,7 @@ ghost use Rattle.hook_edit_laws.specs.Premises.{now, next};
 ghost use Rattle.desk_pools.specs.Pools.{ArePools};
 ghost use Rattle.desk_ledger.specs.Kept.{commits, base, IsWhole};
 ghost use Rattle.desk_actions.specs.Places.{AreHere};
+ghost use Rattle.desk_actions.specs.Effects.{AddsToSlot, IsCounted, KeepsBlocks};
 ghost use Rattle.desk_actions.specs.Kinds.{IsMaking};
 
 use crate::places::ActionPlaces;
@@ -65,6 +68,15 @@ pub fn make<E: EditName<Edit>>(
     ensures point { ledger.new.point ≡ ledger.old.point + 1 }
     ensures pools { ArePools pools.new (commits ledger.new) (base ledger.new) }
     ensures places { AreHere places.new (commits ledger.new) }
+    ensures seen { AddsToSlot (commits ledger.old) (commits ledger.new) ledger.new.point E.edit }
+    ensures journal { edits_of (commits ledger.new) ≡ edits_of (commits ledger.old) ++ E.edit ∷ [] }
+    ensures sheet { IsSameButCells (sheet_of ledger.old.writer.place) (sheet_of ledger.new.writer.place) }
+    ensures others { KeepsBlocks store.now.shape (commits ledger.old) (sheet_of ledger.old.writer.place)
+        (sheet_of ledger.new.writer.place) }
+    ensures blocks { IsCounted pools.old.blocks pools.new.blocks 1 0 }
+    ensures actions { IsCounted pools.old.actions pools.new.actions 1 0 }
+    ensures rest { pools.new
+        ≡ record pools.old { blocks = pools.new.blocks; actions = pools.new.actions } }
     ensures done { step (now (commits ledger.old)) E.edit
         ≡ Ok (next (commits ledger.old) E.edit, result) }
 {

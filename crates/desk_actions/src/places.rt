@@ -1,7 +1,7 @@
 //! Where live actions stand.
 
 use act_registry::MADE_MAX;
-use block_codec::places::ACTION_SLOTS;
+use block_codec::places::{ACTION_SLOTS, POOL_BLOCKS};
 use std::alloc::Global;
 use std::marker::Model;
 use tc_base::NoMemory;
@@ -31,7 +31,7 @@ impl ActionPlaces {
     ghost use Rattle.std.specs.Prelude.{◌≡◌, ◌<◌, ◌≤◌, [], IfOk};
     ghost use Rattle.act_registry.specs.declared.limits.TheConstants.{MADE_MAX};
     ghost use Rattle.block_codec.specs.declared.places.TheConstants.{ACTION_SLOTS};
-    ghost use Rattle.desk_actions.specs.Places.{slot_of, block_of, put_at, AreHere};
+    ghost use Rattle.desk_actions.specs.Places.{slot_of, block_of, put_at, cleared_at, AreHere};
 
     /// Places for all actions that are ever made. None is there yet.
     ///
@@ -63,12 +63,19 @@ impl ActionPlaces {
     }
 
     /// The action with this serial is at this slot, and its record in this block.
-    pub(crate) fn put(&mut self, serial: u32, slot: u32, block: u32)
+    pub fn put(&mut self, serial: u32, slot: u32, block: u32)
         requires serial { serial ≤ MADE_MAX }
         requires slot { slot < ACTION_SLOTS }
         ensures { self.new ≡ put_at self.old serial slot block }
     {
         self.slots[serial as usize] = slot;
         self.blocks[slot as usize] = block;
+    }
+    /// The slot has no record any more: its block is none of the pool's.
+    pub fn clear(&mut self, slot: u32)
+        requires { slot < ACTION_SLOTS }
+        ensures { self.new ≡ cleared_at self.old slot }
+    {
+        self.blocks[slot as usize] = POOL_BLOCKS;
     }
 }

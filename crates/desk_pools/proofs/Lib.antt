@@ -1,3 +1,4 @@
 pub mod RootsOf
 pub mod Steps
 pub mod Opening
+pub mod Several

@@ -89,4 +89,5 @@ pools_open pools blocks rows masks actions places = record {
   ingress = idle_opens Ingress pools.ingress places.0;
   egress = idle_opens Egress pools.egress places.1;
   one_root = λ r s block x y. absurd (no_block r block x);
+  heads = λ r block high x. absurd (no_block r block x);
 }

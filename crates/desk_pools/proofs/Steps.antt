@@ -6,7 +6,8 @@ use Rattle.tc_base.specs.declared.hook.Hook.TheVariants.{Ingress, Egress}
 use Rattle.store_history.specs.declared.history.Commit.{Commit}
 use Rattle.pin_store.specs.Calls.{IsUnnamed}
 use Rattle.filter_state.specs.declared.edit.Edit.{Edit}
-use Rattle.block_codec.specs.declared.places.TheConstants.{TABLES}
+use Rattle.block_codec.specs.declared.places.TheConstants.{TABLES, POOL_BLOCKS}
+use Rattle.miniq_pair.specs.Heads.{head_root}
 use Rattle.miniq_pair.specs.Pairs.{first_block_of}
 use Rattle.hook_law.specs.Places.{mask_root, action_root, bucket_root}
 use Rattle.hook_law.specs.Standing.{Role, IsIn, IsUnused, Stands}
@@ -21,7 +22,7 @@ use Rattle.root_pool_laws.proofs.Roots.{empty_stays, unused_stays}
 use Rattle.root_pool_laws.proofs.Giving.{pool_as, given_apart, given_was, pool_gives}
 use Rattle.desk_pools.specs.declared.pools.IdlePlace.{IdlePlace}
 use Rattle.desk_pools.specs.declared.pools.Pools.{Pools}
-use Rattle.desk_pools.specs.Pools.{roots_of, gone_roots, IsFreeAt, IsLeftAt, IsIdle, ArePools}
+use Rattle.desk_pools.specs.Pools.{roots_of, gone_roots, IsFreeAt, IsLeftAt, IsIdle, IsHeadBlock, ArePools}
 use Rattle.desk_pools.proofs.RootsOf.{in_roots, roots_have}
 use Rattle.desk_pools.specs.Steps.{IsInPool, IsTaken, NothingComes, LeavesPools}
 
@@ -63,45 +64,79 @@ pool_left size F L old now x p same more small left apart = subst (λ (l : List 
     (λ y at. let is = one_in y x at in (subst (λ (n : ℕ). n < size) (sym is) small, subst L (sym is) left, (λ in_. apart (inl (subst (λ (n : ℕ). IsIn n old.free) is in_))), (λ in_. apart (inr (subst (λ (n : ℕ). IsIn n old.left) is in_)))))
     (tt, tt)))
 
+-- ---- the roots of what is gone
+more_roots : (first width : ℕ) (some more : List ℕ) → ((x : ℕ) → IsIn x some → IsIn x more) → (root : ℕ) → IsIn root (roots_of first width some) → IsIn root (roots_of first width more)
+more_roots first width some more all root at = let f = in_roots first width some root at in
+    subst (λ (n : ℕ). IsIn n (roots_of first width more)) (sym f.4) (roots_have first width more f.0 f.2 (all f.0 f.1) f.3)
+
+-- no fewer are, where no fewer slots and rows left
+gone_more : (pools now : Pools) → ((x : ℕ) → IsIn x pools.masks.left → IsIn x now.masks.left) → ((x : ℕ) → IsIn x pools.actions.left → IsIn x now.actions.left)
+    → ((x : ℕ) → IsIn x pools.rows.left → IsIn x now.rows.left) → (root : ℕ) → IsIn root (gone_roots pools) → IsIn root (gone_roots now)
+gone_more pools now masks actions rows root at =
+    sort (in_append (roots_of 3 1 pools.masks.left ++ roots_of 8195 1 pools.actions.left) (roots_of 10243 16 pools.rows.left) root at)
+  where
+    front : List ℕ
+    front = roots_of 3 1 now.masks.left ++ roots_of 8195 1 now.actions.left
+
+    two : IsIn root (roots_of 3 1 pools.masks.left) ⊎ IsIn root (roots_of 8195 1 pools.actions.left) → IsIn root front
+    two (inl one) = in_left (roots_of 3 1 now.masks.left) (roots_of 8195 1 now.actions.left) root (more_roots 3 1 pools.masks.left now.masks.left masks root one)
+    two (inr one) = in_right (roots_of 3 1 now.masks.left) (roots_of 8195 1 now.actions.left) root (more_roots 8195 1 pools.actions.left now.actions.left actions root one)
+
+    sort : IsIn root (roots_of 3 1 pools.masks.left ++ roots_of 8195 1 pools.actions.left) ⊎ IsIn root (roots_of 10243 16 pools.rows.left) → IsIn root (gone_roots now)
+    sort (inl one) = in_left front (roots_of 10243 16 now.rows.left) root (two (in_append (roots_of 3 1 pools.masks.left) (roots_of 8195 1 pools.actions.left) root one))
+    sort (inr one) = in_right front (roots_of 10243 16 now.rows.left) root (more_roots 10243 16 pools.rows.left now.rows.left rows root one)
+
 -- ---- all pools, of which one changed
 module _ (pools : Pools) (h : List (Commit Edit)) (b : ℕ) (p : ArePools pools h b) where
   pub blocks_now : (now : PoolNumbers) → IsPool 16384 (IsUnnamed b h) (IsLeft (gone_roots pools) h) now.free now.left → ArePools (record pools { blocks = now }) h b
-  blocks_now now q = record { blocks = q; rows = p.rows; masks = p.masks; actions = p.actions; ingress = p.ingress; egress = p.egress; one_root = p.one_root }
+  blocks_now now q = record { blocks = q; rows = p.rows; masks = p.masks; actions = p.actions; ingress = p.ingress; egress = p.egress; one_root = p.one_root; heads = p.heads }
 
-  -- where the roots of action slots that left are no fewer
+  -- blocks that left stay so where no fewer roots are gone
+  still_left : (now : Pools) → ((root : ℕ) → IsIn root (gone_roots pools) → IsIn root (gone_roots now)) → IsPool 16384 (IsUnnamed b h) (IsLeft (gone_roots now) h) pools.blocks.free pools.blocks.left
+  still_left now still = pool_as 16384 (IsUnnamed b h) (IsUnnamed b h) (IsLeft (gone_roots pools) h) (IsLeft (gone_roots now) h) pools.blocks.free pools.blocks.left
+      (λ x at f. f) (λ x at left r n. still r (left r n)) p.blocks
+
+  -- where no fewer mask slots left
+  pub masks_now : (now : PoolNumbers) → ((x : ℕ) → IsIn x pools.masks.left → IsIn x now.left) → IsPool 8192 (IsFreeAt h b 3 1) (IsLeftAt h 3 1) now.free now.left
+      → ArePools (record pools { masks = now }) h b
+  masks_now now more q = record {
+    blocks = still_left (record pools { masks = now }) (gone_more pools (record pools { masks = now }) more (λ x at. at) (λ x at. at));
+    rows = p.rows;
+    masks = q;
+    actions = p.actions;
+    ingress = p.ingress;
+    egress = p.egress;
+    one_root = p.one_root;
+    heads = p.heads;
+  }
+
+  -- or action slots
   pub actions_now : (now : PoolNumbers) → ((x : ℕ) → IsIn x pools.actions.left → IsIn x now.left) → IsPool 2048 (IsFreeAt h b 8195 1) (IsLeftAt h 8195 1) now.free now.left
       → ArePools (record pools { actions = now }) h b
   actions_now now more q = record {
-    blocks = pool_as 16384 (IsUnnamed b h) (IsUnnamed b h) (IsLeft (gone_roots pools) h) (IsLeft (gone_roots (record pools { actions = now })) h) pools.blocks.free pools.blocks.left
-        (λ x at f. f) (λ x at left r n. still r (left r n)) p.blocks;
+    blocks = still_left (record pools { actions = now }) (gone_more pools (record pools { actions = now }) (λ x at. at) more (λ x at. at));
     rows = p.rows;
     masks = p.masks;
     actions = q;
     ingress = p.ingress;
     egress = p.egress;
     one_root = p.one_root;
+    heads = p.heads;
   }
-    where
-      of_masks : List ℕ
-      of_masks = roots_of 3 1 pools.masks.left
 
-      of_rows : List ℕ
-      of_rows = roots_of 10243 16 pools.rows.left
-
-      in_more : (root : ℕ) → IsIn root (roots_of 8195 1 pools.actions.left) → IsIn root (roots_of 8195 1 now.left)
-      in_more root at = let f = in_roots 8195 1 pools.actions.left root at in
-          subst (λ (n : ℕ). IsIn n (roots_of 8195 1 now.left)) (sym f.4) (roots_have 8195 1 now.left f.0 f.2 (more f.0 f.1) f.3)
-
-      still : (root : ℕ) → IsIn root (gone_roots pools) → IsIn root (gone_roots (record pools { actions = now }))
-      still root at = sort (in_append (of_masks ++ roots_of 8195 1 pools.actions.left) of_rows root at)
-        where
-          two : IsIn root of_masks ⊎ IsIn root (roots_of 8195 1 pools.actions.left) → IsIn root (of_masks ++ roots_of 8195 1 now.left)
-          two (inl one) = in_left of_masks (roots_of 8195 1 now.left) root one
-          two (inr one) = in_right of_masks (roots_of 8195 1 now.left) root (in_more root one)
-
-          sort : IsIn root (of_masks ++ roots_of 8195 1 pools.actions.left) ⊎ IsIn root of_rows → IsIn root (gone_roots (record pools { actions = now }))
-          sort (inl one) = in_left (of_masks ++ roots_of 8195 1 now.left) of_rows root (two (in_append of_masks (roots_of 8195 1 pools.actions.left) root one))
-          sort (inr one) = in_right (of_masks ++ roots_of 8195 1 now.left) of_rows root one
+  -- or rows
+  pub rows_now : (now : PoolNumbers) → ((x : ℕ) → IsIn x pools.rows.left → IsIn x now.left) → IsPool 8192 (IsFreeAt h b 10243 16) (IsLeftAt h 10243 16) now.free now.left
+      → ArePools (record pools { rows = now }) h b
+  rows_now now more q = record {
+    blocks = still_left (record pools { rows = now }) (gone_more pools (record pools { rows = now }) (λ x at. at) (λ x at. at) more);
+    rows = q;
+    masks = p.masks;
+    actions = p.actions;
+    ingress = p.ingress;
+    egress = p.egress;
+    one_root = p.one_root;
+    heads = p.heads;
+  }
 
 -- ---- a commit
 module _ (pools : Pools) (h : List (Commit Edit)) (b : ℕ) (c : Commit Edit) (given : List ℕ) (low : b ≤ length h) (p : ArePools pools h b) (leaves : LeavesPools pools h b c given) where
@@ -156,7 +191,16 @@ module _ (pools : Pools) (h : List (Commit Edit)) (b : ℕ) (c : Commit Edit) (g
     ingress = idle_on Ingress pools.ingress p.ingress;
     egress = idle_on Egress pools.egress p.egress;
     one_root = one_root_stays h c given leaves.spends b low p.one_root leaves.free;
+    heads = λ r block high has. own_head r block high (has_push h c r block has);
   }
+    where
+      own_head : (r block : ℕ) → POOL_BLOCKS ≤ block → HasBlock h r block ⊎ ((c.root ≡ r) × IsBlockOf block c.named.chain) → (hook : Hook) × (r ≡ head_root hook) × IsHeadBlock hook block
+      own_head r block high (inl before) = p.heads r block high before
+      own_head r block high (inr own) = spent (leaves.spends own.1.0 own.1.1 own.1.2)
+        where
+          spent : IsIn own.1.1.block given ⊎ HasBlock h c.root own.1.1.block → (hook : Hook) × (r ≡ head_root hook) × IsHeadBlock hook block
+          spent (inl g) = let small = leaves.small block (subst (λ (n : ℕ). IsIn n given) own.1.3 g) in absurd (omega (arith, high, small))
+          spent (inr m) = p.heads r block high (subst (λ (q : ℕ). HasBlock h q block) own.0 (subst (HasBlock h c.root) own.1.3 m))
 
 -- ---- what is gone is empty
 pub gone_empty : (pools : Pools) (h : List (Commit Edit)) (b root : ℕ) → ArePools pools h b → IsIn root (gone_roots pools) → IsEmptyRoot hook_meaning hook_codec h root

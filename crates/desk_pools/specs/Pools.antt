@@ -13,6 +13,7 @@ use Rattle.block_codec.specs.declared.places.TheConstants.{POOL_BLOCKS}
 use Rattle.hook_law.specs.Standing.{IsUnused}
 use Rattle.hook_meaning.specs.Stated.{hook_meaning}
 use Rattle.hook_meaning.specs.Blocks.{hook_codec}
+use Rattle.miniq_pair.specs.Heads.{head_root}
 use Rattle.miniq_pair.specs.Pairs.{first_block_of}
 use Rattle.root_pool_laws.specs.Pools.{IsPool, IsEmptyRoot}
 use Rattle.root_pool_laws.specs.Blocks.{HasBlock, HaveOneRoot, IsLeft}
@@ -45,6 +46,16 @@ pub record IsIdle (h : List (Commit Edit)) (b : ℕ) (hook : Hook) (idle : IdleP
   pub free : idle.is_free ≡ true → (at : ℕ) → at < TABLES
       → IsUnnamed b h (first_block_of hook idle.place + at)
 
+-- the block is of one of the two places of a hook's tables
+pub record IsHeadBlock (hook : Hook) (block : ℕ) : Type 0 where
+  pub above : first_block_of hook 0 ≤ block
+  pub below : block < first_block_of hook 0 + 2 * TABLES
+
+-- a block outside the pool is a hook's, and its head's root alone has it
+abbrev pub HaveOwnHeads : List (Commit Edit) → Type 0
+HaveOwnHeads h = (r block : ℕ) → POOL_BLOCKS ≤ block → HasBlock h r block
+    → (hook : Hook) × (r ≡ head_root hook) × IsHeadBlock hook block
+
 -- THE POOLS, as facts over the commits and the base
 pub record ArePools (pools : Pools) (h : List (Commit Edit)) (b : ℕ) : Type 0 where
   pub blocks : IsPool POOL_BLOCKS (IsUnnamed b h) (IsLeft (gone_roots pools) h) pools.blocks.free
@@ -58,6 +69,7 @@ pub record ArePools (pools : Pools) (h : List (Commit Edit)) (b : ℕ) : Type 0 
   pub ingress : IsIdle h b Ingress pools.ingress
   pub egress : IsIdle h b Egress pools.egress
   pub one_root : HaveOneRoot h
+  pub heads : HaveOwnHeads h
 
 -- nothing has left that isn't free
 pub record IsNothingLeft (pools : Pools) : Type 0 where

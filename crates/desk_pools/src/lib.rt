@@ -19,5 +19,5 @@
 mod laws;
 mod pools;
 
-pub use laws::pools_of_a_commit;
+pub use laws::{pools_have_room, pools_of_a_commit};
 pub use pools::{IdlePlace, Pools};

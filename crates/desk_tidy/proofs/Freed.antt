@@ -75,6 +75,7 @@ pools_rise pools h b c le p = record {
   ingress = idle_rises h b c Ingress pools.ingress le p.ingress;
   egress = idle_rises h b c Egress pools.egress le p.egress;
   one_root = p.one_root;
+  heads = p.heads;
 }
 
 -- where the base is the end, what left is unused
@@ -152,6 +153,7 @@ module _ (old : Pools) (h : List (Commit Edit)) (b point : ℕ) (kept : IsKeptAt
       → (new.ingress ≡ old.ingress) × (new.egress ≡ old.egress) → ArePools new (h ++ emptying point (gone_roots old)) b
   gone_emptied new masks actions rows blocks places = record {
     one_root = λ r s block x y. p.one_root r s block (names_before h point (gone_roots old) r block x).0 (names_before h point (gone_roots old) s block y).0;
+    heads = λ r block high x. p.heads r block high (names_before h point (gone_roots old) r block x).0;
     ingress = subst (IsIdle (h ++ emptying point (gone_roots old)) b Ingress) (sym places.0) (idle_emptied Ingress old.ingress p.ingress);
     egress = subst (IsIdle (h ++ emptying point (gone_roots old)) b Egress) (sym places.1) (idle_emptied Egress old.egress p.egress);
     masks = freed 8192 3 1 old.masks.free old.masks.left new.masks.free new.masks.left masks.0 masks.1 p.masks;
@@ -214,6 +216,7 @@ blocks_freed old new h c end p masks actions rows same free left places = record
   ingress = idle_freed h c Ingress old.ingress new.ingress end places.0 p.ingress;
   egress = idle_freed h c Egress old.egress new.egress end places.1 p.egress;
   one_root = p.one_root;
+  heads = p.heads;
 }
   where
     by_none : (x : ℕ) → IsLeft (gone_roots old) h x → IsUnnamed c h x

@@ -5,3 +5,4 @@ pub mod Registries
 pub mod Planned
 pub mod Stepping
 pub mod Families
+pub mod Counted

@@ -14,7 +14,7 @@ use act_kinds::Params;
 use act_registry::Registry;
 use filter_state::{Done, Edit, Refusal};
 use filter_tables::{FilterTable, FilterTables};
-use hook_lists::{Kept, tables_of};
+use hook_lists::{Kept, find_table, tables_of};
 use std::alloc::Global;
 use std::marker::Model;
 use std::snapshot::Snapshot;
@@ -38,7 +38,7 @@ impl Model for Lists {
 }
 
 impl Lists {
-    ghost use Rattle.hook_lists.specs.States.{both_of, AreKept};
+    ghost use Rattle.hook_lists.specs.States.{both_of, place_on, AreKept};
     ghost use Rattle.filter_lists.specs.Spells.{Spells};
     ghost use Rattle.filter_lists.specs.Edits.{Stays, IsStepped, IsPrepared, IsFinished, MayStep};
 
@@ -74,6 +74,13 @@ impl Lists {
         ensures kept { AreKept self.now }
     {
         tables_of(&self.kept, hook).as_slice()
+    }
+
+    /// The place of the table with that chain and pref among the tables of a hook.
+    pub fn find_table(&self, hook: Hook, chain: u32, pref: u32) -> Option<usize>
+        ensures { result ≡ place_on hook chain pref self.now }
+    {
+        find_table(&self.kept, hook, chain, pref)
     }
 
     /// The actions that filters share.

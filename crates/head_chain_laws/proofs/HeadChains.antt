@@ -68,14 +68,14 @@ module _ {A B : Type 0} (f : A → B) (read : List ℕ → Option A) where
   all_maps [] xs e = let none : [] ≡ xs = cc e in ap (λ (zs : List A). Some (map f zs)) none
   all_maps (l ∷ ls) xs e = front_maps (read l.words) (read_all read ls) (read_all (λ (words : List ℕ). option_map f (read words)) ls) xs e (all_maps ls)
 
-codec_reads : (first : ℕ) (tables : List StoredTable) → All FitsTable tables → first + length tables < 4294967296 → read_all hook_codec.table (table_links first tables) ≡ Some (map table_record tables)
+pub codec_reads : (first : ℕ) (tables : List StoredTable) → All FitsTable tables → first + length tables < 4294967296 → read_all hook_codec.table (table_links first tables) ≡ Some (map table_record tables)
 codec_reads first tables all small = all_maps table_record table_in (table_links first tables) tables (links_read first tables all small)
 
-twice : (tables : List StoredTable) → map (λ (t : TableRecord TableNames). record { serial = t.serial; names = t.names; masks = map (λ (x : Slotted). x.serial) t.masks }) (map table_record tables) ≡ map stated_of tables
+pub twice : (tables : List StoredTable) → map (λ (t : TableRecord TableNames). record { serial = t.serial; names = t.names; masks = map (λ (x : Slotted). x.serial) t.masks }) (map table_record tables) ≡ map stated_of tables
 twice [] = refl
 twice (table ∷ tables) = let rest = twice tables in λ t. stated_of table ∷ rest t
 
-small_first : (hook : Hook) (place count : ℕ) → place ≤ 1 → count ≤ 256 → first_block_of hook place + count < 4294967296
+pub small_first : (hook : Hook) (place count : ℕ) → place ≤ 1 → count ≤ 256 → first_block_of hook place + count < 4294967296
 small_first hooks.Ingress place count p c = omega (arith, p, c)
 small_first hooks.Egress place count p c = omega (arith, p, c)
 

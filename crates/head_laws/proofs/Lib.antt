@@ -1,3 +1,4 @@
 pub mod HeadRows
 pub mod ListedHeads
 pub mod OnePlace
+pub mod MaskRows

@@ -1,8 +1,12 @@
 -- The tables of lists as heads, and where a mask stands among the heads of a hook (this project's own).
-use Rattle.std.specs.Prelude.{◌≡◌, ℕ, List, map, Some}
+use Rattle.std.specs.Prelude.{◌≡◌, ℕ, ◌==◌, Bool, List, map, Some}
 use Rattle.filter_tables.specs.Plain.{PlainMask, PlainTable}
 use Rattle.filter_tables.specs.Places.{item_at}
 use Rattle.walk_rules.specs.Questions.{Head}
+
+-- a mask by its serial
+abbrev pub is_mask : ℕ → PlainMask → Bool
+is_mask serial mask = mask.serial == serial
 
 abbrev pub serials_of : List PlainMask → List ℕ
 serials_of masks = map (λ (mask : PlainMask). mask.serial) masks

@@ -54,8 +54,6 @@ mod reader;
 mod receipt;
 mod slot_points;
 mod telling;
-#[cfg(test)]
-mod tests;
 mod walking;
 
 pub use reader::HookReader;

@@ -5,7 +5,7 @@ use crate::kept_head::KeptHead;
 use crate::receipt::HookReceipt;
 use crate::slot_points::SlotPoints;
 use hook_store_law::{HookLaw, HookStore};
-use pin_store::Reader;
+use pin_store::{Reader, Writer};
 use std::alloc::Global;
 use std::marker::Model;
 use tc_base::{NoMemory, Point};
@@ -51,7 +51,7 @@ impl HookReader {
     ghost use Rattle.std.specs.Prelude.{◌≡◌, ◌+◌, ◌^◌, ◌<◌, [], max, replicate, None, IfOk};
     ghost use mathlib.Core.List.{IsPrefix};
     ghost use Rattle.pin_store.specs.Calls.{seen_by, number_of, pin_of, floor_of, IsInside, IsOutside};
-    ghost use Rattle.pin_store.specs.Calls.{IsSeatOf, IsSameReader};
+    ghost use Rattle.pin_store.specs.Calls.{IsSeatOf, IsSameReader, sheet_of};
 
     /// A reader that has made no walk.
     pub fn new(alloc: Global, reader: Reader<HookLaw>) -> Result<HookReader, NoMemory>
@@ -132,5 +132,19 @@ impl HookReader {
         let HookReceipt { receipt, point } = receipt;
         reader.learn(store, receipt);
         *latest = point.max(*latest);
+    }
+
+    /// Tells the writer of the store that what the reader has seen is a beginning of all commits, and leaves
+    /// both as they are.
+    pub fn meet(&mut self, store: &HookStore, writer: &mut Writer<HookLaw>)
+        requires store { IsSeatOf store.now self.old.place × IsSeatOf store.now writer.old.place }
+        ensures store { IsSeatOf store.now self.new.place × IsSeatOf store.now writer.new.place }
+        ensures same { (self.new.place.me ≡ self.old.place.me)
+            × (self.new ≡ record self.old { place = self.new.place }) }
+        ensures writer { (seen_by writer.new.place ≡ seen_by writer.old.place)
+            × (sheet_of writer.new.place ≡ sheet_of writer.old.place) }
+        ensures met { IsPrefix (seen_by self.old.place) (seen_by writer.old.place) }
+    {
+        writer.meet(store, &mut self.reader);
     }
 }

@@ -29,8 +29,6 @@ mod law;
 mod read;
 mod rounds;
 mod steps;
-#[cfg(test)]
-mod tests;
 mod words;
 
 pub use fault::{JobFault, JobKind};

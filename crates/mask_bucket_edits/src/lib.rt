@@ -35,8 +35,6 @@ mod editing;
 mod finding;
 mod renaming;
 mod rewriting;
-#[cfg(test)]
-mod tests;
 
 pub use copying::{put_copies, put_edited};
 pub use editing::{exchange, take_out};

@@ -44,8 +44,6 @@ mod making;
 mod naming;
 mod raising;
 mod relaying;
-#[cfg(test)]
-mod tests;
 
 pub use clearing::clear_buckets;
 pub use copying::{copy_of_mask, rows_of};

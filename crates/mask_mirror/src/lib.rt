@@ -45,8 +45,6 @@ mod naming;
 mod number_room;
 mod putting;
 mod stored_filters;
-#[cfg(test)]
-mod tests;
 
 pub use buckets::{place_for, place_in, place_of};
 pub use copying::{copy_of, kept_filter};

@@ -23,7 +23,7 @@ found_live serial (x ∷ xs) e none = pick (has_serial serial x) refl (found_liv
     pick false is rest = rest (sym (ap (λ (b : Bool). b || list_any (has_serial serial) xs) is) ∙ e) (sym (ap (λ (b : Bool). option_map action_stated (cond b (Some x) (first_where (has_serial serial) xs))) is) ∙ none)
 
 -- each action of each filter of the mask is
-abbrev AllLive : State → List StatedFilter → Type 0
+abbrev pub AllLive : State → List StatedFilter → Type 0
 AllLive s fs = Each (λ (f : StatedFilter). Each (λ (action : ℕ). IsLive hook_meaning s action) f.actions) fs
 
 live_each : (s : State) (actions : List ℕ) → Each (λ serial. IsTrue (list_any (has_serial serial) s.actions)) actions → Each (λ (action : ℕ). IsLive hook_meaning s action) actions

@@ -47,17 +47,17 @@ use Rattle.mask_resize_laws.proofs.Living.{all_live}
 use Rattle.mask_resize_laws.specs.Resized.{stored_now, CanResize}
 
 -- ---- lists
-mapped_at : {A B : Type 0} (f : A → B) (xs : List A) (j : ℕ) (c : B) → slice_get (map f xs) j ≡ Some c → (x : A) × (slice_get xs j ≡ Some x) × (c ≡ f x)
+pub mapped_at : {A B : Type 0} (f : A → B) (xs : List A) (j : ℕ) (c : B) → slice_get (map f xs) j ≡ Some c → (x : A) × (slice_get xs j ≡ Some x) × (c ≡ f x)
 mapped_at f [] j c e = absurd (cc e)
 mapped_at f (x ∷ xs) zero c e = let same : f x ≡ c = cc e in (x, refl, sym same)
 mapped_at f (x ∷ xs) (suc j) c e = mapped_at f xs j c e
 
-range_at : (first count place k : ℕ) → slice_get (range_with_len first count) place ≡ Some k → (k ≡ first + place) × (place < count)
+pub range_at : (first count place k : ℕ) → slice_get (range_with_len first count) place ≡ Some k → (k ≡ first + place) × (place < count)
 range_at first zero place k e = absurd (cc e)
 range_at first (suc count) zero k e = let same : first ≡ k = cc e in (omega (arith, same), omega arith)
 range_at first (suc count) (suc place) k e = let r = range_at (first + 1) count place k e in let a = r.0 in let b = r.1 in (omega arith, omega arith)
 
-range_has : {B : Type 0} (f : ℕ → B) (first count j : ℕ) → j < count → slice_get (map f (range_with_len first count)) j ≡ Some (f (first + j))
+pub range_has : {B : Type 0} (f : ℕ → B) (first count j : ℕ) → j < count → slice_get (map f (range_with_len first count)) j ≡ Some (f (first + j))
 range_has f first zero j less = absurd (omega (arith, less))
 range_has f first (suc count) zero less = ap (λ (n : ℕ). Some (f n)) (omega arith)
 range_has f first (suc count) (suc j) less = range_has f (first + 1) count j (omega (arith, less)) ∙ ap (λ (n : ℕ). Some (f n)) (omega arith)
@@ -72,7 +72,7 @@ module _ {A B : Type 0} (f : A → B) (read : List ℕ → Option A) where
   front_maps (Some x) None rest2 xs e more = absurd (cc e)
   front_maps None rest rest2 xs e more = absurd (cc e)
 
-  all_maps : (chain : List Link) (xs : List A) → read_all read chain ≡ Some xs → read_all mapped chain ≡ Some (map f xs)
+  pub all_maps : (chain : List Link) (xs : List A) → read_all read chain ≡ Some xs → read_all mapped chain ≡ Some (map f xs)
   all_maps [] xs e = let none : [] ≡ xs = cc e in ap (λ (zs : List A). Some (map f zs)) none
   all_maps (l ∷ ls) xs e = front_maps (read l.words) (read_all read ls) (read_all mapped ls) xs e (all_maps ls)
 
@@ -81,11 +81,11 @@ serials_back : (h : List (Commit Edit)) (serials : List ℕ) → serials_of (map
 serials_back h [] = refl
 serials_back h (a ∷ rest) = ap (λ (l : List ℕ). a ∷ l) (serials_back h rest)
 
-stated_back : (h : List (Commit Edit)) (fs : List StatedFilter) → map stated_filter (map filter_record (map (with_slots h) fs)) ≡ fs
+pub stated_back : (h : List (Commit Edit)) (fs : List StatedFilter) → map stated_filter (map filter_record (map (with_slots h) fs)) ≡ fs
 stated_back h [] = refl
 stated_back h (f ∷ fs) = let one = serials_back h f.actions in let rest = stated_back h fs in λ t. record { handle = f.handle; key = f.key; actions = one t } ∷ rest t
 
-in_bucket : (h : List (Commit Edit)) (size bucket : ℕ) (fs : List StatedFilter) → bucket_of size bucket (map (with_slots h) fs) ≡ map (with_slots h) (chains.bucket_of hash_of size bucket fs)
+pub in_bucket : (h : List (Commit Edit)) (size bucket : ℕ) (fs : List StatedFilter) → bucket_of size bucket (map (with_slots h) fs) ≡ map (with_slots h) (chains.bucket_of hash_of size bucket fs)
 in_bucket h size bucket [] = refl
 in_bucket h size bucket (f ∷ fs) = at (hash_of f.key % size == bucket) (in_bucket h size bucket fs)
   where
@@ -95,7 +95,7 @@ in_bucket h size bucket (f ∷ fs) = at (hash_of f.key % size == bucket) (in_buc
     at false e = ap (λ z. z ++ []) e ∙ sym (map-append (with_slots h) (chains.bucket_of hash_of size bucket fs) [])
 
 -- those of a bucket are among all
-each_bucket : (P : StatedFilter → Type 0) (size bucket : ℕ) (fs : List StatedFilter) → Each P fs → Each P (chains.bucket_of hash_of size bucket fs)
+pub each_bucket : (P : StatedFilter → Type 0) (size bucket : ℕ) (fs : List StatedFilter) → Each P fs → Each P (chains.bucket_of hash_of size bucket fs)
 each_bucket P size bucket [] all = tt
 each_bucket P size bucket (f ∷ fs) all = add (chains.bucket_of hash_of size bucket fs) (hash_of f.key % size == bucket) (each_bucket P size bucket fs all.1)
   where
@@ -114,7 +114,7 @@ names_good h Q (a ∷ rest) all x at = walk at.0 at.1 (λ m. names_good h Q rest
     walk zero e more = let same : record { serial = a; slot = slot_of hook_codec h a } ≡ x = cc e in subst (λ (z : Slotted). Q z.serial z.slot) same all.0
     walk (suc place) e more = more (place, e)
 
-filters_good : (h : List (Commit Edit)) (Q : ℕ → ℕ → Type 0) (fs : List StatedFilter) → Each (λ (f : StatedFilter). Each (λ (a : ℕ). Q a (slot_of hook_codec h a)) f.actions) fs → (g : FilterRecord) (x : Slotted)
+pub filters_good : (h : List (Commit Edit)) (Q : ℕ → ℕ → Type 0) (fs : List StatedFilter) → Each (λ (f : StatedFilter). Each (λ (a : ℕ). Q a (slot_of hook_codec h a)) f.actions) fs → (g : FilterRecord) (x : Slotted)
     → IsIn g (map filter_record (map (with_slots h) fs)) → IsIn x g.actions → Q x.serial x.slot
 filters_good h Q [] all g x at inx = let e = at.1 in absurd (cc e)
 filters_good h Q (f ∷ fs) all g x at inx = walk at.0 at.1 (λ m. filters_good h Q fs all.1 g x m inx)
@@ -123,7 +123,7 @@ filters_good h Q (f ∷ fs) all g x at inx = walk at.0 at.1 (λ m. filters_good 
     walk zero e more = let same : filter_record (with_slots h f) ≡ g = cc e in names_good h Q f.actions all.0 x (subst (λ (z : FilterRecord). IsIn x z.actions) (sym same) inx)
     walk (suc place) e more = more (place, e)
 
-each_as : {X : Type 0} (P Q : X → Type 0) → ((x : X) → P x → Q x) → (xs : List X) → Each P xs → Each Q xs
+pub each_as : {X : Type 0} (P Q : X → Type 0) → ((x : X) → P x → Q x) → (xs : List X) → Each P xs → Each Q xs
 each_as P Q f [] all = tt
 each_as P Q f (x ∷ xs) all = (f x all.0, each_as P Q f xs all.1)
 
@@ -134,7 +134,7 @@ clash x y z f a c = eqb-false x y f (a ∙ sym c)
 never : (rows : List ℕ) → IsDistinct eqb rows → (k l x : ℕ) → k < l → slice_get rows k ≡ Some x → slice_get rows l ≡ Some x → ⊥
 never rows different k l x less a c = clash (get_or rows k 0) (get_or rows l 0) x (apart_from_distinct eqb rows k l 0 different less (slice_get_within rows l x c)) (get_or_from_slice_get rows k x 0 a) (get_or_from_slice_get rows l x 0 c)
 
-rows_distinct : (rows : List ℕ) → IsDistinct eqb rows → AreDistinct rows
+pub rows_distinct : (rows : List ℕ) → IsDistinct eqb rows → AreDistinct rows
 rows_distinct rows different i j x a c = dite (dec_lt i j) (λ (less : i < j). absurd (never rows different i j x less a c))
     (λ (no : i < j → ⊥). dite (dec_lt j i) (λ (more : j < i). absurd (never rows different j i x more c a)) (λ (none : j < i → ⊥). omega arith))
 
@@ -223,11 +223,11 @@ module _ (h : List (Commit Edit)) (b slot : ℕ) (mask : StoredMask) (given : Li
     at = can.at;
     read = record_reads;
     reads = record { mask = mask_record mask; read = record_reads; serial = refl; words = can.words; size = inl can.size; rows = let r = can.storable.rows in omega (arith, r) };
-    filled = λ k row less there small. record {
+    filled = λ k group less there small. record {
       place = k;
       commit = commit k;
       there = range_has commit 0 mask.size k less ∙ ap (λ (n : ℕ). Some (commit n)) (omega arith);
-      root = ap (λ (r : ℕ). 10243 + 16 * r + k % 16) (get_or_from_slice_get mask.rows (k / 16) row 0 there);
+      root = ap (λ (r : ℕ). 10243 + 16 * r + k % 16) (get_or_from_slice_get mask.rows (k / 16) group 0 there);
       fills = fills k;
     };
     distinct = distinct;

@@ -47,8 +47,6 @@ mod mask_writer;
 mod raising;
 mod removing;
 mod resizing;
-#[cfg(test)]
-mod tests;
 mod told;
 
 pub use blocks::Blocks;

@@ -26,7 +26,7 @@ impl Model for Pool {
 }
 
 impl Pool {
-    ghost use Rattle.std.specs.Prelude.{◌≡◌, ◌<◌, ◌+◌, ◌++◌, ◌∷◌, [], length, IfOk};
+    ghost use Rattle.std.specs.Prelude.{◌≡◌, ◌<◌, ◌≤◌, ◌+◌, ◌++◌, ◌∷◌, [], length, vec_capacity, IfOk};
     ghost use Rattle.std.specs.List.{range_with_len};
 
     /// All numbers from 0 on below the size, free.
@@ -80,6 +80,24 @@ impl Pool {
         self.free.take_last()
     }
 
+    /// Gives so many free numbers at once, into an empty list that has room for them.
+    pub fn take_some(&mut self, count: u32, into: &mut Vec<u32>)
+        requires enough { count ≤ length self.old.free }
+        requires empty { into.old.items ≡ [] }
+        requires capacity { count ≤ vec_capacity into.old }
+        ensures free { self.old.free ≡ self.new.free ++ into.new.items }
+        ensures count { length into.new.items ≡ count }
+        ensures left { self.new.left ≡ self.old.left }
+        ensures size { self.new.size ≡ self.old.size }
+    {
+        let rest = self.free.len() - count as usize;
+        match into.extend_from_slice(&self.free[rest..]) {
+            Ok(()) => {}
+            Err(_) => unreachable!(),
+        }
+        self.free.truncate(rest);
+    }
+
     /// A number that was given leaves.
     pub fn leave(&mut self, number: u32)
         requires { length self.old.free + length self.old.left < self.old.size }
@@ -88,6 +106,19 @@ impl Pool {
         ensures size { self.new.size ≡ self.old.size }
     {
         self.left.push_reserved(number);
+    }
+
+    /// Numbers that were given leave, one behind the other.
+    pub fn leave_some(&mut self, numbers: &[u32])
+        requires { length self.old.free + length self.old.left + length numbers.now ≤ self.old.size }
+        ensures free { self.new.free ≡ self.old.free }
+        ensures left { self.new.left ≡ self.old.left ++ numbers.now }
+        ensures size { self.new.size ≡ self.old.size }
+    {
+        match self.left.extend_from_slice(numbers) {
+            Ok(()) => {}
+            Err(_) => unreachable!(),
+        }
     }
 
     /// All that left is free.

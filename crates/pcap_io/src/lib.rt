@@ -29,8 +29,6 @@ mod packet_iter;
 mod packets;
 mod reading;
 mod records;
-#[cfg(test)]
-mod tests;
 mod writing;
 
 pub use capture::{Capture, Packet, PacketView};

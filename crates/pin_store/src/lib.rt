@@ -67,8 +67,6 @@ mod shape;
 mod steps;
 mod store;
 mod table;
-#[cfg(test)]
-mod tests;
 mod view;
 mod writer;
 

@@ -56,6 +56,13 @@ impl<L: Law> Writer<L> {
         }
     }
 
+    /// How many epochs began since the store was made.
+    pub fn epoch(&self) -> u64
+        ensures { result ≡ (sheet_of self.now.place).epoch }
+    {
+        self.epoch
+    }
+
     // Writes one word of a block.
     fn fill_word(&mut self, store: &Store<L>, block: u32, at: u32, word: u64)
         requires store { IsSeatOf store.now self.old.place }

@@ -25,8 +25,6 @@ mod ipv6_addresses;
 mod mac_addresses;
 mod numbers;
 mod places;
-#[cfg(test)]
-mod tests;
 mod texts;
 
 pub use addresses::read_ipv4;

@@ -1,8 +1,11 @@
-use Rattle.std.proofs.Common.{◌≡◌, ◌∙◌, ℕ, ◌+◌, ◌<◌, ◌≤◌, List, [], ◌∷◌, ◌++◌, length, true, Some, sym, ap, subst, arith}
+use Rattle.std.proofs.Common.{◌≡◌, ◌∙◌, ℕ, ◌+◌, ◌<◌, List, [], ◌∷◌, ◌++◌, true, Some, refl, sym, ap, subst, arith}
 use Rattle.std.specs.Option.{unwrap_or}
 use Rattle.store_history.specs.declared.history.Commit.{Commit}
 use Rattle.pin_store.specs.Calls.{seen_by, sheet_of}
 use Rattle.filter_state.specs.declared.edit.Edit.{Edit}
+use Rattle.store_history.specs.History.{edits_of}
+use Rattle.hook_law.proofs.Growing.{edits_more}
+use Rattle.desk_actions.proofs.Counted.{took, gave, counted_then, blocks_kept}
 use Rattle.filter_state.specs.States.{Action}
 use Rattle.filter_state.specs.Actions.{is_live, is_named}
 use Rattle.filter_state.specs.Tables.{first_where}
@@ -135,3 +138,31 @@ returns-clause-pools g c = let old = c.args.ledger.now in let h = commits old in
     (subst (λ (n : ℕ). IsInPool n pools.blocks → ⊥) (sym before_is) (old_apart h b old.lists c.finish-done.new.self old.point y line l c.requires.edit.1 c.requires.changing c.finish-done.result f c.serial_of-serial.result c.changed-action.result.params c.changed-action.ensures.params named c.args.places.now c.requires.places blk pools p taken)) in
     subst (ArePools c.leave_block.new.self (seen_by c.put_action.new.writer.place)) based
     (subst (λ (j : List (Commit Edit)). ArePools c.leave_block.new.self j b) (sym seen) all)
+
+pub returns-clause-seen : goal.returns-clause-seen
+returns-clause-seen g c = let old = c.args.ledger.now in record {
+  commit = action_commit c.slot-slot.result c.take_block-at.result c.changed-action.result (old.point + 1) (Some (old.point + 1)) g.E.EditName.edit;
+  slot = c.slot-slot.result;
+  seen = c.put_action.ensures.seen;
+  root = refl;
+  small = c.slot-slot.ensures.small;
+  carries = refl;
+}
+
+pub returns-clause-journal : goal.returns-clause-journal
+returns-clause-journal g c = let old = c.args.ledger.now in let y = g.E.EditName.edit in
+    ap edits_of c.put_action.ensures.seen ∙ edits_more (commits old) (action_commit c.slot-slot.result c.take_block-at.result c.changed-action.result (old.point + 1) (Some (old.point + 1)) y) (old.point + 1) y refl
+
+pub returns-clause-others : goal.returns-clause-others
+returns-clause-others g c = let old = c.args.ledger.now in
+    blocks_kept c.args.store.now.shape (commits old) (base old) c.take_block-at.result (sheet_of old.writer.place) (sheet_of c.put_action.new.writer.place) c.requires.whole.kept.low
+    (c.take_block-at.ensures.taken (commits old) (base old) c.requires.pools).free c.put_action.ensures.others
+
+pub returns-clause-blocks : goal.returns-clause-blocks
+returns-clause-blocks g c = let pools = c.args.pools.now in let mid = c.take_block-at.new.self in let new = c.leave_block.new.self in
+    counted_then pools.blocks mid.blocks new.blocks 1 0 0 1 (took pools.blocks mid.blocks c.take_block-at.result c.take_block-at.ensures.free c.take_block-at.ensures.left c.take_block-at.ensures.size)
+    (gave mid.blocks new.blocks c.block-before.result c.leave_block.ensures.free c.leave_block.ensures.left c.leave_block.ensures.size)
+
+pub returns-clause-rest : goal.returns-clause-rest
+returns-clause-rest g c = let new = c.leave_block.new.self in
+    c.leave_block.ensures.others ∙ ap (λ (q : Pools). record q { blocks = new.blocks }) c.take_block-at.ensures.others

@@ -1,6 +1,11 @@
-use Rattle.std.proofs.Common.{◌≡◌, ◌∙◌, ℕ, ◌+◌, ◌<◌, ◌≤◌, List, [], ◌∷◌, ◌++◌, length, true, Some, refl, sym, ap, subst, arith}
+use Rattle.std.proofs.Common.{◌≡◌, ◌∙◌, ℕ, ◌+◌, ◌<◌, List, [], ◌∷◌, ◌++◌, true, Some, refl, sym, ap, subst}
 use Rattle.store_history.specs.declared.history.Commit.{Commit}
 use Rattle.filter_state.specs.declared.edit.Edit.{Edit}
+use Rattle.store_history.specs.History.{edits_of}
+use Rattle.hook_law.proofs.Growing.{edits_more}
+use Rattle.number_pools.specs.Numbers.{PoolNumbers}
+use Rattle.desk_actions.specs.Effects.{IsCounted}
+use Rattle.desk_actions.proofs.Counted.{gave}
 use Rattle.filter_state.specs.States.{Action}
 use Rattle.filter_state.specs.Actions.{is_live, is_named}
 use Rattle.filter_state.specs.Tables.{first_where}
@@ -59,3 +64,22 @@ returns-clause-pools g c = let old = c.args.ledger.now in let h = commits old in
     (subst (λ (n : ℕ). IsInPool n left_one.blocks → ⊥) (sym block_is) (subst (λ q. IsInPool (block_of c.args.places.now (slot_of c.args.places.now serial)) q → ⊥) same_blocks (block_apart h b y _ c.mark-done.result c.args.kind c.args.index serial accepted c.requires.edit.2 named live l.rest c.args.places.now c.requires.places (old.point + 1) (ap (λ (n : ℕ). n + 1) l.kept.point_is) pools c.requires.pools))) in
     subst (λ (d : Sheet). ArePools c.leave_block.new.self (commits c.mark-done.new.self) (base_of d)) (sym c.mark-done.ensures.sheet)
     (subst (λ (j : List (Commit Edit)). ArePools c.leave_block.new.self j b) (sym c.mark-done.ensures.seen) all)
+
+pub returns-clause-journal : goal.returns-clause-journal
+returns-clause-journal g c = let old = c.args.ledger.now in let y = g.E.EditName.edit in
+    ap edits_of c.mark-done.ensures.seen ∙ edits_more (commits old) (mark_at (old.point + 1) y) (old.point + 1) y refl
+
+pub returns-clause-left_blocks : goal.returns-clause-left_blocks
+returns-clause-left_blocks g c = let pools = c.args.pools.now in let mid = c.leave_action.new.self in let new = c.leave_block.new.self in
+    subst (λ (q : PoolNumbers). IsCounted q new.blocks 0 1) (ap (λ (q : Pools). q.blocks) c.leave_action.ensures.others)
+    (gave mid.blocks new.blocks c.block.result c.leave_block.ensures.free c.leave_block.ensures.left c.leave_block.ensures.size)
+
+pub returns-clause-left_slots : goal.returns-clause-left_slots
+returns-clause-left_slots g c = let pools = c.args.pools.now in let mid = c.leave_action.new.self in let new = c.leave_block.new.self in
+    subst (λ (q : PoolNumbers). IsCounted pools.actions q 0 1) (sym (ap (λ (q : Pools). q.actions) c.leave_block.ensures.others))
+    (gave pools.actions mid.actions c.slot-slot.result c.leave_action.ensures.free c.leave_action.ensures.left c.leave_action.ensures.size)
+
+pub returns-clause-rest : goal.returns-clause-rest
+returns-clause-rest g c = let new = c.leave_block.new.self in
+    c.leave_block.ensures.others ∙ ap (λ (q : Pools). record q { blocks = new.blocks }) c.leave_action.ensures.others
+    ∙ ap (λ q. record c.args.pools.now { blocks = new.blocks; actions = q }) (sym (ap (λ (q : Pools). q.actions) c.leave_block.ensures.others))

@@ -1,15 +1,19 @@
-use Rattle.std.proofs.Common.{◌≡◌, ◌∙◌, ℕ, ◌+◌, ◌<◌, ◌≤◌, List, [], ◌∷◌, ◌++◌, length, Some, sym, ap, subst, arith}
+use Rattle.std.proofs.Common.{◌∙◌, ℕ, ◌+◌, List, Some, refl, sym, ap, subst, arith}
 use Rattle.store_history.specs.declared.history.Commit.{Commit}
-use Rattle.pin_store.specs.declared.view.Sheet.{Sheet}
-use Rattle.pin_store.specs.Sheets.{base_of}
-use Rattle.pin_store.specs.Calls.{seen_by, sheet_of, IsUnnamed}
+use Rattle.store_history.specs.History.{edits_of}
+use Rattle.hook_law.proofs.Growing.{edits_more}
+use Rattle.number_pools.specs.Numbers.{PoolNumbers}
+use Rattle.action_roots.specs.Records.{action_commit}
+use Rattle.desk_actions.specs.Effects.{IsCounted}
+use Rattle.desk_actions.proofs.Counted.{took, blocks_kept}
+use Rattle.pin_store.specs.Calls.{seen_by, sheet_of}
 use Rattle.filter_state.specs.declared.edit.Edit.{Edit}
 use Rattle.filter_state.specs.Steps.{step}
 use Rattle.filter_lists.specs.Edits.{IsFinished}
 use Rattle.hook_edit_laws.specs.Premises.{now}
 use Rattle.desk_pools.specs.declared.pools.Pools.{Pools}
 use Rattle.desk_pools.specs.Pools.{ArePools}
-use Rattle.desk_pools.specs.Steps.{IsInPool, IsTaken}
+use Rattle.desk_pools.specs.Steps.{IsInPool}
 use Rattle.desk_ledger.specs.Ledger.{IsLedger}
 use Rattle.desk_ledger.specs.Kept.{commits, base}
 use Rattle.desk_actions.specs.Places.{AreHere, put_at}
@@ -81,3 +85,37 @@ returns-clause-places g c = let old = c.args.ledger.now in let h = commits old i
     (c.take_block-at.ensures.taken h (base old) (c.take_action-slot.ensures.pools h (base old) c.requires.pools)).small in
     subst (λ p. AreHere p (seen_by c.put_action.new.writer.place)) (sym c.put.ensures)
     (subst (AreHere (put_at c.args.places.now x.serial c.take_action-slot.result c.take_block-at.result)) (sym c.put_action.ensures.seen) here)
+
+pub returns-clause-seen : goal.returns-clause-seen
+returns-clause-seen g c = let old = c.args.ledger.now in record {
+  commit = action_commit c.take_action-slot.result c.take_block-at.result c.made-action.result (old.point + 1) (Some (old.point + 1)) g.E.EditName.edit;
+  slot = c.take_action-slot.result;
+  seen = c.put_action.ensures.seen;
+  root = refl;
+  small = (c.take_action-slot.ensures.taken (commits old) (base old) c.requires.pools).small;
+  carries = refl;
+}
+
+pub returns-clause-journal : goal.returns-clause-journal
+returns-clause-journal g c = let old = c.args.ledger.now in let y = g.E.EditName.edit in
+    ap edits_of c.put_action.ensures.seen ∙ edits_more (commits old) (action_commit c.take_action-slot.result c.take_block-at.result c.made-action.result (old.point + 1) (Some (old.point + 1)) y) (old.point + 1) y refl
+
+pub returns-clause-others : goal.returns-clause-others
+returns-clause-others g c = let old = c.args.ledger.now in
+    blocks_kept c.args.store.now.shape (commits old) (base old) c.take_block-at.result (sheet_of old.writer.place) (sheet_of c.put_action.new.writer.place) c.requires.whole.kept.low
+    (c.take_block-at.ensures.taken (commits old) (base old) (c.take_action-slot.ensures.pools (commits old) (base old) c.requires.pools)).free c.put_action.ensures.others
+
+pub returns-clause-blocks : goal.returns-clause-blocks
+returns-clause-blocks g c = let pools = c.args.pools.now in let mid = c.take_action-slot.new.self in let new = c.take_block-at.new.self in
+    subst (λ (q : PoolNumbers). IsCounted q new.blocks 1 0) (ap (λ (q : Pools). q.blocks) c.take_action-slot.ensures.others)
+    (took mid.blocks new.blocks c.take_block-at.result c.take_block-at.ensures.free c.take_block-at.ensures.left c.take_block-at.ensures.size)
+
+pub returns-clause-actions : goal.returns-clause-actions
+returns-clause-actions g c = let pools = c.args.pools.now in let mid = c.take_action-slot.new.self in let new = c.take_block-at.new.self in
+    subst (λ (q : PoolNumbers). IsCounted pools.actions q 1 0) (sym (ap (λ (q : Pools). q.actions) c.take_block-at.ensures.others))
+    (took pools.actions mid.actions c.take_action-slot.result c.take_action-slot.ensures.free c.take_action-slot.ensures.left c.take_action-slot.ensures.size)
+
+pub returns-clause-rest : goal.returns-clause-rest
+returns-clause-rest g c = let new = c.take_block-at.new.self in
+    c.take_block-at.ensures.others ∙ ap (λ (q : Pools). record q { blocks = new.blocks }) c.take_action-slot.ensures.others
+    ∙ ap (λ q. record c.args.pools.now { blocks = new.blocks; actions = q }) (sym (ap (λ (q : Pools). q.actions) c.take_block-at.ensures.others))

@@ -1,5 +1,4 @@
-use Rattle.std.proofs.Common.{◌≡◌, ◌∙◌, Some, None, ap, sym, refl}
-use Rattle.act_registry.specs.declared.registry.Registry as registries
+use Rattle.std.proofs.Common.{◌∙◌, Some, None, ap, sym, refl}
 use Rattle.action_plan.specs.Entries.{action_of, actions_of}
 use Rattle.desk_actions.proofs.Names.{found_entry, live_found}
 use Rattle.desk_actions.proofs.naming.serial_of.Goals as goal

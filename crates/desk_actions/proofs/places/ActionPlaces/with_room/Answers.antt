@@ -1,4 +1,4 @@
-use Rattle.std.proofs.Common.{◌≡◌, ◌∙◌, ℕ, ◌<◌, List, length, get_or, replicate, ap, sym, subst}
+use Rattle.std.proofs.Common.{◌∙◌, ℕ, ◌<◌, List, length, get_or, ap, sym, subst}
 use Rattle.std.proofs.lemmas.List.{length-replicate}
 use Rattle.desk_actions.proofs.Rooms.{zeros_are_small, nothing_here}
 use Rattle.desk_actions.proofs.places.ActionPlaces.with_room.Goals as goal

@@ -15,3 +15,6 @@ returns-clause-none c = record {
   ingress = refl;
   egress = refl;
 }
+
+pub returns-clause-sizes : goal.returns-clause-sizes
+returns-clause-sizes c = (c.in_ok-with_size.ensures.size, c.in_ok-with_size-2.ensures.size, c.in_ok-with_size-3.ensures.size, c.in_ok-with_size-4.ensures.size)

@@ -1,0 +1,17 @@
+pub mod Told
+pub mod Ranges
+pub mod TablesGiven
+pub mod Spending
+pub mod Raised
+pub mod Swapped
+pub mod Tables
+pub mod Holding
+pub mod Opened
+pub mod OpenMasks
+pub mod OpenPools
+pub mod OpenSteps
+pub mod Closed
+pub mod CloseSteps
+pub mod Distinct
+pub mod Forgotten
+pub mod Held

@@ -1,0 +1,6 @@
+pub mod Slots
+pub mod Gives
+pub mod Opens
+pub mod Handed
+pub mod Closes
+pub mod Leaving

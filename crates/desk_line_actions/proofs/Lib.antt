@@ -1,0 +1,11 @@
+pub mod Living
+pub mod Steps
+pub mod Finished
+pub mod Going
+pub mod Finding
+pub mod Lasting
+pub mod Looping
+pub mod Leaving
+pub mod Held
+pub mod Short
+pub mod Balance

@@ -1,0 +1,3 @@
+pub mod Slotting
+pub mod Staying
+pub mod Going

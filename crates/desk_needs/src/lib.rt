@@ -1,0 +1,15 @@
+//! What a hook's store holds of each of its pools, and what an edit needs of them.
+//!
+//! A hook's store has room for so many blocks, rows, slots of masks and of actions, and two places for the
+//! tables of each hook. What of these is in use follows from the plain state alone (`live_of`,
+//! `specs/Live.antt`), and what an edit takes from the state and the edit (`needed_of`, `specs/Needs.antt`).
+//! So whoever rehearses an edit can tell from a state whether it could be held, without a look at any store.
+//!
+//! Definitions: there is nothing here to call at run time but names, so any thread may do anything with it.
+//!
+//! Not promised: that a store has what an edit needs. What left may wait for readers that came before.
+#![tactic(auto)]
+
+mod pool;
+
+pub use pool::Pool;

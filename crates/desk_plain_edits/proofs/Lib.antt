@@ -1,0 +1,4 @@
+pub mod Aside
+pub mod Desks
+pub mod Marked
+pub mod Rooms

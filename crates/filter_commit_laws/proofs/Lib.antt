@@ -1,0 +1,9 @@
+pub mod Slotting
+pub mod Splitting
+pub mod Spending
+pub mod Rewriting
+pub mod Locating
+pub mod Adding
+pub mod Removing
+pub mod Exchanging
+pub mod After

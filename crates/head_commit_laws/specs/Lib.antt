@@ -1,0 +1,4 @@
+pub mod Listed
+pub mod Raised
+pub mod Given
+pub mod Built

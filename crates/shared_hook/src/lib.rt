@@ -1,0 +1,49 @@
+//! One hook, edited by one thread while others walk it.
+//!
+//! # One writer, many readers
+//!
+//! A `Desk` belongs to the one thread that edits: it has the plain lists of the hook's filters and actions,
+//! and the writer of the store that follows them. Each edit is one numbered commit to that store, with a few
+//! without a number around it. Up to eight `HookReader`s, each in a thread of its own, walk the store
+//! meanwhile. `make_hook` makes all of these at once, for a hook without a qdisc.
+//!
+//! The call that applies an edit isn't here yet. A desk tells its lists and its pools, gives out receipts,
+//! meets readers and tidies.
+//!
+//! # Why no reader waits
+//!
+//! A reader loads words, and what a root names doesn't change while it reads: an edit puts what is new into
+//! blocks that no reader inside can come to, and then one root's word makes it stand. So a reader is never in
+//! the way of an edit and no edit in the way of a reader. What a reader may still read is not given again
+//! before it leaves: the pools keep apart what is free and what left.
+//!
+//! # What a point is
+//!
+//! The journal is the list of edits that the commits carry, and a point is a number of them. Each visit of a
+//! walk is answered as the state at one point, at which the visited thing stood (`hook_reader`). The lists of
+//! the desk are the state at the journal's end, so who holds a desk can compare.
+//!
+//! # What is given again, and when
+//!
+//! Blocks, rows, slots and the idle places of tables that left may be given once every reader that was
+//! inside at that time has left. `Desk::tidy` finds out, by epochs, and says which reader is in the way where
+//! one is.
+//!
+//! # Who may call what
+//!
+//! The desk and each reader may be sent to any thread, and are used by one at a time. A reader that learns a
+//! receipt of the desk (`receipt`, then `learn`) answers no visit of a head from before it. `make_hook` takes
+//! memory; no other call here does, and none waits.
+//!
+//! Not promised: that a reader ever leaves, and that two readers see one edit at one time.
+#![tactic(auto)]
+
+mod counts;
+mod desk;
+mod making;
+mod passes;
+
+pub use counts::PoolCounts;
+pub use desk::Desk;
+pub use making::make_hook;
+pub use passes::Passes;

@@ -1,0 +1,210 @@
+//! Blocks whose words were written down by hand.
+use act_kinds::{Control, Params, VlanOp};
+use block_codec::{
+    read_action, read_filter, read_mask, read_table, write_action, write_filter, write_mask,
+    write_table,
+};
+use std::test::Fail;
+use tc_base::Proto;
+use visit_room::{ActionName, MaskName};
+
+// 2^32, with which a number in the high half of a word counts.
+const HIGH: u64 = 1 << 32;
+
+// A block with these first words, and a link to block 8.
+fn block_of(named: &[u64]) -> [u64; 40] {
+    let mut words = [0; 40];
+    for (word, named) in words.iter_mut().zip(named.iter()) {
+        *word = *named;
+    }
+    words[39] = 9;
+    words
+}
+
+#[test]
+fn filter(rt: HostRuntime) -> Result<(), Fail> {
+    let words = block_of(&[
+        1,
+        7,
+        2,
+        10,
+        11,
+        12,
+        13,
+        14,
+        15,
+        16,
+        17,
+        18,
+        19,
+        20,
+        21,
+        22,
+        23,
+        5 + 2 * HIGH,
+        16_384 + 2_047 * HIGH,
+    ]);
+    let Some((stored, link)) = read_filter(&words) else {
+        return Err(Fail::new("no filter"));
+    };
+    assert_eq!(rt; (stored.handle, link), (7, Some(8)));
+    assert_eq!(rt;
+        stored.key.words,
+        [10, 11, 12, 13, 14, 15, 16, 17, 18, 19, 20, 21, 22, 23]
+    );
+    assert_eq!(rt;
+        stored.actions.actions(),
+        [
+            ActionName { serial: 5, slot: 2 },
+            ActionName {
+                serial: 16_384,
+                slot: 2_047
+            }
+        ]
+        .as_slice()
+    );
+    let mut again = [1; 40];
+    write_filter(&stored, link, &mut again);
+    assert_eq!(rt; again, words);
+    Ok(())
+}
+
+#[test]
+fn mask(rt: HostRuntime) -> Result<(), Fail> {
+    let words = block_of(&[
+        2,
+        6,
+        32,
+        1,
+        2,
+        3,
+        4,
+        5,
+        6,
+        7,
+        8,
+        9,
+        10,
+        11,
+        12,
+        13,
+        14,
+        300 + 8_191 * 65_536,
+    ]);
+    let Some((stored, link)) = read_mask(&words) else {
+        return Err(Fail::new("no mask"));
+    };
+    assert_eq!(rt; (stored.serial, stored.size, link), (6, 32, Some(8)));
+    assert_eq!(rt;
+        stored.mask.words,
+        [1, 2, 3, 4, 5, 6, 7, 8, 9, 10, 11, 12, 13, 14]
+    );
+    assert_eq!(rt; stored.rows.items(), [300, 8_191].as_slice());
+    let mut again = [1; 40];
+    write_mask(&stored, link, &mut again);
+    assert_eq!(rt; again, words);
+    Ok(())
+}
+
+#[test]
+fn table(rt: HostRuntime) -> Result<(), Fail> {
+    let words = block_of(&[
+        3,
+        4 + 65_535 * HIGH,
+        268_435_455 + 65_536 * HIGH,
+        1,
+        6 + 8_191 * HIGH,
+    ]);
+    let Some((stored, link)) = read_table(&words) else {
+        return Err(Fail::new("no table"));
+    };
+    assert_eq!(rt;
+        (stored.serial, stored.pref, stored.chain),
+        (4, 65_535, 268_435_455)
+    );
+    assert_eq!(rt; (stored.protocol, link), (Proto::All, Some(8)));
+    assert_eq!(rt;
+        stored.masks.items(),
+        [MaskName {
+            serial: 6,
+            slot: 8_191
+        }]
+        .as_slice()
+    );
+    let mut again = [1; 40];
+    write_table(&stored, link, &mut again);
+    assert_eq!(rt; again, words);
+    Ok(())
+}
+
+// The parameters of an action with these words, which are written back as they were.
+fn params_in(words: [u64; 5]) -> Option<Params> {
+    let block = block_of(&[
+        4,
+        3 + 100 * HIGH,
+        words[0],
+        words[1],
+        words[2],
+        words[3],
+        words[4],
+    ]);
+    let (stored, link) = read_action(&block)?;
+    let mut again = [1; 40];
+    write_action(&stored, link, &mut again);
+    if again == block && stored.serial == 3 && stored.index == 100 {
+        Some(stored.params)
+    } else {
+        None
+    }
+}
+
+#[test]
+fn actions(rt: HostRuntime) {
+    assert_eq!(rt;
+        params_in([1, 2, 0, 0, 0]),
+        Some(Params::Gact(Control::Shot))
+    );
+    assert_eq!(rt;
+        params_in([1, 6 + 3 * HIGH, 0, 0, 0]),
+        Some(Params::Gact(Control::Jump(3)))
+    );
+    assert_eq!(rt;
+        params_in([1, 7, 0, 0, 0]),
+        Some(Params::Gact(Control::Goto(0)))
+    );
+    let push = VlanOp::Push {
+        tpid: 0x88A8,
+        id: 100,
+        priority: 5,
+    };
+    assert_eq!(rt;
+        params_in([2, 5, 1, 100 + 0x88A8 * HIGH, 6]),
+        Some(Params::Vlan(push, Control::Reclassify))
+    );
+    assert_eq!(rt;
+        params_in([2, 4, 2, 0, 0]),
+        Some(Params::Vlan(VlanOp::Pop, Control::Pipe))
+    );
+    let modify = VlanOp::Modify {
+        tpid: 0x8100,
+        id: 7,
+        priority: None,
+    };
+    assert_eq!(rt;
+        params_in([2, 1, 3, 7 + 0x8100 * HIGH, 0]),
+        Some(Params::Vlan(modify, Control::Accept))
+    );
+    let marks = Params::Skbedit {
+        priority: None,
+        mark: Some(0),
+        queue: Some(9),
+        control: Control::Unspec,
+    };
+    assert_eq!(rt; params_in([3, 3, 6, 0, 9]), Some(marks));
+
+    // A push has a priority, a place has no control but jump and goto, and what isn't given is 0.
+    assert_eq!(rt; params_in([2, 5, 1, 100, 0]), None);
+    assert_eq!(rt; params_in([1, 2 + 3 * HIGH, 0, 0, 0]), None);
+    assert_eq!(rt; params_in([3, 3, 2, 1, 0]), None);
+    assert_eq!(rt; params_in([4, 1, 0, 0, 0]), None);
+}
