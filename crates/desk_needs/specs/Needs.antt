@@ -16,17 +16,10 @@ use Rattle.filter_state.specs.Tables.{hook_eq, filter_row}
 use Rattle.filter_state.specs.Steps.{step}
 use Rattle.filter_state.specs.Journals.{state_after}
 use Rattle.std.specs.Option.{unwrap_or}
+use Rattle.desk_needs.specs.declared.needs.Needs.{Needs}
 use Rattle.desk_needs.specs.declared.pool.Pool.{Pool}
 use Rattle.desk_needs.specs.declared.pool.Pool.TheVariants as pools
 use Rattle.desk_needs.specs.Live.{count_of, rows_of}
-
--- what is needed of blocks, rows and slots, and whether the tables of a hook change, or their masks
-pub record Needs : Type 0 where
-  pub blocks : ℕ
-  pub rows : ℕ
-  pub masks : ℕ
-  pub actions : ℕ
-  pub head : Option Hook
 
 abbrev pub nothing : Needs
 nothing = record { blocks = 0; rows = 0; masks = 0; actions = 0; head = None }

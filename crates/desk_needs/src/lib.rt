@@ -10,6 +10,8 @@
 //! Not promised: that a store has what an edit needs. What left may wait for readers that came before.
 #![tactic(auto)]
 
+mod needs;
 mod pool;
 
+pub use needs::Needs;
 pub use pool::Pool;

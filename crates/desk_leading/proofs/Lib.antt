@@ -1,0 +1,5 @@
+pub mod Aside
+pub mod Led
+pub mod Removed
+pub mod Passing
+pub mod Behind

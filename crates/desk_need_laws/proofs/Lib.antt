@@ -1,0 +1,5 @@
+pub mod Counted
+pub mod Added
+pub mod Moved
+pub mod Gone
+pub mod Behind
