@@ -1,0 +1,4 @@
+pub mod Sizes
+pub mod Totals
+pub mod Lines
+pub mod Pools
