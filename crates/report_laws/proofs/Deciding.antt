@@ -30,9 +30,9 @@ use Rattle.lawful_runs.specs.Lawful.{outcomes_in}
 use Rattle.filter_state.proofs.Places.{each_at}
 use Rattle.lawful_runs.proofs.Walks.{walk_over, point_within}
 use Rattle.line_cut_laws.specs.Numbers.{AreShort}
-use Rattle.report_stand_laws.specs.Begun.{IsBegun, AreBegun}
-use Rattle.report_stand_laws.specs.Stands.{Stand, start, opening, inside, closing, with_event, with_outcome, IsNextEvent, IsNextOutcome, TakesEvent, TakesPacket, TakesIn, Takes, journal_length}
-use Rattle.report_stand_laws.proofs.OneControl.{events_of-append, all_own}
+use Rattle.report_laws.specs.Begun.{IsBegun, AreBegun}
+use Rattle.report_laws.specs.Stands.{Stand, start, opening, inside, closing, with_event, with_outcome, IsNextEvent, IsNextOutcome, TakesEvent, TakesPacket, TakesIn, Takes, journal_length}
+use Rattle.report_laws.proofs.OneControl.{events_of-append, all_own}
 use Rattle.lawful_runs.proofs.GivenCommands.{AreGiven, all_given, one_words, control_small}
 use Rattle.report_laws.proofs.LineTexts.{kind_head, packet_head, end_head, control_told, IsToldBy, outcome_told, first_of, second_of}
 

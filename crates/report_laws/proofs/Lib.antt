@@ -4,3 +4,8 @@ pub mod ReportLines
 pub mod OnePath
 pub mod ShortJournals
 pub mod OneRun
+pub mod Places
+pub mod OneControl
+pub mod Texts
+pub mod Fronts
+pub mod Paths

@@ -7,7 +7,7 @@ use Rattle.filter_state.specs.declared.edit.Edit.{Edit}
 use Rattle.run_report.specs.declared.rounds.RoundRecord.{RoundRecord}
 use Rattle.lawful_runs.specs.declared.loaded.LoadedJob.{LoadedJob}
 use Rattle.lawful_runs.specs.Given.{GivenRound, IsLoaded, given_rounds}
-use Rattle.report_stand_laws.specs.Stands.{Stand, start, opening, inside, closing, settled_at, TakesIn, Takes, IsPath, journal_length}
+use Rattle.report_laws.specs.Stands.{Stand, start, opening, inside, closing, settled_at, TakesIn, Takes, IsPath, journal_length}
 use Rattle.report_laws.proofs.Deciding.{one_next}
 
 -- ---- the journal only grows

@@ -8,8 +8,8 @@ use Rattle.lawful_runs.specs.Given.{IsLoaded}
 use Rattle.lawful_runs.specs.Lawful.{IsLawfulRun}
 use Rattle.line_cut_laws.specs.Cuts.{cut}
 use Rattle.line_cut_laws.proofs.Cutting.{cut_joined}
-use Rattle.report_stand_laws.specs.Stands.{Stand, start, closing, IsPath}
-use Rattle.report_stand_laws.proofs.Paths.{run_path}
+use Rattle.report_laws.specs.Stands.{Stand, start, closing, IsPath}
+use Rattle.report_laws.proofs.Paths.{run_path}
 use Rattle.report_laws.proofs.ReportLines.{report_is_lines}
 use Rattle.report_laws.proofs.ShortJournals.{journal_short}
 use Rattle.report_laws.proofs.OnePath.{one_path}

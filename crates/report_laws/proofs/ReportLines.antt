@@ -37,8 +37,8 @@ use Rattle.run_report.specs.Reports.{numbered_line, counter_lines, report_lines}
 use Rattle.line_cut_laws.specs.Cuts.{Inner, IsLine, AreLines}
 use Rattle.line_cut_laws.proofs.Cutting.{inner_append}
 use Rattle.line_cut_laws.proofs.Digits.{digits_high, high_inner}
-use Rattle.report_stand_laws.specs.Stands.{last_lines}
-use Rattle.report_stand_laws.proofs.Texts.{lines_after, packets_from, round_text, rounds_from, rounds_lines_are}
+use Rattle.report_laws.specs.Stands.{last_lines}
+use Rattle.report_laws.proofs.Texts.{lines_after, packets_from, round_text, rounds_from, rounds_lines_are}
 
 -- ---- pieces
 both : (a b : Bool) → (a && b) ≡ true → (a ≡ true) × (b ≡ true)

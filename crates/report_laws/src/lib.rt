@@ -10,6 +10,15 @@
 //! and its points, and its walk is a function of these. All other lines follow from what was told before. So
 //! the lines of a report are the path of one run.
 //!
+//! Line by line, a smaller question is asked: which line may come next? A `Stand` (`specs/Stands.antt`) says
+//! how far a report has come: before its first line, before a round, in a round with what it has told so far,
+//! or behind the rounds with the lines that are left. `Takes` says of a stand and a line whether that line
+//! may come there, and where the report then stands: a control's next command with its result on the state so
+//! far (`specs/Begun.antt` says which events a round can have had), the next packet's walk at lawful points,
+//! a round's first and last line, a counter. Each of these is judged by the job and by what was told before,
+//! and by nothing that is told later. The lines of a lawful run may come one after the other, to the end
+//! (`runs_are_paths`).
+//!
 //! Numbers are told apart by their decimals as far as those of 64 bits go. A loaded job has far fewer
 //! commands, so no point comes near. That no two batches of a round are of one control is asked of the job as
 //! well: with two, a line might be a command of either.
@@ -18,5 +27,7 @@
 #![tactic(auto)]
 
 mod laws;
+mod stands;
 
 pub use laws::{lines_of_reports, one_run_of_each_report, one_stand};
+pub use stands::runs_are_paths;

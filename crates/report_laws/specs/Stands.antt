@@ -19,7 +19,7 @@ use Rattle.lawful_runs.specs.Points.{seen_by}
 use Rattle.lawful_runs.specs.Outcomes.{IsWalked}
 use Rattle.lawful_runs.specs.Events.{AreInOrder, IsLineOf, IsResult}
 use Rattle.lawful_runs.specs.Lawful.{outcomes_in, counters_of}
-use Rattle.report_stand_laws.specs.Begun.{AreBegun}
+use Rattle.report_laws.specs.Begun.{AreBegun}
 
 -- HOW FAR A REPORT HAS COME: before its first line; before a round, behind earlier rounds and their journal;
 -- in a round, with what it has told so far and the edits that it has accepted; behind all rounds, with the

@@ -11,8 +11,8 @@ use Rattle.lawful_runs.specs.Given.{GivenBatch, Arrival}
 use Rattle.lawful_runs.specs.Outcomes.{AreWalked}
 use Rattle.lawful_runs.specs.Events.{GoesOn, IsThrough, AreInOrder, events_of}
 use Rattle.lawful_runs.proofs.WalkedEach.{IsWalkedBehind, AreWalkedFrom}
-use Rattle.report_stand_laws.specs.Begun.{IsBegun, AreBegun}
-use Rattle.report_stand_laws.proofs.OneControl.{events_of-append}
+use Rattle.report_laws.specs.Begun.{IsBegun, AreBegun}
+use Rattle.report_laws.proofs.OneControl.{events_of-append}
 
 -- ---- events
 front_by : (force b : Bool) (commands : List Command) (xs ys : List Event) → (IsThrough force commands (xs ++ ys) → IsBegun force commands xs)

@@ -5,7 +5,7 @@ ghost use Rattle.run_report.specs.declared.record.RunRecord.{RunRecord};
 ghost use Rattle.run_report.specs.Reports.{report_lines};
 ghost use Rattle.lawful_runs.specs.declared.loaded.LoadedJob.{LoadedJob};
 ghost use Rattle.lawful_runs.specs.Lawful.{IsRunWith};
-ghost use Rattle.report_stand_laws.specs.Stands.{start, closing, IsPath};
+ghost use Rattle.report_laws.specs.Stands.{start, closing, IsPath};
 
 /// The lines of a lawful run are a path from before the first line to the end, where this run and its journal
 /// stand.

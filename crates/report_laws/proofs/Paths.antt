@@ -19,11 +19,11 @@ use Rattle.lawful_runs.specs.Events.{AreInOrder, AreResults}
 use Rattle.lawful_runs.specs.Lawful.{IsRound, AreRounds, IsRunWith, outcomes_in}
 use Rattle.lawful_runs.proofs.WalkedEach.{AreWalkedFrom}
 use Rattle.lawful_runs.proofs.Events.{state_from-append, leads}
-use Rattle.report_stand_laws.specs.Begun.{AreBegun}
-use Rattle.report_stand_laws.specs.Stands.{Stand, start, opening, inside, closing, no_round, run_of, last_lines, settled_at, settled, IsPath}
-use Rattle.report_stand_laws.proofs.Places.{there}
-use Rattle.report_stand_laws.proofs.Texts.{accepted_append, lines_after, packets_from, round_text, rounds_from, rounds_lines_are, edits_append, edits_cons}
-use Rattle.report_stand_laws.proofs.Fronts.{begun_front, walks_from}
+use Rattle.report_laws.specs.Begun.{AreBegun}
+use Rattle.report_laws.specs.Stands.{Stand, start, opening, inside, closing, no_round, run_of, last_lines, settled_at, settled, IsPath}
+use Rattle.report_laws.proofs.Places.{there}
+use Rattle.report_laws.proofs.Texts.{accepted_append, lines_after, packets_from, round_text, rounds_from, rounds_lines_are, edits_append, edits_cons}
+use Rattle.report_laws.proofs.Fronts.{begun_front, walks_from}
 
 pub path_append : (loaded : LoadedJob) (a b c : Stand) (xs ys : List (List ℕ)) → IsPath loaded a xs b → IsPath loaded b ys c → IsPath loaded a (xs ++ ys) c
 path_append loaded a b c [] ys first second = subst (λ (s : Stand). IsPath loaded s ys c) first second
