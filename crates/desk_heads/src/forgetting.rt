@@ -1,10 +1,12 @@
 //! A mask that is gone leaves the writer.
-ghost use Rattle.std.specs.Prelude.{◌≡◌, ◌≢◌, ◌<◌, ◌≤◌, ℕ, List, length, slice_set, Some, None};
+ghost use Rattle.std.specs.Prelude.{◌≡◌, ◌≢◌, ◌<◌, ◌≤◌, ℕ, List, ◌∷◌, length, slice_set, None};
 ghost use Rattle.store_history.specs.declared.history.Commit.{Commit};
+ghost use Rattle.store_history.specs.History.{root_of};
 ghost use Rattle.pin_store.specs.declared.shape.Shape.{Shape};
 ghost use Rattle.filter_state.specs.declared.edit.Edit.{Edit};
 ghost use Rattle.block_codec.specs.declared.places.TheConstants.{MASK_SLOTS};
 ghost use Rattle.mask_mirror.specs.declared.mirror.KeptMask.{KeptMask};
+ghost use Rattle.mask_mirror.specs.Forgetting.{bucket_blocks};
 ghost use Rattle.mask_writer.specs.Masks.{Masks};
 ghost use Rattle.mask_writer.specs.Standing.{masks_of, StandsAt};
 ghost use Rattle.hook_law.specs.Standing.{IsIn, IsMaskAt};
@@ -28,6 +30,11 @@ pub fn forget_mask(masks: &mut MaskWriter, slot: u32)
     ensures gone { masks_of masks.new ≡ slice_set (masks_of masks.old) slot None }
     ensures holds { (shape : Shape) (cells : List ℕ) (h : List (Commit Edit))
         → HoldsMasks masks.old shape cells h → IsGone masks.old h slot → HoldsMasks masks.new shape cells h }
+    ensures rows { (kept : KeptMask) → StandsAt masks.old slot kept
+        → masks.new.left_rows ≡ kept.mask.rows }
+    ensures blocks { (kept : KeptMask) (shape : Shape) (cells : List ℕ) (h : List (Commit Edit))
+        → StandsAt masks.old slot kept → HoldsMasks masks.old shape cells h
+        → masks.new.left_blocks ≡ kept.block ∷ bucket_blocks (root_of h) kept.mask kept.mask.size }
     // other masks that are gone are so still
     ensures others { (h : List (Commit Edit)) (other : ℕ) → other ≢ slot → IsGone masks.old h other
         → IsGone masks.new h other }

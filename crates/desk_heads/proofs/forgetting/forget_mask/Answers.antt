@@ -14,6 +14,12 @@ pub returns-clause-holds : goal.returns-clause-holds
 returns-clause-holds c = λ shape cells h holds gone. let f = c.forget.ensures in
     forget_holds c.args.masks.now c.args.slot c.requires.stands.0 c.requires.stands.1 shape cells h holds gone c.forget.new.self f.gone (f.kept shape cells (root_of h) holds.named) f.lists
 
+pub returns-clause-rows : goal.returns-clause-rows
+returns-clause-rows c = λ kept stands. c.forget.ensures.rows kept stands
+
+pub returns-clause-blocks : goal.returns-clause-blocks
+returns-clause-blocks c = λ kept shape cells h stands holds. c.forget.ensures.blocks kept shape cells (root_of h) stands holds.named
+
 pub returns-clause-others : goal.returns-clause-others
 returns-clause-others c = λ h other ne gone. gone_still c.args.masks.now c.forget.new.self h c.args.slot other c.forget.ensures.gone ne gone
 

@@ -1,0 +1,15 @@
+use Rattle.hook_edit_laws.specs.Premises.{now}
+use Rattle.desk_ledger.specs.Kept.{commits, base}
+use Rattle.desk_edits.proofs.Led.{IsFirst, first_is}
+use Rattle.desk_edits.proofs.Removed.{is_ahead_removal}
+use Rattle.desk_edits.proofs.leading.lead_removal.Goals as goal
+
+pub returns-clause-ahead : goal.returns-clause-ahead
+returns-clause-ahead g c = let was = c.args.parts.now in let d = c.requires.desk in let y = g.E.EditName.edit in let h = commits was.ledger in let b = base was.ledger in
+    let first : IsFirst h b y c.finish.new.self c.finish.result = first_is h b was.ledger.lists c.finish.new.self was.ledger.point y c.args.prepared.edit c.finish.result d.whole c.requires.edit.1 c.requires.edit.0 (c.finish.ensures (now h) d.whole.spells) in
+    is_ahead_removal was c.finish.new.self y c.finish.result d first c.requires.edit.2 c.requires.removal
+
+pub returns-clause-done : goal.returns-clause-done
+returns-clause-done g c = let was = c.args.parts.now in let d = c.requires.desk in let y = g.E.EditName.edit in let h = commits was.ledger in let b = base was.ledger in
+    let first : IsFirst h b y c.finish.new.self c.finish.result = first_is h b was.ledger.lists c.finish.new.self was.ledger.point y c.args.prepared.edit c.finish.result d.whole c.requires.edit.1 c.requires.edit.0 (c.finish.ensures (now h) d.whole.spells) in
+    first.accepted.steps

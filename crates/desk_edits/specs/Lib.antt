@@ -1,0 +1,6 @@
+pub mod Ahead
+pub mod Taken
+pub mod Swaps
+pub mod Lines
+pub mod Parting
+pub mod Goes

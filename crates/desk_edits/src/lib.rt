@@ -1,0 +1,60 @@
+//! Edits of filters on a whole desk, part by part.
+//!
+//! An edit of filters is several commits. The lists come first, since nothing can fail any more then, and all
+//! that the commits need is read off the new lists. Then each new action gets a slot and a block of its own,
+//! which no walk comes to (`lead`, `lead_removal`). So from there up to the edit's own commit the lists are
+//! one edit ahead of the commits: `IsAhead` is what holds meanwhile, and what each of the calls that make
+//! that commit asks for. Behind it, the actions that went leave (`let_go`).
+//!
+//! One filter of a mask that stands comes, goes or gives way to another by one commit to the root of one
+//! bucket (`add_to_mask`, `take_from_mask`, `exchange_in_mask`). Heads, tables, places of actions and all
+//! other masks stay as they were. But the mask may have another size now than its filters need:
+//! `add_to_mask` and `take_from_mask` lead to `IsUnsettled`, and tell by how many filters the mask changed
+//! and for how many it has its size. Where that size is still right, `settled_masks` says that the desk is
+//! one again; else `resize_mask` lays the mask anew. `exchange_in_mask` leaves a desk at once.
+//!
+//! Other edits change which masks a hook has, and give it its tables anew. `open_in_head` puts a filter into
+//! a mask of its own, which is made for it, in a table that stands or is new. `close_in_head` deletes the
+//! only filter of a mask, or a whole table. Which masks went isn't told by the edit, since a table may take
+//! several with it. But the old tables and the new ones of the hook are at hand once its root names the new
+//! ones, and a mask of the old ones that the new ones don't have went: a mask stands on one hook, in one
+//! table. It is looked for near its old place first, so that few edits search all tables. For each the writer
+//! of masks forgets it, its slot leaves, then its rows, and then the blocks that those roots alone name.
+//!
+//! The numbers that a commit takes come out of the pools inside its call, so that what is known of free ones
+//! holds of the very commits that it finds; those that it sets free leave. Memory may be refused only before
+//! an edit is begun, and how much it takes is known by then. So the lists that name what is taken are made
+//! before: each call is given a `Room`, and lets go of it.
+//!
+//! The thread that has the store's writer calls, with an edit that was made ready before. A call refuses
+//! nothing, takes no memory and doesn't wait.
+//!
+//! Not promised: that the pools have what is taken, that the idle place of a hook is free, or that `later`
+//! filters are counted right. All are the caller's to see to, by tidying or else, and by `later_in_bucket` of
+//! `desk_filters`; and so it is to tell which kind of edit it is, as `way_of` of `desk_ways` does.
+#![tactic(auto)]
+
+mod adding;
+mod closing;
+mod exchanging;
+mod laws;
+mod leading;
+mod leaving;
+mod letting;
+mod opening;
+mod removing;
+mod room;
+mod serials;
+mod settling;
+mod taking;
+
+pub use adding::add_to_mask;
+pub use closing::close_in_head;
+pub use exchanging::exchange_in_mask;
+pub use laws::{gone_may_go, places_stay};
+pub use leading::{lead, lead_removal};
+pub use letting::let_go;
+pub use opening::open_in_head;
+pub use removing::take_from_mask;
+pub use room::Room;
+pub use settling::{resize_mask, settled_masks};

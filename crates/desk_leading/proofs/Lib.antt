@@ -1,5 +1,0 @@
-pub mod Aside
-pub mod Led
-pub mod Removed
-pub mod Passing
-pub mod Behind
