@@ -19,3 +19,11 @@ pub mod Partings
 pub mod Named
 pub mod Begun
 pub mod Closable
+pub mod Answers
+pub mod AsideThen
+pub mod Counts
+pub mod Found
+pub mod Gone
+pub mod Kept
+pub mod Made
+pub mod Staying

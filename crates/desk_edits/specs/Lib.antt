@@ -4,3 +4,4 @@ pub mod Swaps
 pub mod Lines
 pub mod Parting
 pub mod Goes
+pub mod Spent

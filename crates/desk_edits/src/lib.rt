@@ -1,4 +1,4 @@
-//! Edits of filters on a whole desk, part by part.
+//! Edits of filters on a whole desk.
 //!
 //! An edit of filters is several commits. The lists come first, since nothing can fail any more then, and all
 //! that the commits need is read off the new lists. Then each new action gets a slot and a block of its own,
@@ -21,6 +21,13 @@
 //! table. It is looked for near its old place first, so that few edits search all tables. For each the writer
 //! of masks forgets it, its slot leaves, then its rows, and then the blocks that those roots alone name.
 //!
+//! Whole edits of one filter of a mask that stands are made of these parts: `put_into_mask`,
+//! `exchange_in_place` and `take_out_of_mask`. Each asks for a desk, for the way that `desk_ways` found on it
+//! and for what `needs_by` tells of that way, and leaves a desk again, one edit further. What was found holds
+//! of the desk before the edit, and each commit asks for it as things are then. Between the two come only
+//! commits that carry no edit and change no head, so every mask is still at its slot, with as many filters
+//! (`proofs/Found.antt`). As much is taken as is needed, and what leaves is told (`specs/Spent.antt`).
+//!
 //! The numbers that a commit takes come out of the pools inside its call, so that what is known of free ones
 //! holds of the very commits that it finds; those that it sets free leave. Memory may be refused only before
 //! an edit is begun, and how much it takes is known by then. So the lists that name what is taken are made
@@ -37,11 +44,15 @@
 mod adding;
 mod closing;
 mod exchanging;
+mod fitting;
+mod in_place;
+mod into_mask;
 mod laws;
 mod leading;
 mod leaving;
 mod letting;
 mod opening;
+mod out_of_mask;
 mod removing;
 mod room;
 mod serials;
@@ -51,10 +62,13 @@ mod taking;
 pub use adding::add_to_mask;
 pub use closing::close_in_head;
 pub use exchanging::exchange_in_mask;
+pub use in_place::exchange_in_place;
+pub use into_mask::put_into_mask;
 pub use laws::{gone_may_go, places_stay};
 pub use leading::{lead, lead_removal};
 pub use letting::let_go;
 pub use opening::open_in_head;
+pub use out_of_mask::take_out_of_mask;
 pub use removing::take_from_mask;
 pub use room::Room;
 pub use settling::{resize_mask, settled_masks};
