@@ -43,3 +43,14 @@ answered s t y line done pref (inr both) chosen e = added_at s t line done pref 
 pub exchanged : (s t : State) (y : Edit) (line : FilterLine) (row : Row) (done : Done) → y ≡ edits.FilterReplace line → named_row s line ≡ Some row → step s y ≡ Ok (t, done)
     → (serials : List ℕ) × (done ≡ dones.Filter row.pref row.handle serials)
 exchanged s t y line row done is there e = let all = replaces s t line row done there (sym (ap (step s) is) ∙ e) in (all.r.serials, sym all.answer)
+
+-- an add is answered with the pref to which the line leads, whichever that is
+added_somewhere : (s t : State) (line : FilterLine) (done : Done) → filter_add s line ≡ Ok (t, done) → (pref : ℕ) × (pref_for s line.hook line.chain line.pref ≡ Ok pref) × IsFilterAt done pref
+added_somewhere s t line done e =
+    let hooked = not_unless (no_hook s) _ (t, done) e in
+    let first = and_then_ok (add_at s line) (pref_for s line.hook line.chain line.pref) (t, done) hooked.1 in
+    (first.0, first.1, added_at s t line done first.0 first.1 e)
+
+pub somewhere : (s t : State) (y : Edit) (line : FilterLine) (done : Done) → IsAddOf s line y → step s y ≡ Ok (t, done) → (pref : ℕ) × (pref_for s line.hook line.chain line.pref ≡ Ok pref) × IsFilterAt done pref
+somewhere s t y line done (inl is) e = added_somewhere s t line done (sym (ap (step s) is) ∙ e)
+somewhere s t y line done (inr both) e = added_somewhere s t line done (sym (ap (replace_or_add s line) both.1) ∙ sym (ap (step s) both.0) ∙ e)

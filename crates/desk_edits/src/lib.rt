@@ -21,12 +21,14 @@
 //! table. It is looked for near its old place first, so that few edits search all tables. For each the writer
 //! of masks forgets it, its slot leaves, then its rows, and then the blocks that those roots alone name.
 //!
-//! Whole edits of one filter of a mask that stands are made of these parts: `put_into_mask`,
-//! `exchange_in_place` and `take_out_of_mask`. Each asks for a desk, for the way that `desk_ways` found on it
-//! and for what `needs_by` tells of that way, and leaves a desk again, one edit further. What was found holds
-//! of the desk before the edit, and each commit asks for it as things are then. Between the two come only
-//! commits that carry no edit and change no head, so every mask is still at its slot, with as many filters
-//! (`proofs/Found.antt`). As much is taken as is needed, and what leaves is told (`specs/Spent.antt`).
+//! Whole edits are made of these parts: one filter of a mask that stands comes, gives way to another or goes
+//! (`put_into_mask`, `exchange_in_place`, `take_out_of_mask`), a filter comes with a mask of its own
+//! (`put_with_mask`), or masks go with all their filters (`take_masks`). Each asks for a desk, for the way
+//! that `desk_ways` found on it and for what `needs_by` tells of that way, and leaves a desk again, one edit
+//! further. What was found holds of the desk before the edit, and each commit asks for it as things are then.
+//! Between the two come only commits that carry no edit and change no head, so every mask is still at its
+//! slot, with as many filters (`proofs/Found.antt`). As much is taken as is needed, and what leaves is told
+//! (`specs/Spent.antt`).
 //!
 //! The numbers that a commit takes come out of the pools inside its call, so that what is known of free ones
 //! holds of the very commits that it finds; those that it sets free leave. Memory may be refused only before
@@ -35,6 +37,8 @@
 //!
 //! The thread that has the store's writer calls, with an edit that was made ready before. A call refuses
 //! nothing, takes no memory and doesn't wait.
+//!
+//! Not here: a filter that moves to another mask or key.
 //!
 //! Not promised: that the pools have what is taken, that the idle place of a hook is free, or that `later`
 //! filters are counted right. All are the caller's to see to, by tidying or else, and by `later_in_bucket` of
@@ -58,6 +62,8 @@ mod room;
 mod serials;
 mod settling;
 mod taking;
+mod with_mask;
+mod without_masks;
 
 pub use adding::add_to_mask;
 pub use closing::close_in_head;
@@ -72,3 +78,5 @@ pub use out_of_mask::take_out_of_mask;
 pub use removing::take_from_mask;
 pub use room::Room;
 pub use settling::{resize_mask, settled_masks};
+pub use with_mask::put_with_mask;
+pub use without_masks::take_masks;
