@@ -67,11 +67,11 @@ module _ (masks : Masks) (slot : ℕ) (kept : KeptMask) (stands : StandsAt masks
   pub slot_left : IsLeftAt h 3 1 slot
   slot_left j less = subst (IsEmptyRoot hook_meaning hook_codec h) (omega (arith, less)) gone.at_slot
 
-  bucket_of_row : (i j row : ℕ) → j < 16 → slice_get kept.mask.rows i ≡ Some row → (16 * i + j < kept.mask.size) × (bucket_root kept.mask (16 * i + j) ≡ 10243 + 16 * row + j)
-  bucket_of_row i j row less at =
-      let inside = slice_get_within kept.mask.rows i row at in let count = rows_count in
+  bucket_of_row : (i j number : ℕ) → j < 16 → slice_get kept.mask.rows i ≡ Some number → (16 * i + j < kept.mask.size) × (bucket_root kept.mask (16 * i + j) ≡ 10243 + 16 * number + j)
+  bucket_of_row i j number less at =
+      let inside = slice_get_within kept.mask.rows i number at in let count = rows_count in
       let place : (16 * i + j) / 16 ≡ i = omega (arith, less) in let off : (16 * i + j) % 16 ≡ j = omega (arith, less) in
-      let is : get_or kept.mask.rows ((16 * i + j) / 16) 0 ≡ row = ap (λ (n : ℕ). get_or kept.mask.rows n 0) place ∙ get_or_from_slice_get kept.mask.rows i row 0 at in
+      let is : get_or kept.mask.rows ((16 * i + j) / 16) 0 ≡ number = ap (λ (n : ℕ). get_or kept.mask.rows n 0) place ∙ get_or_from_slice_get kept.mask.rows i number 0 at in
       (omega (arith, less, inside, count), omega (arith, is, off))
 
   rows_different : AreDistinct kept.mask.rows
@@ -191,8 +191,8 @@ module _ (masks : Masks) (slot : ℕ) (kept : KeptMask) (stands : StandsAt masks
       slot_left = slot_left;
       rows_leave = record {
         different = distinct_of kept.mask.rows rows_different;
-        small = λ row at. subst (λ (n : ℕ). n < 8192) (get_or_from_slice_get kept.mask.rows at.0 row 0 at.1)
-            ((mask_storable masks shape cells (root_of h) holds.named slot kept stands).each_row at.0 0 (slice_get_within kept.mask.rows at.0 row at.1));
+        small = λ number at. subst (λ (n : ℕ). n < 8192) (get_or_from_slice_get kept.mask.rows at.0 number 0 at.1)
+            ((mask_storable masks shape cells (root_of h) holds.named slot kept stands).each_row at.0 0 (slice_get_within kept.mask.rows at.0 number at.1));
         left = λ row at j less. let x = bucket_of_row at.0 j row less at.1 in subst (IsEmptyRoot hook_meaning hook_codec h) x.1 (gone.at_rows kept (16 * at.0 + j) stands x.0);
         apart = rows_apart;
       };

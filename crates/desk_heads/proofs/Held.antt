@@ -23,12 +23,12 @@ use Rattle.desk_pools.specs.Steps.{IsInPool}
 use Rattle.desk_heads.specs.Closes.{HoldsMasks, IsGone}
 
 -- the first bucket of a row of a mask
-first_bucket : (masks : Masks) (shape : Shape) (cells : List ℕ) (h : List (Commit Edit)) → AreNamed masks shape cells (root_of h) → (slot row i : ℕ) (kept : KeptMask) → StandsAt masks slot kept
-    → slice_get kept.mask.rows i ≡ Some row → (at : BucketOf masks (10243 + 16 * row)) × (at.slot ≡ slot)
-first_bucket masks shape cells h named slot row i kept stands at =
-    let count = (mask_storable masks shape cells (root_of h) named slot kept stands).rows in let inside = slice_get_within kept.mask.rows i row at in
+first_bucket : (masks : Masks) (shape : Shape) (cells : List ℕ) (h : List (Commit Edit)) → AreNamed masks shape cells (root_of h) → (slot number i : ℕ) (kept : KeptMask) → StandsAt masks slot kept
+    → slice_get kept.mask.rows i ≡ Some number → (at : BucketOf masks (10243 + 16 * number)) × (at.slot ≡ slot)
+first_bucket masks shape cells h named slot number i kept stands at =
+    let count = (mask_storable masks shape cells (root_of h) named slot kept stands).rows in let inside = slice_get_within kept.mask.rows i number at in
     let place : 16 * i / 16 ≡ i = omega arith in
-    let is : get_or kept.mask.rows (16 * i / 16) 0 ≡ row = ap (λ (n : ℕ). get_or kept.mask.rows n 0) place ∙ get_or_from_slice_get kept.mask.rows i row 0 at in
+    let is : get_or kept.mask.rows (16 * i / 16) 0 ≡ number = ap (λ (n : ℕ). get_or kept.mask.rows n 0) place ∙ get_or_from_slice_get kept.mask.rows i number 0 at in
     (record { slot = slot; bucket = 16 * i; kept = kept; stands = stands; within = omega (arith, count, inside); same = omega (arith, is) }, refl)
 
 pub rows_once : (masks : Masks) (shape : Shape) (cells : List ℕ) (h : List (Commit Edit)) (slot other row : ℕ) (kept more : KeptMask) → HoldsMasks masks shape cells h → StandsAt masks slot kept

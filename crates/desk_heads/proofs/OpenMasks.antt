@@ -90,14 +90,14 @@ module _ (h : List (Commit Edit)) (b : ℕ) (y : Edit) (hook : Hook) (slot : ℕ
     free = λ s row kept stands x z. clash s row kept stands x.0 x.1 z.0 z.1;
   }
     where
-      clash : (s row : ℕ) (kept : KeptMask) → StandsAt masks s kept → (i : ℕ) → slice_get kept.mask.rows i ≡ Some row → (j : ℕ) → slice_get mask.rows j ≡ Some row → ⊥
-      clash s row kept stands i at j own =
-          let rows = o.can.storable.rows in let inside = slice_get_within mask.rows j row own in
-          let kept_rows = (mask_storable masks shape cells (root_of h) has.named s kept stands).rows in let kept_inside = slice_get_within kept.mask.rows i row at in
+      clash : (s number : ℕ) (kept : KeptMask) → StandsAt masks s kept → (i : ℕ) → slice_get kept.mask.rows i ≡ Some number → (j : ℕ) → slice_get mask.rows j ≡ Some number → ⊥
+      clash s number kept stands i at j own =
+          let rows = o.can.storable.rows in let inside = slice_get_within mask.rows j number own in
+          let kept_rows = (mask_storable masks shape cells (root_of h) has.named s kept stands).rows in let kept_inside = slice_get_within kept.mask.rows i number at in
           let spare = o.can.at_rows (16 * j) (omega (arith, rows, inside)) in
           let place : j ≡ 16 * j / 16 = omega arith in let kept_place : i ≡ 16 * i / 16 = omega arith in
-          let row_is : get_or mask.rows (16 * j / 16) 0 ≡ row = ap (λ (n : ℕ). get_or mask.rows n 0) (sym place) ∙ get_or_from_slice_get mask.rows j row 0 own in
-          let kept_row : get_or kept.mask.rows (16 * i / 16) 0 ≡ row = ap (λ (n : ℕ). get_or kept.mask.rows n 0) (sym kept_place) ∙ get_or_from_slice_get kept.mask.rows i row 0 at in
+          let row_is : get_or mask.rows (16 * j / 16) 0 ≡ number = ap (λ (n : ℕ). get_or mask.rows n 0) (sym place) ∙ get_or_from_slice_get mask.rows j number 0 own in
+          let kept_row : get_or kept.mask.rows (16 * i / 16) 0 ≡ number = ap (λ (n : ℕ). get_or kept.mask.rows n 0) (sym kept_place) ∙ get_or_from_slice_get kept.mask.rows i number 0 at in
           let same : bucket_root mask (16 * j) ≡ bucket_root kept.mask (16 * i) = omega (arith, row_is, kept_row) in
           let bucket : BucketOf masks (bucket_root mask (16 * j)) = record { slot = s; bucket = 16 * i; kept = kept; stands = stands; within = omega (arith, kept_rows, kept_inside); same = same } in
           unused_end hook_meaning hook_codec h b (bucket_root mask (16 * j)) (Bucket (region_of s kept.mask.serial (root_of h (places.mask_root s)).stamp (mask_record kept.mask)) (16 * i)) low spare.unused
