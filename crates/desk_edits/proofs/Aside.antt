@@ -1,9 +1,6 @@
 -- Commits without numbers, to slots of actions alone: what is known of masks and tables goes on.
 use Rattle.std.proofs.Common.{◌≡◌, inl, inr, ℕ, ◌<◌, ◌≤◌, List, length, sym, ap, subst, arith}
-use mathlib.Core.Logic.{dite}
-use native.Mathlib.Decide.{dec_le}
 use Rattle.tc_base.specs.declared.hook.Hook.{Hook}
-use Rattle.tc_base.specs.declared.hook.Hook.TheVariants as hooks
 use Rattle.store_history.specs.declared.history.Named.{Named}
 use Rattle.store_history.specs.declared.history.Commit.{Commit}
 use Rattle.store_history.specs.History.{root_of}
@@ -23,24 +20,11 @@ use Rattle.hook_meaning.specs.Stated.{hook_meaning, filters_at}
 use Rattle.hook_meaning.specs.Blocks.{hook_codec}
 use Rattle.hook_store_law.specs.Kept.{IsKeptAt}
 use Rattle.hook_edit_laws.specs.Premises.{now, next}
-use Rattle.root_pool_laws.specs.Blocks.{HasBlock}
-use Rattle.desk_pools.specs.declared.pools.Pools.{Pools}
-use Rattle.desk_pools.specs.Pools.{IsHeadBlock, ArePools}
 use Rattle.desk_line_actions.specs.Put.{ArePut}
 use Rattle.desk_masks.specs.declared.hook_tables.HookTables.{HookTables}
 use Rattle.desk_masks.specs.Masks.{HasMasks}
 use Rattle.desk_masks.specs.Tables.{HasTables}
 use Rattle.desk_masks.proofs.Going.{IsAside, tables_go, masks_go, aside_of_heads, aside_of_masks, aside_of_buckets}
-
--- each block that a root names is one of the store's
-head_low : (hook : Hook) (block : ℕ) → IsHeadBlock hook block → block < 17408
-head_low hooks.Ingress block is = let low : block < 16896 = is.below in omega (arith, low)
-head_low hooks.Egress block is = let low : block < 17408 = is.below in low
-
-pub named_low : (pools : Pools) (h : List (Commit Edit)) (b root block : ℕ) → ArePools pools h b → HasBlock h root block → block < 17408
-named_low pools h b root block p has = dite (dec_le 16384 block)
-    (λ (high : 16384 ≤ block). let own = p.heads root block high has in head_low own.0 block own.2)
-    (λ (less : 16384 ≤ block → ⊥). omega arith)
 
 module _ (h k : List (Commit Edit)) (b point : ℕ) (y : Edit) (put : ArePut h k b point y) where
   -- no edit came

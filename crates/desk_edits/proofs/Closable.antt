@@ -1,7 +1,8 @@
 -- The parts of a desk once the masks that went have left.
-use Rattle.std.proofs.Common.{◌≡◌, ◌∙◌, ◌⊎◌, inl, inr, ℕ, false, List, [], ◌∷◌, ◌++◌, length, Some, None, sym, ap, subst, arith, length-append}
+use Rattle.std.proofs.Common.{Option, ◌≡◌, ◌∙◌, ◌⊎◌, inl, inr, ℕ, false, List, [], ◌∷◌, ◌++◌, length, Some, None, sym, ap, subst, arith, length-append}
 use mathlib.Core.List.{append-nil}
 use Rattle.tc_base.specs.declared.hook.Hook.{Hook}
+use Rattle.tc_base.specs.declared.hook.Proto.{Proto}
 use Rattle.visit_room.specs.declared.names.MaskName.{MaskName}
 use Rattle.store_history.specs.declared.history.Commit.{Commit}
 use Rattle.filter_state.specs.declared.edit.Edit.{Edit}
@@ -34,7 +35,8 @@ use Rattle.desk_heads.specs.Closes.{ClosesMasks, HoldsMasks, IsGone}
 use Rattle.desk_heads.proofs.Held.{held_whole}
 use Rattle.desk_needs.specs.Live.{count_of}
 use Rattle.desk_edits.specs.Swaps.{MaySwap, IsSwapped}
-use Rattle.desk_edits.specs.Goes.{TakesOne, TakesMasks, AreGone}
+use Rattle.desk_ways.specs.Ways.{IsAlone, TakesMasks, Closes}
+use Rattle.desk_edits.specs.Goes.{AreGone}
 use Rattle.desk_edits.specs.Parting.{is_named, names_in, gone_of, HaveLeft, IsParting, MayAllPart}
 use Rattle.desk_edits.proofs.Desked.{accepted, now_is_next}
 use Rattle.desk_edits.proofs.Begun.{begun, gone, are_gone, counted}
@@ -100,34 +102,35 @@ module _ (parts : Parts) (y : Edit) (done : Done) (ahead : IsAhead parts y done)
   abbrev b : ℕ
   b = base parts.ledger
 
-  Leaves : Edit → Type 0
+  abbrev Leaves : Edit → Type 0
   Leaves x = LeavesOtherHook hook (λ m. Stands (next h x) m → ⊥) (now h) (next h x)
 
   taken : (x : Edit) → y ≡ x → IsAccepted h b x (next h x) done
   taken x is = subst (λ (z : Edit). IsAccepted h b z (next h z) done) is (accepted parts y done ahead)
 
-  -- the mask of a filter that was alone there has none left
-  alone_goes : (one : TakesOne h y hook) → Stands (next h (edits.FilterDel hook one.protocol one.chain one.pref (Some one.handle))) one.row.mask_serial → ⊥
-  alone_goes one stands = let x : Edit = edits.FilterDel hook one.protocol one.chain one.pref (Some one.handle) in
-      let l = loses_after h b hook one.protocol one.chain one.pref one.handle (next h x) done one.row (taken x one.is) one.there stands in
-      let before = ap length l.loses.before in let after = ap length l.loses.after in let some = stands_filters (next h x) one.row.mask_serial stands in
-      let count = counted (now h) one.row.mask_serial in let alone = one.alone in
-      let whole = length-append l.earlier (l.old ∷ l.later) in let rest = length-append l.earlier l.later in omega (arith, before, after, some, count, alone, whole, rest)
+  module _ (protocol : Option Proto) (chain pref : ℕ) where
+    -- the mask of a filter that was alone there has none left
+    alone_goes : (handle : ℕ) → y ≡ edits.FilterDel hook protocol chain pref (Some handle) → (one : IsAlone h hook chain pref handle)
+        → Stands (next h (edits.FilterDel hook protocol chain pref (Some handle))) one.row.mask_serial → ⊥
+    alone_goes handle is one stands = let x : Edit = edits.FilterDel hook protocol chain pref (Some handle) in
+        let l = loses_after h b hook protocol chain pref handle (next h x) done one.row (taken x is) one.there stands in
+        let before = ap length l.loses.before in let after = ap length l.loses.after in let some = stands_filters (next h x) one.row.mask_serial stands in
+        let count = counted (now h) one.row.mask_serial in let alone = one.alone in
+        let whole = length-append l.earlier (l.old ∷ l.later) in let rest = length-append l.earlier l.later in omega (arith, before, after, some, count, alone, whole, rest)
 
-  leaves : TakesMasks h y hook → Leaves y
-  unfolding Leaves
-  leaves (inl one) = let x : Edit = edits.FilterDel hook one.protocol one.chain one.pref (Some one.handle) in
-      subst Leaves (sym one.is) (weaker hook (λ m. m ≡ one.row.mask_serial) (λ m. Stands (next h x) m → ⊥) (now h) (next h x) (λ n same stands. alone_goes one (subst (Stands (next h x)) same stands))
-      (mask_gone_after h b hook one.protocol one.chain one.pref one.handle (next h x) done one.row (taken x one.is) one.there))
-  leaves (inr all) = let x : Edit = edits.FilterDel hook all.protocol all.chain all.pref None in
-      subst Leaves (sym all.is) (weaker hook (λ m. (filters_at (next h x) m ≡ []) × Stands (now h) m) (λ m. Stands (next h x) m → ⊥) (now h) (next h x)
-      (λ m is stands. let some = stands_filters (next h x) m stands in let none = ap length is.0 in absurd (omega (arith, some, none)))
-      (table_gone_after h b hook all.protocol all.chain all.pref (next h x) done (taken x all.is)))
+    leaves : (handle : Option ℕ) → y ≡ edits.FilterDel hook protocol chain pref handle → TakesMasks h hook chain pref handle → Leaves y
+    leaves (Some handle) is one = let x : Edit = edits.FilterDel hook protocol chain pref (Some handle) in
+        subst Leaves (sym is) (weaker hook (λ m. m ≡ one.row.mask_serial) (λ m. Stands (next h x) m → ⊥) (now h) (next h x)
+        (λ n same stands. alone_goes handle is one (subst (Stands (next h x)) same stands))
+        (mask_gone_after h b hook protocol chain pref handle (next h x) done one.row (taken x is) one.there))
+    leaves None is all = let x : Edit = edits.FilterDel hook protocol chain pref None in
+        subst Leaves (sym is) (weaker hook (λ m. (filters_at (next h x) m ≡ []) × Stands (now h) m) (λ m. Stands (next h x) m → ⊥) (now h) (next h x)
+        (λ m is stands. let some = stands_filters (next h x) m stands in let none = ap length is.0 in absurd (omega (arith, some, none)))
+        (table_gone_after h b hook protocol chain pref (next h x) done (taken x is)))
 
-  pub closes_masks : TakesMasks h y hook → ClosesMasks h b y hook
-  unfolding Leaves
+  pub closes_masks : Closes h y hook → ClosesMasks h b y hook
   closes_masks takes = record {
     ready = record { state = next h y; done = done; accepted = accepted parts y done ahead; made = ahead.made };
     rest = ahead.rest;
-    leaves = leaves takes;
+    leaves = leaves takes.protocol takes.chain takes.pref takes.handle takes.is takes.takes;
   }

@@ -38,7 +38,8 @@ use Rattle.desk_masks.specs.Tables.{HasTables}
 use Rattle.desk_parts.specs.declared.parts.Parts.{Parts}
 use Rattle.desk_parts.specs.Desk.{shape_of, hook_shape, cells, IsDesk}
 use Rattle.desk_edits.specs.Ahead.{HasParts, IsAhead}
-use Rattle.desk_edits.proofs.Aside.{named_low, now_put, next_put, put_tables, put_masks}
+use Rattle.desk_masks.proofs.Blocks.{named_low}
+use Rattle.desk_edits.proofs.Aside.{now_put, next_put, put_tables, put_masks}
 
 -- ---- the lists are edited: the state's step accepts the edit too, and they spell what it leads to
 pub record IsFirst (h : List (Commit Edit)) (b : ℕ) (y : Edit) (lists : Kept) (done : Done) : Type 0 where

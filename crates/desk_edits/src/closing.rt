@@ -15,7 +15,8 @@ ghost use Rattle.desk_parts.specs.Desk.{hook_shape, cells, AreSized, IsDesk};
 ghost use Rattle.desk_edits.specs.Ahead.{IsAhead, GoesOnAside};
 ghost use Rattle.desk_heads.specs.Closes.{ClosesMasks};
 ghost use Rattle.desk_heads.specs.Handed.{idle_of};
-ghost use Rattle.desk_edits.specs.Goes.{TakesMasks, AreGone};
+ghost use Rattle.desk_ways.specs.Ways.{Closes};
+ghost use Rattle.desk_edits.specs.Goes.{AreGone};
 ghost use Rattle.desk_edits.specs.Parting.{HaveLeft};
 ghost use Rattle.desk_edits.specs.Swaps.{tables_of, with_tables, MaySwap, IsSwapped};
 
@@ -129,7 +130,7 @@ fn close_at<E: EditName<Edit>>(parts: &mut Parts, store: &HookStore, hook: Hook)
 pub fn close_in_head<E: EditName<Edit>>(parts: &mut Parts, store: &HookStore, hook: Hook)
     requires store { IsSeatOf store.now parts.old.ledger.writer.place }
     requires ahead { (done : Done) × IsAhead parts.old E.edit done }
-    requires takes { TakesMasks (commits parts.old.ledger) E.edit hook }
+    requires takes { Closes (commits parts.old.ledger) E.edit hook }
     requires free { (idle_of hook parts.old.pools).is_free ≡ true }
     requires few { parts.old.ledger.point + 1 < 2 ^ 32 }
     ensures store { IsSeatOf store.now parts.new.ledger.writer.place }

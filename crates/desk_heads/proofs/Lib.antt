@@ -1,7 +1,6 @@
 pub mod Told
 pub mod Ranges
 pub mod TablesGiven
-pub mod Spending
 pub mod Raised
 pub mod Swapped
 pub mod Tables

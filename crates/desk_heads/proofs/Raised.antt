@@ -18,7 +18,7 @@ use Rattle.head_commit_laws.proofs.Raising.{IsOne, commit_at, raise_spares}
 use Rattle.desk_pools.specs.declared.pools.Pools.{Pools}
 use Rattle.desk_pools.specs.Pools.{ArePools}
 use Rattle.desk_pools.specs.Steps.{IsInPool}
-use Rattle.desk_heads.proofs.Spending.{SpendApart, IsLaid, link_laid, laid_apart, unnamed_last, pools_spared}
+use Rattle.desk_masks.proofs.Spending.{SpendApart, IsLaid, link_laid, laid_apart, unnamed_last, pools_spared}
 
 module _ (h : List (Commit Edit)) (b : ℕ) (y : Edit) (slot : ℕ) (mask : StoredMask) (given : List ℕ) (blk : ℕ) (keeps : KeepsHook h b) (ready : IsReady h b y) (can : CanRaise h b y slot mask given)
     (are : AreGiven b h given) (record_block : slice_get given (length (stored_next h y mask.serial)) ≡ Some blk) where

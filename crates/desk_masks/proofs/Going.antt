@@ -1,6 +1,6 @@
 -- What is known of masks and tables goes on, as long as the roots of heads, masks and buckets name what they
 -- named.
-use Rattle.std.proofs.Common.{◌≡◌, ◌≢◌, ◌∙◌, ◌⊎◌, inl, inr, ℕ, ◌+◌, ◌*◌, ◌/◌, ◌<◌, ◌≤◌, List, [], ◌∷◌, ◌++◌, length, map, slice_get, Some, refl, sym, ap, subst, arith}
+use Rattle.std.proofs.Common.{◌≡◌, ◌≢◌, ◌∙◌, ◌⊎◌, inl, inr, ℕ, ◌/◌, ◌<◌, ◌≤◌, List, length, map, Some, refl, sym, ap, subst, arith}
 use Rattle.std.specs.Prelude.{slice_index}
 use Rattle.std.proofs.lemmas.Option.{slice_get-get_or}
 use Rattle.tc_base.specs.declared.hook.Hook.{Hook}
@@ -12,21 +12,20 @@ use Rattle.pin_store.specs.declared.shape.Shape.{Shape}
 use Rattle.pin_store.specs.Layout.{block_words}
 use Rattle.filter_state.specs.declared.edit.Edit.{Edit}
 use Rattle.filter_state.specs.Sound.{Sound}
-use Rattle.block_codec.specs.declared.mask.StoredMask.{StoredMask}
 use Rattle.mask_mirror.specs.declared.mirror.KeptMask.{KeptMask}
 use Rattle.mask_mirror.specs.Kept.{Names}
 use Rattle.store_history.specs.Reads.{read_first}
 use Rattle.block_reading.specs.Read.{mask_of_words}
-use Rattle.mask_table.specs.Buckets.{mask_root, bucket_root}
+use Rattle.mask_table.specs.Buckets.{mask_root}
 use Rattle.mask_table.proofs.Limits.{IsWithin, within}
 use Rattle.mask_writer.specs.Masks.{Masks}
 use Rattle.mask_writer.specs.Standing.{StandsAt, BucketOf, Holds}
 use Rattle.mask_writer.proofs.Standing.{held_later, record_read}
-use Rattle.miniq_pair.specs.Heads.{hook_number, head_root}
+use Rattle.miniq_pair.specs.Heads.{head_root}
 use Rattle.mask_resize_laws.specs.Resized.{stored_now}
 use Rattle.hook_law.specs.Places as places
 use Rattle.hook_law.specs.Meaning.{point_of, now_of}
-use Rattle.hook_law.specs.Standing.{Role, Head, Mask, Bucket, IsMaskAt, IsSlotOf, Stands, region_of}
+use Rattle.hook_law.specs.Standing.{Head, Mask, Bucket, IsSlotOf, Stands, region_of}
 use Rattle.hook_law.specs.Keeping.{Keeps}
 use Rattle.hook_law.proofs.Standing.{mask_back}
 use Rattle.hook_meaning.specs.Stated.{hook_meaning, filters_at}

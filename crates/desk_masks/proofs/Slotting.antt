@@ -1,5 +1,5 @@
 -- Filters keep the slots of their actions as commits come.
-use Rattle.std.proofs.Common.{◌≡◌, ◌∙◌, ℕ, zero, suc, ◌≤◌, List, [], ◌∷◌, ◌++◌, length, map, slice_get, Some, sym, ap}
+use Rattle.std.proofs.Common.{◌≡◌, ◌∙◌, ℕ, zero, suc, ◌≤◌, List, [], ◌∷◌, length, map, slice_get, Some, sym, ap}
 use Rattle.store_history.specs.declared.history.Commit.{Commit}
 use Rattle.visit_room.specs.declared.names.ActionName.{ActionName}
 use Rattle.filter_state.specs.declared.edit.Edit.{Edit}
@@ -13,7 +13,7 @@ use Rattle.hook_law.specs.Standing.{IsIn, IsSlotOf}
 use Rattle.hook_law.specs.Keeping.{Keeps}
 use Rattle.hook_law.specs.Slots.{slot_of}
 use Rattle.hook_law.proofs.Slots.{slot_is}
-use Rattle.hook_law.proofs.Standing.{present_end, slot_longer}
+use Rattle.hook_law.proofs.Standing.{present_end}
 use Rattle.hook_meaning.specs.Stated.{hook_meaning, filters_at}
 use Rattle.hook_meaning.specs.Blocks.{action_slotted, filter_record, hook_codec}
 use Rattle.hook_meaning.specs.Told.{action_name, with_slots}

@@ -1,5 +1,5 @@
 -- What the writer of masks holds stays what roots name, where blocks and roots of masks stay.
-use Rattle.std.proofs.Common.{◌≡◌, ◌∙◌, ℕ, zero, suc, ◌<◌, ◌≤◌, List, [], ◌∷◌, map, slice_get, Some, None, refl, sym, ap, subst, arith}
+use Rattle.std.proofs.Common.{◌≡◌, ◌∙◌, ℕ, zero, suc, List, [], ◌∷◌, map, slice_get, Some, None, refl, sym, ap, subst}
 use Rattle.store_history.specs.declared.history.Link.{Link}
 use Rattle.store_history.specs.declared.history.Named.{Named}
 use Rattle.pin_store.specs.declared.shape.Shape.{Shape}
@@ -11,7 +11,7 @@ use Rattle.mask_mirror.specs.declared.mirror.KeptMask.{KeptMask}
 use Rattle.mask_mirror.specs.Kept.{Names, KeepsMask}
 use Rattle.mask_mirror.specs.Linked.{Placed}
 use Rattle.mask_writer.specs.Masks.{Masks}
-use Rattle.mask_writer.specs.Standing.{chain_at, first_in, StandsAt, BucketOf, IsFiled, AreFiled, NamesChain, AreNamed}
+use Rattle.mask_writer.specs.Standing.{chain_at, first_in, StandsAt, BucketOf, AreFiled, NamesChain, AreNamed}
 
 -- ---- chains of blocks
 links_at : (shape : Shape) (cells : List ℕ) (blocks : List ℕ) (place b : ℕ) → slice_get blocks place ≡ Some b

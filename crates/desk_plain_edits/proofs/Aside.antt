@@ -1,10 +1,7 @@
 -- One commit to a root where no head, mask or bucket stands, with an edit that touches no filter: what is known
 -- of masks and tables goes on.
 use Rattle.std.proofs.Common.{◌≡◌, ◌∙◌, ◌⊎◌, inl, inr, ℕ, ◌<◌, ◌≤◌, List, [], ◌∷◌, ◌++◌, length, Some, ap, arith, length-append}
-use mathlib.Core.Logic.{dite}
-use native.Mathlib.Decide.{dec_le}
 use Rattle.tc_base.specs.declared.hook.Hook.{Hook}
-use Rattle.tc_base.specs.declared.hook.Hook.TheVariants as hooks
 use Rattle.store_history.specs.declared.history.Named.{Named}
 use Rattle.store_history.specs.declared.history.Commit.{Commit}
 use Rattle.store_history.specs.History.{root_of, edits_of}
@@ -28,9 +25,6 @@ use Rattle.hook_edit_laws.specs.Premises.{now, IsAccepted, IsOfFilters}
 use Rattle.hook_edit_laws.proofs.Accepted.{leads, sound}
 use Rattle.hook_edit_laws.proofs.Stating.{rows_stay}
 use Rattle.hook_edit_laws.proofs.Unfiltered.{same_rows}
-use Rattle.root_pool_laws.specs.Blocks.{HasBlock}
-use Rattle.desk_pools.specs.declared.pools.Pools.{Pools}
-use Rattle.desk_pools.specs.Pools.{IsHeadBlock, ArePools}
 use Rattle.desk_masks.specs.declared.hook_tables.HookTables.{HookTables}
 use Rattle.desk_masks.specs.Masks.{HasMasks}
 use Rattle.desk_masks.specs.Tables.{HasTables}
@@ -39,16 +33,6 @@ use Rattle.desk_masks.proofs.Going.{IsAside, tables_go, masks_go, aside_of_heads
 -- the marker's root, or that of a slot of actions
 abbrev pub IsAsideRoot : ℕ → Type 0
 IsAsideRoot root = (root < 1) ⊎ ((8195 ≤ root) × (root < 10243))
-
--- each block that a root names is one of the store's
-head_low : (hook : Hook) (block : ℕ) → IsHeadBlock hook block → block < 17408
-head_low hooks.Ingress block is = let low : block < 16896 = is.below in omega (arith, low)
-head_low hooks.Egress block is = let low : block < 17408 = is.below in low
-
-pub named_low : (pools : Pools) (h : List (Commit Edit)) (b root block : ℕ) → ArePools pools h b → HasBlock h root block → block < 17408
-named_low pools h b root block p has = dite (dec_le 16384 block)
-    (λ (high : 16384 ≤ block). let own = p.heads root block high has in head_low own.0 block own.2)
-    (λ (less : 16384 ≤ block → ⊥). omega arith)
 
 module _ (h : List (Commit Edit)) (b : ℕ) (c : Commit Edit) (y : Edit) (number : ℕ) (t : State) (done : Done) (a : IsAccepted h b y t done) (plain : IsOfFilters y → ⊥)
     (carries : c.edit ≡ Some (number, y)) (aside : IsAsideRoot c.root) where

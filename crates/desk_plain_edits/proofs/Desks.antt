@@ -31,7 +31,8 @@ use Rattle.desk_masks.specs.Tables.{HasTables}
 use Rattle.desk_parts.specs.declared.parts.Parts.{Parts}
 use Rattle.desk_parts.specs.Desk.{shape_of, hook_shape, cells, AreSized, IsDesk}
 use Rattle.desk_plain_edits.specs.Kinds.{IsOfQdisc}
-use Rattle.desk_plain_edits.proofs.Aside.{IsAsideRoot, named_low, aside_tables, aside_masks}
+use Rattle.desk_masks.proofs.Blocks.{named_low}
+use Rattle.desk_plain_edits.proofs.Aside.{IsAsideRoot, aside_tables, aside_masks}
 
 -- ---- edits that touch no filter
 pub making_plain : (s : State) (line : ActionLine) (y : Edit) → IsMaking s line y → IsOfFilters y → ⊥

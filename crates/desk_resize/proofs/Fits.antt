@@ -42,7 +42,8 @@ use Rattle.edit_effect_laws.specs.Parts.{words_of}
 use Rattle.desk_masks.specs.Masks.{HasMask}
 use Rattle.desk_masks.proofs.Going.{bucket_stands}
 use Rattle.desk_resize.specs.Refit.{MayRefit, IsOfRefit}
-use Rattle.desk_resize.proofs.Lists.{mapped_at, range_at, own_take, list_rises, own_last, at_last}
+use Rattle.mask_resize_laws.proofs.Resizing.{mapped_at, range_at}
+use Rattle.desk_resize.proofs.Lists.{own_take, list_rises, own_last, at_last}
 
 module _ (masks : Masks) (shape : Shape) (cells : List ℕ) (h : List (Commit Edit)) (b point slot size : ℕ) (blocks rows : List ℕ) (m : MayRefit masks shape cells h b point slot size blocks rows) where
   abbrev pub kept : KeptMask

@@ -1,6 +1,5 @@
 pub mod Lists
 pub mod Fits
 pub mod After
-pub mod Spending
 pub mod Pooled
 pub mod Counting

@@ -1,13 +1,6 @@
 -- Lists of commits without a number, each to a root of its own.
-use Rattle.std.proofs.Common.{◌≡◌, ◌≢◌, ◌∙◌, ◌⊎◌, inl, inr, ℕ, zero, suc, ◌+◌, ◌<◌, ◌≤◌, Bool, true, false, cond, eqb, List, [], ◌∷◌, ◌++◌, length, map, take, slice_get, Some, refl, sym, ap, subst, arith, append_assoc, get_or}
+use Rattle.std.proofs.Common.{◌≡◌, ◌≢◌, ◌∙◌, ◌⊎◌, inl, inr, ℕ, zero, suc, ◌<◌, ◌≤◌, Bool, true, false, cond, eqb, List, [], ◌∷◌, ◌++◌, length, take, slice_get, Some, refl, sym, ap, subst, arith, append_assoc}
 use mathlib.Core.List.{append-nil}
-use Rattle.std.specs.List.{range_with_len, IsDistinct}
-use mathlib.Core.Logic.{dite}
-use native.Mathlib.Decide.{dec_lt}
-use Rattle.std.proofs.lemmas.Bool.{eqb-false}
-use Rattle.std.proofs.lemmas.Map.Keys.{apart_from_distinct}
-use Rattle.std.proofs.lemmas.Option.{slice_get_within, get_or_from_slice_get}
-use Rattle.hook_law.specs.Standing.{AreDistinct}
 use Rattle.store_history.specs.declared.history.Commit.{Commit}
 use Rattle.store_history.specs.declared.history.Named.{Named}
 use Rattle.store_history.specs.History.{root_of, named_after, empty_named}
@@ -16,16 +9,6 @@ use Rattle.store_history.proofs.Histories.{root_other, named_after-append}
 use Rattle.root_word_laws.specs.Words.{StampsRise}
 use Rattle.root_word_laws.proofs.Words.{more_rise}
 use Rattle.hook_law.specs.Unnumbered.{HaveOwnRoots}
-
-pub mapped_at : {A B : Type 0} (f : A → B) (xs : List A) (j : ℕ) (c : B) → slice_get (map f xs) j ≡ Some c → (x : A) × (slice_get xs j ≡ Some x) × (c ≡ f x)
-mapped_at f [] j c e = absurd (cc e)
-mapped_at f (x ∷ xs) zero c e = let same : f x ≡ c = cc e in (x, refl, sym same)
-mapped_at f (x ∷ xs) (suc j) c e = mapped_at f xs j c e
-
-pub range_at : (first count place k : ℕ) → slice_get (range_with_len first count) place ≡ Some k → (k ≡ first + place) × (place < count)
-range_at first zero place k e = absurd (cc e)
-range_at first (suc count) zero k e = let same : first ≡ k = cc e in (omega (arith, same), omega arith)
-range_at first (suc count) (suc place) k e = let r = range_at (first + 1) count place k e in let a = r.0 in let b = r.1 in (omega arith, omega arith)
 
 module _ {E : Type 0} where
   pub own_take : (n : ℕ) (cs : List (Commit E)) → HaveOwnRoots cs → HaveOwnRoots (take n cs)
@@ -68,12 +51,3 @@ module _ {E : Type 0} where
       sort (inl a) (inr b) = absurd (away i c a (same ∙ ap (λ (z : Commit E). z.root) (sym b.1)))
       sort (inr a) (inl b) = absurd (away j e b (sym same ∙ ap (λ (z : Commit E). z.root) (sym a.1)))
       sort (inr a) (inr b) = a.0 ∙ sym b.0
-
--- numbers that are different by their test
-pub rows_distinct : (rows : List ℕ) → IsDistinct eqb rows → AreDistinct rows
-rows_distinct rows different i j x a c = dite (dec_lt i j) (λ (less : i < j). absurd (never i j less a c))
-    (λ (no_less : i < j → ⊥). dite (dec_lt j i) (λ (more : j < i). absurd (never j i more c a)) (λ (no_more : j < i → ⊥). omega arith))
-  where
-    never : (k l : ℕ) → k < l → slice_get rows k ≡ Some x → slice_get rows l ≡ Some x → ⊥
-    never k l less one two = eqb-false (get_or rows k 0) (get_or rows l 0) (apart_from_distinct eqb rows k l 0 different less (slice_get_within rows l x two))
-        (get_or_from_slice_get rows k x 0 one ∙ sym (get_or_from_slice_get rows l x 0 two))

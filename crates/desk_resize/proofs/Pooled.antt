@@ -47,10 +47,11 @@ use Rattle.desk_pools.proofs.Steps.{pools_commit, standing_block}
 use Rattle.desk_masks.proofs.Going.{mask_stands, bucket_stands}
 use Rattle.filter_commit_laws.proofs.Locating.{different_at, small_at}
 use Rattle.desk_resize.specs.Refit.{MayRefit}
-use Rattle.desk_resize.proofs.Lists.{mapped_at, range_at, at_last, rows_distinct}
+use Rattle.mask_resize_laws.proofs.Resizing.{mapped_at, range_at, rows_distinct}
+use Rattle.desk_resize.proofs.Lists.{at_last}
 use Rattle.desk_resize.proofs.Fits.{all_free, cs, last, whole, its_mask, commit_is}
 use Rattle.desk_resize.proofs.After.{its_block, more}
-use Rattle.desk_resize.proofs.Spending.{AreSpent, SpendApart, unnamed_last, pools_spared, IsLaid, link_laid, laid_apart}
+use Rattle.desk_masks.proofs.Spending.{AreSpent, SpendApart, unnamed_last, pools_spared, IsLaid, link_laid, laid_apart}
 
 one_in : (x y : ℕ) → IsIn {A = ℕ} x (y ∷ []) → x ≡ y
 one_in x y at = go at.0 at.1

@@ -34,12 +34,13 @@ use Rattle.desk_ways.specs.declared.way.Way.TheVariants as ways
 use Rattle.desk_ways.specs.Ways.{IntoMask, WithMask, InPlace, OtherKey, OtherMask, OutOfMask, Closes, IsTarget, TakesMasks, IsWay, needs_by}
 
 -- ---- what an add is answered with
-record Answered (s t : State) (y : Edit) (line : FilterLine) (done : Done) : Type 0 where
-  pref : ℕ
-  handle : ℕ
-  serials : List ℕ
-  chosen : pref_for s line.hook line.chain line.pref ≡ Ok pref
-  steps : step s y ≡ Ok (t, dones.Filter pref handle serials)
+pub record Answered (s t : State) (y : Edit) (line : FilterLine) (done : Done) : Type 0 where
+  pub pref : ℕ
+  pub handle : ℕ
+  pub serials : List ℕ
+  pub chosen : pref_for s line.hook line.chain line.pref ≡ Ok pref
+  pub steps : step s y ≡ Ok (t, dones.Filter pref handle serials)
+  pub is : done ≡ dones.Filter pref handle serials
 
 added_by : (s t : State) (line : FilterLine) (done : Done) → filter_add s line ≡ Ok (t, done)
     → (pref : ℕ) × (handle : ℕ) × (serials : List ℕ) × (pref_for s line.hook line.chain line.pref ≡ Ok pref) × (done ≡ dones.Filter pref handle serials)
@@ -52,16 +53,16 @@ added_by s t line done e =
     let both = same_step _ t _ done room.1 in
     (first.0, handle_in s line first.0, next.0.serials, first.1, sym both.1)
 
-answered : (s t : State) (y : Edit) (line : FilterLine) (done : Done) → IsAddOf s line y → step s y ≡ Ok (t, done) → Answered s t y line done
+pub answered : (s t : State) (y : Edit) (line : FilterLine) (done : Done) → IsAddOf s line y → step s y ≡ Ok (t, done) → Answered s t y line done
 answered s t y line done (inl is) e =
     let a = added_by s t line done (sym (ap (step s) is) ∙ e) in
-    record { pref = a.0; handle = a.1; serials = a.2; chosen = a.3; steps = e ∙ ap (λ d. Ok (t, d)) a.4 }
+    record { pref = a.0; handle = a.1; serials = a.2; chosen = a.3; steps = e ∙ ap (λ d. Ok (t, d)) a.4; is = a.4 }
 answered s t y line done (inr both) e =
     let a = added_by s t line done (sym (ap (replace_or_add s line) both.1) ∙ sym (ap (step s) both.0) ∙ e) in
-    record { pref = a.0; handle = a.1; serials = a.2; chosen = a.3; steps = e ∙ ap (λ d. Ok (t, d)) a.4 }
+    record { pref = a.0; handle = a.1; serials = a.2; chosen = a.3; steps = e ∙ ap (λ d. Ok (t, d)) a.4; is = a.4 }
 
 -- the pref of a line is one
-same_ok : (s : State) (hook : Hook) (chain : ℕ) (given : Option ℕ) (p q : ℕ) → pref_for s hook chain given ≡ Ok p → pref_for s hook chain given ≡ Ok q → p ≡ q
+pub same_ok : (s : State) (hook : Hook) (chain : ℕ) (given : Option ℕ) (p q : ℕ) → pref_for s hook chain given ≡ Ok p → pref_for s hook chain given ≡ Ok q → p ≡ q
 same_ok s hook chain given p q one two = let e = sym one ∙ two in cc e
 
 -- a mask whose serial was never given has no filter

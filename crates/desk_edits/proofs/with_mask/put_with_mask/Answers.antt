@@ -8,7 +8,7 @@ use Rattle.desk_pools.specs.declared.pools.IdlePlace.{IdlePlace}
 use Rattle.desk_ledger.specs.Kept.{commits}
 use Rattle.desk_actions.specs.Effects.{IsCounted}
 use Rattle.desk_edits.specs.Spent.{made_by}
-use Rattle.desk_edits.proofs.Answers.{somewhere}
+use Rattle.desk_ways.proofs.Needed.{answered}
 use Rattle.desk_edits.proofs.Counts.{counted_then, enough_left}
 use Rattle.desk_edits.proofs.Found.{same_now}
 use Rattle.desk_edits.proofs.Kept.{masks_led, rows_led, masks_led_pools, idle_led, actions_turned}
@@ -19,14 +19,14 @@ pub open_in_head-requires-clause-none : goal.open_in_head-requires-clause-none
 open_in_head-requires-clause-none g c = let was = c.args.parts.now in let y = g.E.EditName.edit in let w = c.requires.way.0 in let led = c.lead-done.ensures in let ahead = c.lead-done.new.parts in
     let h = commits was.ledger in let k = commits ahead.ledger in let done = c.lead-done.result in
     let masks = masks_led was ahead led.rest in
-    let answer = somewhere (now h) (next h y) y w.line done w.add led.done in
+    let answer = answered (now h) (next h y) y w.line done w.add led.done in
     let here = sym (same_now was ahead y done c.requires.desk led.ahead led.still masks) in (
-      answer.0,
-      answer.2.handle,
-      answer.2.serials,
-      answer.2.is,
-      subst (λ (l : FilterLine). mask_row l.hook l.chain answer.0 l.mask.words (now k).rows ≡ None) c.requires.way.1
-          (subst (λ (s : State). mask_row w.line.hook w.line.chain answer.0 w.line.mask.words s.rows ≡ None) here (w.none answer.0 answer.1)),
+      answer.pref,
+      answer.handle,
+      answer.serials,
+      answer.is,
+      subst (λ (l : FilterLine). mask_row l.hook l.chain answer.pref l.mask.words (now k).rows ≡ None) c.requires.way.1
+          (subst (λ (s : State). mask_row w.line.hook w.line.chain answer.pref w.line.mask.words s.rows ≡ None) here (w.none answer.pref answer.chosen)),
     )
 
 pub open_in_head-requires-clause-enough : goal.open_in_head-requires-clause-enough

@@ -21,7 +21,6 @@ use Rattle.root_pool_laws.specs.Blocks.{Spends}
 use Rattle.root_pool_laws.proofs.Apart.{in_append}
 use Rattle.root_pool_laws.proofs.Blocks.{free_stays}
 use Rattle.mask_resize_laws.proofs.Resizing.{mapped_at, rows_distinct}
-use Rattle.head_commit_laws.proofs.Places.{map_at}
 use Rattle.desk_pools.specs.declared.pools.Pools.{Pools}
 use Rattle.desk_pools.specs.Pools.{ArePools}
 use Rattle.desk_pools.specs.Steps.{IsInPool}
@@ -38,6 +37,11 @@ SpendApart cs = (i j k n : ℕ) (c d : Commit Edit) (l m : Link) → i < j → s
 
 abbrev blocks_in : Commit Edit → List ℕ
 blocks_in c = map (λ (l : Link). l.block) c.named.chain
+
+map_at : {A B : Type 0} (f : A → B) (xs : List A) (j : ℕ) (x : A) → slice_get xs j ≡ Some x → slice_get (map f xs) j ≡ Some (f x)
+map_at f [] j x e = absurd (cc e)
+map_at {A} f (y ∷ ys) zero x e = let same : y ≡ x = cc e in ap (λ (z : A). Some (f z)) same
+map_at f (y ∷ ys) (suc j) x e = map_at f ys j x e
 
 spends_own : (h : List (Commit Edit)) (c : Commit Edit) → Spends h c (blocks_in c)
 spends_own h c place l at = inl (place, map_at (λ (m : Link). m.block) c.named.chain place l at)
