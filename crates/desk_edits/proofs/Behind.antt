@@ -1,9 +1,13 @@
 -- Actions that are live no more have left, and the rest of a desk is as it was.
 use Rattle.std.proofs.Common.{◌≡◌, ◌∙◌, ℕ, List, ap}
+use Rattle.store_history.specs.declared.history.Commit.{Commit}
+use Rattle.filter_state.specs.declared.edit.Edit.{Edit}
+use Rattle.hook_lists.specs.declared.kept.Kept.{Kept}
+use Rattle.hook_law.specs.Standing.{IsIn}
 use Rattle.desk_pools.specs.declared.pools.Pools.{Pools}
 use Rattle.desk_ledger.specs.Kept.{commits, base}
 use Rattle.desk_actions.specs.Places.{Placed}
-use Rattle.desk_line_actions.specs.Dropped.{AreDropped}
+use Rattle.desk_line_actions.specs.Dropped.{MayGo, AreDropped}
 use Rattle.desk_parts.specs.declared.parts.Parts.{Parts}
 use Rattle.desk_parts.specs.Desk.{IsDesk}
 
@@ -21,4 +25,20 @@ desk_dropped old pools placed serials d a blocks actions = record {
   egress = d.egress;
   idle_ingress = ap (λ (p : Pools). p.ingress.place) a.rest ∙ d.idle_ingress;
   idle_egress = ap (λ (p : Pools). p.egress.place) a.rest ∙ d.idle_egress;
+}
+
+-- what may go may go in any order, and some of it alone
+pub fewer_may_go : (lists : Kept) (pools : Pools) (placed : Placed) (h : List (Commit Edit)) (b after : ℕ) (serials others : List ℕ)
+    → MayGo lists pools placed h b after serials → ((action : ℕ) → IsIn action others → IsIn action serials) → MayGo lists pools placed h b after others
+fewer_may_go lists pools placed h b after serials others m each = record {
+  keeps = m.keeps;
+  spells = m.spells;
+  pools_are = m.pools_are;
+  here = m.here;
+  late = m.late;
+  made = m.made;
+  small = λ action i. m.small action (each action i);
+  live = λ action i. m.live action (each action i);
+  there = λ action i. m.there action (each action i);
+  apart = λ action i. m.apart action (each action i);
 }

@@ -7,11 +7,10 @@ ghost use Rattle.filter_state.specs.Lines.{IsLine};
 ghost use Rattle.filter_state.specs.Steps.{step};
 ghost use Rattle.hook_edit_laws.specs.Premises.{now, next};
 ghost use Rattle.desk_ledger.specs.Kept.{commits};
-ghost use Rattle.desk_line_actions.specs.Gone.{serials_gone};
 ghost use Rattle.desk_parts.specs.Desk.{IsDesk};
 ghost use Rattle.desk_ways.specs.declared.way.Way.TheVariants as ways;
 ghost use Rattle.desk_ways.specs.Ways.{InPlace};
-ghost use Rattle.desk_edits.specs.Spent.{needed, HaveFree, HasRoom, LeftWithActions};
+ghost use Rattle.desk_edits.specs.Spent.{needed, HaveFree, HasRoom, LeftWithActions, NamesGone};
 
 use crate::exchanging::exchange_in_mask;
 use crate::leading::lead;
@@ -42,7 +41,7 @@ pub fn exchange_in_place<E: EditName<Edit>>(
     requires ready { parts.old.ledger.lists ≡ prepared.lists }
     requires edit { (prepared.edit ≡ E.edit) × IsLine E.edit }
     requires way { (way : InPlace (commits parts.old.ledger) E.edit slot later) × (way.line ≡ line.now) }
-    requires gone { gone.now ≡ serials_gone (now (commits parts.old.ledger)) E.edit }
+    requires gone { NamesGone (now (commits parts.old.ledger)) E.edit gone.now }
     requires few { parts.old.ledger.point + 1 < 2 ^ 32 }
     requires enough { HaveFree parts.old.pools
         (needed (commits parts.old.ledger) E.edit (ways.InPlace slot later)) }

@@ -9,11 +9,10 @@ ghost use Rattle.hook_edit_laws.specs.Premises.{now, next};
 ghost use Rattle.desk_need_laws.specs.Told.{blocks_anew, rows_anew};
 ghost use Rattle.desk_ledger.specs.Kept.{commits};
 ghost use Rattle.desk_actions.specs.Effects.{IsCounted};
-ghost use Rattle.desk_line_actions.specs.Gone.{serials_gone};
 ghost use Rattle.desk_parts.specs.Desk.{IsDesk};
 ghost use Rattle.desk_ways.specs.declared.way.Way.TheVariants as ways;
 ghost use Rattle.desk_ways.specs.Ways.{OutOfMask};
-ghost use Rattle.desk_edits.specs.Spent.{needed, HaveFree, HasRoom, LeftWithActions};
+ghost use Rattle.desk_edits.specs.Spent.{needed, HaveFree, HasRoom, LeftWithActions, NamesGone};
 
 use crate::fitting::fit_mask;
 use crate::leading::lead_removal;
@@ -47,7 +46,7 @@ pub fn take_out_of_mask<E: EditName<Edit>>(
     requires edit { (prepared.edit ≡ E.edit) × IsLine E.edit }
     requires way { (way : OutOfMask (commits parts.old.ledger) E.edit slot count later)
         × (way.handle ≡ handle) }
-    requires gone { gone.now ≡ serials_gone (now (commits parts.old.ledger)) E.edit }
+    requires gone { NamesGone (now (commits parts.old.ledger)) E.edit gone.now }
     requires few { parts.old.ledger.point + 1 < 2 ^ 32 }
     requires enough { HaveFree parts.old.pools
         (needed (commits parts.old.ledger) E.edit (ways.OutOfMask slot count later)) }

@@ -10,13 +10,13 @@ ghost use Rattle.desk_pools.specs.declared.pools.Pools.{Pools};
 ghost use Rattle.desk_pools.specs.Steps.{turned};
 ghost use Rattle.desk_ledger.specs.Kept.{commits, base};
 ghost use Rattle.desk_line_actions.specs.Dropped.{AreDropped};
-ghost use Rattle.desk_line_actions.specs.Gone.{serials_gone};
 ghost use Rattle.desk_needs.specs.Live.{count_of};
 ghost use Rattle.desk_parts.specs.Desk.{IsDesk};
 ghost use Rattle.desk_heads.specs.Handed.{idle_of};
 ghost use Rattle.desk_ways.specs.Ways.{Closes};
 ghost use Rattle.desk_edits.specs.Goes.{AreGone};
 ghost use Rattle.desk_edits.specs.Parting.{HaveLeft};
+ghost use Rattle.desk_edits.specs.Spent.{NamesGone};
 
 use crate::closing::close_in_head;
 use crate::leading::lead_removal;
@@ -43,7 +43,7 @@ pub fn take_masks<E: EditName<Edit>>(
     requires ready { parts.old.ledger.lists ≡ prepared.lists }
     requires edit { (prepared.edit ≡ E.edit) × IsLine E.edit }
     requires way { Closes (commits parts.old.ledger) E.edit hook }
-    requires gone { gone.now ≡ serials_gone (now (commits parts.old.ledger)) E.edit }
+    requires gone { NamesGone (now (commits parts.old.ledger)) E.edit gone.now }
     requires few { parts.old.ledger.point + 1 < 2 ^ 32 }
     requires free { (idle_of hook parts.old.pools).is_free ≡ true }
     ensures store { IsSeatOf store.now parts.new.ledger.writer.place }

@@ -8,7 +8,8 @@ use Rattle.number_pools.specs.Numbers.{PoolNumbers}
 use Rattle.desk_ledger.specs.declared.ledger.Ledger.{Ledger}
 use Rattle.desk_ledger.specs.Kept.{commits, base}
 use Rattle.desk_actions.specs.Effects.{IsCounted}
-use Rattle.desk_line_actions.specs.Dropped.{MayGo}
+use Rattle.desk_line_actions.specs.Gone.{serials_gone}
+use Rattle.desk_edits.proofs.Behind.{fewer_may_go}
 use Rattle.desk_edits.proofs.Passing.{may_go}
 use Rattle.desk_ways.specs.declared.way.Way.TheVariants as ways
 use Rattle.desk_edits.specs.Spent.{made_by, needed, LeftWithActions}
@@ -52,8 +53,8 @@ let_go-requires-clause-gone g c = let was = c.args.parts.now in let y = g.E.Edit
     let told = c.exchange_in_mask.ensures in let after = c.exchange_in_mask.new.parts in
     let bases : base after.ledger ≡ base was.ledger = same_base (sheet_of ahead.ledger.writer.place) (sheet_of after.ledger.writer.place) told.sheet ∙ same_base (sheet_of was.ledger.writer.place) (sheet_of ahead.ledger.writer.place) led.sheet in (
       length (commits was.ledger),
-      subst (λ (serials : List ℕ). MayGo after.ledger.lists after.pools after.actions (commits after.ledger) (base after.ledger) (length (commits was.ledger)) serials) (sym c.requires.gone)
-          (may_go was ahead after y c.lead-done.result c.requires.desk led.ahead led.still told.on told.desk bases (actions_but_masks ahead after told.rest) (actions_but_blocks ahead.pools after.pools told.pools)),
+      fewer_may_go after.ledger.lists after.pools after.actions (commits after.ledger) (base after.ledger) (length (commits was.ledger)) (serials_gone (now (commits was.ledger)) y) c.args.gone.now
+          (may_go was ahead after y c.lead-done.result c.requires.desk led.ahead led.still told.on told.desk bases (actions_but_masks ahead after told.rest) (actions_but_blocks ahead.pools after.pools told.pools)) c.requires.gone.each,
     )
 
 -- src/exchanging.rt:28:1

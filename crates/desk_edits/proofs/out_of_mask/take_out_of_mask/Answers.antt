@@ -17,8 +17,9 @@ use Rattle.desk_pools.specs.declared.pools.Pools.{Pools}
 use Rattle.desk_ledger.specs.declared.ledger.Ledger.{Ledger}
 use Rattle.desk_ledger.specs.Kept.{commits, base}
 use Rattle.desk_actions.specs.Effects.{IsCounted}
-use Rattle.desk_line_actions.specs.Dropped.{MayGo}
+use Rattle.desk_line_actions.specs.Gone.{serials_gone}
 use Rattle.desk_resize.specs.Refit.{count_now}
+use Rattle.desk_edits.proofs.Behind.{fewer_may_go}
 use Rattle.desk_edits.proofs.Passing.{may_go}
 use Rattle.desk_ways.specs.declared.way.Way.TheVariants as ways
 use Rattle.desk_ways.proofs.Looked.{sound}
@@ -83,8 +84,8 @@ let_go-requires-clause-gone g c = let was = c.args.parts.now in let y = g.E.Edit
     let places = actions_but_masks mid after told.rest ∙ actions_but_masks ahead mid taken.rest in
     let slots = actions_but_rows mid.pools after.pools told.pools ∙ actions_but_blocks ahead.pools mid.pools taken.pools in (
       length (commits was.ledger),
-      subst (λ (serials : List ℕ). MayGo after.ledger.lists after.pools after.actions (commits after.ledger) (base after.ledger) (length (commits was.ledger)) serials) (sym c.requires.gone)
-          (may_go was ahead after y c.lead_removal-done.result c.requires.desk led.ahead led.still aside told.desk bases places slots),
+      fewer_may_go after.ledger.lists after.pools after.actions (commits after.ledger) (base after.ledger) (length (commits was.ledger)) (serials_gone (now (commits was.ledger)) y) c.args.gone.now
+          (may_go was ahead after y c.lead_removal-done.result c.requires.desk led.ahead led.still aside told.desk bases places slots) c.requires.gone.each,
     )
 
 -- src/removing.rt:30:1

@@ -10,9 +10,11 @@ use Rattle.desk_pools.specs.Steps.{turned}
 use Rattle.desk_ledger.specs.declared.ledger.Ledger.{Ledger}
 use Rattle.desk_ledger.specs.Kept.{commits, base}
 use Rattle.desk_actions.specs.Places.{Placed}
-use Rattle.desk_line_actions.specs.Dropped.{MayGo, AreDropped}
+use Rattle.desk_line_actions.specs.Dropped.{AreDropped}
+use Rattle.desk_line_actions.specs.Gone.{serials_gone}
 use Rattle.desk_edits.specs.Goes.{AreGone}
 use Rattle.desk_edits.specs.Parting.{HaveLeft}
+use Rattle.desk_edits.proofs.Behind.{fewer_may_go}
 use Rattle.desk_edits.proofs.Passing.{may_go}
 use Rattle.desk_edits.proofs.Kept.{pools_removed, base_removed, ledger_let, actions_left, places_closed, places_removed, commits_removed}
 use Rattle.desk_edits.proofs.without_masks.take_masks.Goals as goal
@@ -23,8 +25,8 @@ let_go-requires-clause-gone g c = let was = c.args.parts.now in let y = g.E.Edit
     let bases : base after.ledger ≡ base was.ledger = same_base (sheet_of ahead.ledger.writer.place) (sheet_of after.ledger.writer.place) told.sheet ∙ base_removed was ahead led.rest in
     let slots = actions_left c.args.hook ahead.pools after.pools told.left.2.others in (
       length (commits was.ledger),
-      subst (λ (serials : List ℕ). MayGo after.ledger.lists after.pools after.actions (commits after.ledger) (base after.ledger) (length (commits was.ledger)) serials) (sym c.requires.gone)
-          (may_go was ahead after y c.lead_removal-done.result c.requires.desk led.ahead led.still told.aside told.desk bases (places_closed ahead after told.rest) slots),
+      fewer_may_go after.ledger.lists after.pools after.actions (commits after.ledger) (base after.ledger) (length (commits was.ledger)) (serials_gone (now (commits was.ledger)) y) c.args.gone.now
+          (may_go was ahead after y c.lead_removal-done.result c.requires.desk led.ahead led.still told.aside told.desk bases (places_closed ahead after told.rest) slots) c.requires.gone.each,
     )
 
 pub returns-clause-left : goal.returns-clause-left
