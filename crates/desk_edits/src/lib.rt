@@ -78,5 +78,6 @@ pub use out_of_mask::take_out_of_mask;
 pub use removing::take_from_mask;
 pub use room::Room;
 pub use settling::{resize_mask, settled_masks};
+pub use taking::take_for_mask;
 pub use with_mask::put_with_mask;
 pub use without_masks::take_masks;

@@ -12,7 +12,7 @@ use mask_writer::Blocks;
 use tc_base::Numbers;
 
 /// Takes a slot, and so many blocks and rows.
-pub(crate) fn take_for_mask(
+pub fn take_for_mask(
     pools: &mut Pools,
     block_count: u32,
     row_count: u32,

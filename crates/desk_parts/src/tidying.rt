@@ -36,6 +36,10 @@ impl Parts {
             ≡ (sheet_of self.old.ledger.writer.place).epoch + 1)
             ⊎ ((sheet_of self.new.ledger.writer.place).epoch
             ≡ (sheet_of self.old.ledger.writer.place).epoch + 2) }
+        ensures rest { self.new ≡ record self.old {
+          ledger = record self.old.ledger { writer = self.new.ledger.writer };
+          pools = self.new.pools;
+        } }
     {
         tidy(
             &mut self.ledger.writer,
