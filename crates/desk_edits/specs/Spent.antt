@@ -3,7 +3,6 @@ use Rattle.std.specs.Prelude.{◌≡◌, ◌⊎◌, ℕ, ◌+◌, ◌≤◌, Lis
 use Rattle.std.specs.List.{IsDistinct}
 use Rattle.store_history.specs.declared.history.Commit.{Commit}
 use Rattle.filter_state.specs.declared.edit.Edit.{Edit}
-use Rattle.filter_state.specs.States.{State}
 use Rattle.hook_law.specs.Meaning.{IsLive}
 use Rattle.hook_law.specs.Standing.{IsIn}
 use Rattle.hook_meaning.specs.Stated.{hook_meaning}
@@ -12,7 +11,6 @@ use Rattle.desk_needs.specs.declared.needs.Needs.{Needs}
 use Rattle.desk_needs.specs.Needs.{made}
 use Rattle.desk_pools.specs.declared.pools.Pools.{Pools}
 use Rattle.desk_actions.specs.Effects.{IsCounted}
-use Rattle.desk_line_actions.specs.Gone.{serials_gone}
 use Rattle.desk_edits.specs.declared.room.Room.{Room}
 use Rattle.desk_ways.specs.declared.way.Way.{Way}
 use Rattle.desk_ways.specs.Ways.{needs_by}
@@ -34,12 +32,6 @@ HaveFree pools needs = (needs.blocks ≤ length pools.blocks.free) × (needs.row
 abbrev pub HasRoom : Room → ℕ → ℕ → Type 0
 HasRoom room blocks rows = (room.blocks.items ≡ []) × (room.rows.items ≡ [])
     × (blocks ≤ vec_capacity room.blocks) × (rows ≤ vec_capacity room.rows)
-
--- in any order, each as often as may be, the serials of actions that the filters name which the edit takes away
--- or replaces; s is the state before it
-pub record NamesGone (s : State) (y : Edit) (serials : List ℕ) : Type 0 where
-  pub each : (action : ℕ) → IsIn action serials → IsIn action (serials_gone s y)
-  pub all : (action : ℕ) → IsIn action (serials_gone s y) → IsIn action serials
 
 -- those of these actions that are live no more after these commits, each once
 pub record AreDead (h : List (Commit Edit)) (serials gone : List ℕ) : Type 0 where

@@ -7,10 +7,11 @@ ghost use Rattle.filter_state.specs.Lines.{IsLine};
 ghost use Rattle.filter_state.specs.Steps.{step};
 ghost use Rattle.hook_edit_laws.specs.Premises.{now, next};
 ghost use Rattle.desk_ledger.specs.Kept.{commits};
+ghost use Rattle.desk_line_actions.specs.Gone.{NamesGone};
 ghost use Rattle.desk_parts.specs.Desk.{IsDesk};
 ghost use Rattle.desk_ways.specs.declared.way.Way.TheVariants as ways;
 ghost use Rattle.desk_ways.specs.Ways.{InPlace};
-ghost use Rattle.desk_edits.specs.Spent.{needed, HaveFree, HasRoom, LeftWithActions, NamesGone};
+ghost use Rattle.desk_edits.specs.Spent.{needed, HaveFree, HasRoom, LeftWithActions};
 
 use crate::exchanging::exchange_in_mask;
 use crate::leading::lead;

@@ -9,10 +9,11 @@ ghost use Rattle.hook_edit_laws.specs.Premises.{now, next};
 ghost use Rattle.desk_need_laws.specs.Told.{blocks_anew, rows_anew};
 ghost use Rattle.desk_ledger.specs.Kept.{commits};
 ghost use Rattle.desk_actions.specs.Effects.{IsCounted};
+ghost use Rattle.desk_line_actions.specs.Gone.{NamesGone};
 ghost use Rattle.desk_parts.specs.Desk.{IsDesk};
 ghost use Rattle.desk_ways.specs.declared.way.Way.TheVariants as ways;
 ghost use Rattle.desk_ways.specs.Ways.{OutOfMask};
-ghost use Rattle.desk_edits.specs.Spent.{needed, HaveFree, HasRoom, LeftWithActions, NamesGone};
+ghost use Rattle.desk_edits.specs.Spent.{needed, HaveFree, HasRoom, LeftWithActions};
 
 use crate::fitting::fit_mask;
 use crate::leading::lead_removal;

@@ -10,13 +10,13 @@ ghost use Rattle.desk_pools.specs.declared.pools.Pools.{Pools};
 ghost use Rattle.desk_pools.specs.Steps.{turned};
 ghost use Rattle.desk_ledger.specs.Kept.{commits, base};
 ghost use Rattle.desk_line_actions.specs.Dropped.{AreDropped};
+ghost use Rattle.desk_line_actions.specs.Gone.{NamesGone};
 ghost use Rattle.desk_needs.specs.Live.{count_of};
 ghost use Rattle.desk_parts.specs.Desk.{IsDesk};
 ghost use Rattle.desk_heads.specs.Handed.{idle_of};
 ghost use Rattle.desk_ways.specs.Ways.{Closes};
 ghost use Rattle.desk_edits.specs.Goes.{AreGone};
 ghost use Rattle.desk_edits.specs.Parting.{HaveLeft};
-ghost use Rattle.desk_edits.specs.Spent.{NamesGone};
 
 use crate::closing::close_in_head;
 use crate::leading::lead_removal;

@@ -6,6 +6,7 @@ use Rattle.filter_state.specs.declared.edit.Edit.{Edit}
 use Rattle.filter_state.specs.declared.edit.Edit.TheVariants as edits
 use Rattle.filter_state.specs.States.{Row, State}
 use Rattle.filter_state.specs.Tables.{in_table, has_handle, filter_row}
+use Rattle.hook_law.specs.Standing.{IsIn}
 
 -- the serials that a filter names, where it is there
 abbrev pub named_by : Option Row → List ℕ
@@ -22,3 +23,9 @@ serials_gone s (edits.FilterDel hook protocol chain pref (Some handle)) =
 serials_gone s (edits.FilterDel hook protocol chain pref None) =
     flat_map (λ (row : Row). row.actions) (filter (in_table hook chain pref) s.rows)
 serials_gone s edit = []
+
+-- in any order, each as often as may be, the serials of actions that the filters name which the edit takes away
+-- or replaces
+pub record NamesGone (s : State) (y : Edit) (serials : List ℕ) : Type 0 where
+  pub each : (action : ℕ) → IsIn action serials → IsIn action (serials_gone s y)
+  pub all : (action : ℕ) → IsIn action (serials_gone s y) → IsIn action serials
