@@ -1,22 +1,13 @@
 //! The serial of the mask of a line.
-ghost use Rattle.std.specs.Prelude.{◌≡◌, ◌<◌, ◌^◌, ℕ, length, map, Some, None, IfSome};
+ghost use Rattle.std.specs.Prelude.{◌≡◌, ◌<◌, ◌^◌, ℕ, Some, None, IfSome};
 ghost use Rattle.filter_state.specs.States.{Row, State};
 ghost use Rattle.filter_state.specs.Tables.{mask_row};
-ghost use Rattle.filter_tables.specs.Places.{item_at};
-ghost use Rattle.filter_tables.specs.Seen.{plain_table};
 ghost use Rattle.filter_lists.specs.Spells.{Spells};
 ghost use Rattle.desk_edits.specs.Lines.{IsLineMask};
 
-use filter_lists::{Done, FilterLine, FilterTable, Lists};
+use desk_finding::table_at;
+use filter_lists::{Done, FilterLine, Lists};
 use hook_lists::mask_at;
-
-// The table at that place.
-fn table_at(tables: &[FilterTable], place: usize) -> &FilterTable
-    requires { place < length tables.now }
-    ensures { item_at (map plain_table tables.now) place ≡ Some (plain_table result.now) }
-{
-    &tables[place]
-}
 
 // The serial of the mask with the line's words, in the table of its chain and that pref, where it is there.
 fn find_serial(lists: &Lists, line: &FilterLine, pref: u32) -> Option<u32>

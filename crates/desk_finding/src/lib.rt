@@ -20,3 +20,4 @@ mod tables;
 
 pub use filters::{FoundFilter, find_filter};
 pub use masks::{FoundMask, find_mask};
+pub use tables::table_at;
