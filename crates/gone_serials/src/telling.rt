@@ -5,6 +5,7 @@ ghost use Rattle.filter_index.specs.Listed.{has_handle};
 ghost use Rattle.filter_state.specs.States.{Row, State};
 ghost use Rattle.filter_state.specs.Tables.{in_table, filter_row};
 ghost use Rattle.filter_tables.specs.SeenMask.{plain_mask};
+ghost use Rattle.hook_lists.specs.States.{AreKept};
 ghost use Rattle.filter_lists.specs.Spells.{Spells};
 ghost use Rattle.desk_line_actions.specs.Gone.{named_by, NamesGone};
 ghost use Rattle.gone_serials.specs.Same.{serials_at, serials_in, HaveSame};
@@ -62,10 +63,11 @@ fn serials_of_table(
 {
     let tables = lists.tables(hook);
     let mut gone = Vec::new(alloc);
-    if let Some(place) = lists.find_table(hook, chain, pref) {
-        let table = table_at(tables, place);
-        add_masks(&mut gone, table.masks.as_slice())?;
-    }
+    let Some(place) = lists.find_table(hook, chain, pref) else {
+        return Ok(gone);
+    };
+    let table = table_at(tables, place);
+    add_masks(&mut gone, table.masks.as_slice())?;
     Ok(gone)
 }
 
@@ -75,6 +77,7 @@ fn find_filter(lists: &Lists, hook: Hook, chain: u32, pref: u32, handle: u32) ->
         × (filter_row hook chain pref handle s.rows ≡ Some row) × (found.now.actions ≡ row.actions)) }
     ensures none { result ≡ None
         → (s : State) → Spells lists.now s → filter_row hook chain pref handle s.rows ≡ None }
+    ensures kept { AreKept lists.now }
 {
     let tables = lists.tables(hook);
     let place = lists.find_table(hook, chain, pref)?;
@@ -92,8 +95,9 @@ fn serials_of_filter(
     pref: u32,
     handle: u32,
 ) -> Result<Vec<u32>, NoMemory>
-    ensures { IfOk result (λ gone. (s : State) → Spells lists.now s
+    ensures gone { IfOk result (λ gone. (s : State) → Spells lists.now s
         → gone.items ≡ named_by (filter_row hook chain pref handle s.rows)) }
+    ensures kept { AreKept lists.now }
 {
     match find_filter(lists, hook, chain, pref, handle) {
         Some(found) => Ok(found.actions.as_slice().to_vec(alloc)?),

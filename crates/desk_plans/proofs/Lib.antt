@@ -1,0 +1,4 @@
+pub mod Enough
+pub mod Needing
+pub mod Roomy
+pub mod Staying

@@ -1,0 +1,12 @@
+use Rattle.std.proofs.Common.{◌≡◌, refl, sym, ap, subst}
+use Rattle.desk_ledger.specs.Kept.{commits}
+use Rattle.desk_plans.proofs.Needing.{deleted_live}
+use Rattle.desk_plans.proofs.plan.Plan.of.Goals as goal
+
+pub returns-in-ActionDel-clause-plan : goal.returns-in-ActionDel-clause-plan
+returns-in-ActionDel-clause-plan c = let a = c.requires.accepted in record {
+  kind = c.in-ActionDel.kind;
+  index = c.in-ActionDel.index;
+  is = c.in-ActionDel.is;
+  live = deleted_live _ _ _ _ _ _ _ c.in-ActionDel.is a.2;
+}
