@@ -72,6 +72,7 @@ pub use in_place::exchange_in_place;
 pub use into_mask::put_into_mask;
 pub use laws::{gone_may_go, places_stay};
 pub use leading::{lead, lead_removal};
+pub use leaving::part_with;
 pub use letting::let_go;
 pub use opening::open_in_head;
 pub use out_of_mask::take_out_of_mask;

@@ -18,4 +18,4 @@ mod laws;
 mod naming;
 
 pub use laws::{answered_filters_stand, lines_of_filters_answer};
-pub use naming::stored_filter;
+pub use naming::{names_of, stored_filter};
