@@ -54,15 +54,16 @@ use Rattle.desk_pools.specs.declared.pools.Pools.{Pools}
 use Rattle.desk_pools.specs.Pools.{ArePools}
 use Rattle.desk_pools.specs.Steps.{IsInPool, turned}
 use Rattle.desk_masks.specs.declared.hook_tables.HookTables.{HookTables}
-use Rattle.desk_masks.specs.Masks.{HasMask}
+use Rattle.desk_masks.specs.Masks.{HasMask, HasMasks}
 use Rattle.desk_masks.specs.Tables.{HasTables}
 use Rattle.desk_finding.proofs.Standing.{stored_stated}
 use Rattle.desk_needs.specs.Live.{count_of}
 use Rattle.desk_heads.specs.Closes.{HoldsMasks, IsGone}
 use Rattle.desk_heads.specs.Gives.{GivesTables}
+use Rattle.desk_heads.proofs.Held.{held_whole}
 use Rattle.desk_moves.specs.Builds.{HoldsBuilt}
 use Rattle.desk_moves.proofs.BuiltMasks.{bucket_stood}
-use Rattle.desk_edits.specs.Parting.{IsToGo, IsParting}
+use Rattle.desk_edits.specs.Parting.{IsToGo, IsParting, HaveLeft}
 use Rattle.desk_edits.proofs.Begun.{counted}
 use Rattle.desk_move_edits.specs.Raises.{HaveTheirBlocks}
 use Rattle.desk_move_edits.specs.Moves.{AreBuiltFor, IsAtOld, none_or, other_slot, old_slots, old_masks, IsToMove, MayPartAll}
@@ -184,7 +185,7 @@ module _ (h : List (Commit Edit)) (b : ℕ) (y : Edit) (hook : Hook) (built : Li
       by None at = at.0
       by (Some other) at = at.0
 
-  In : ℕ → List MaskName → Type 0
+  abbrev In : ℕ → List MaskName → Type 0
   In s names = (name : MaskName) × IsIn name names × (name.slot ≡ s)
 
   -- the mask to which the filter comes is at one of them, where it stood
@@ -313,7 +314,7 @@ module _ (h : List (Commit Edit)) (b : ℕ) (y : Edit) (hook : Hook) (built : Li
           pick (inl old) = absurd (old.1 (inl (s, x)))
           pick (inr own) = subst (IsMaskAt hook_codec k m) (o.built_for.once m n.0 s own x) at
 
-      Held : ℕ → KeptMask → Type 0
+      abbrev Held : ℕ → KeptMask → Type 0
       Held s kept = IsMaskAt hook_codec k kept.mask.serial s ⊎ ((name : MaskName) × IsIn name (old_names to from slot into) × (name.slot ≡ s) × (false ≡ false))
 
       as_held : (s : ℕ) (kept : KeptMask) → In s (old_names to from slot into) → Held s kept
@@ -342,3 +343,36 @@ module _ (h : List (Commit Edit)) (b : ℕ) (y : Edit) (hook : Hook) (built : Li
         only = only_held;
         apart = apart_old;
       }
+
+      module _ (q : Pools) (q_is : q ≡ turned hook pools) where
+        abbrev pub may_all : MayPartAll masks q (old_slots slot into)
+        may_all = record {
+          shape = shape;
+          cells = cells2;
+          h = k;
+          b = c;
+          count = count_of (now h);
+          names = old_names to from slot into;
+          slots_are = old_slots_are to from slot into;
+          parting = subst (λ (z : Pools). IsParting masks z shape cells2 k c (count_of (now h)) [] (old_names to from slot into)) (sym q_is) parting;
+        }
+
+        -- ---- once they have left
+        module _ (masks2 : Masks) (pools2 : Pools) (parted : (at : MayPartAll masks q (old_slots slot into)) → IsParting masks2 pools2 at.shape at.cells at.h at.b at.count [] [])
+            (left : (at : MayPartAll masks q (old_slots slot into)) → HaveLeft at.count q pools2 (map (λ (name : MaskName). name.serial) at.names)) where
+          end : IsParting masks2 pools2 shape cells2 k c (count_of (now h)) [] []
+          end = parted may_all
+
+          pub moved_pools : ArePools pools2 k c
+          moved_pools = end.are
+
+          pub moved_masks : HasMasks masks2 shape cells2 k
+          moved_masks = held_whole masks2 shape cells2 k end.holds (λ s kept stands. pick s kept (end.only s kept stands))
+            where
+              pick : (s : ℕ) (kept : KeptMask) → IsMaskAt hook_codec k kept.mask.serial s ⊎ ((name : MaskName) × IsIn {A = MaskName} name [] × (name.slot ≡ s) × (false ≡ false)) → IsMaskAt hook_codec k kept.mask.serial s
+              pick s kept (inl at) = at
+              pick s kept (inr n) = let e = n.1.1 in absurd (cc e)
+
+          pub moved_left : HaveLeft (count_of (now h)) (turned hook pools) pools2 (old_masks to from into)
+          moved_left = subst (λ (z : Pools). HaveLeft (count_of (now h)) z pools2 (old_masks to from into)) q_is
+              (subst (HaveLeft (count_of (now h)) q pools2) (old_serials_are to from slot into) (left may_all))
