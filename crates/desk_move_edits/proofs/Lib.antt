@@ -6,3 +6,4 @@ pub mod CanTold
 pub mod CanLay
 pub mod Laid
 pub mod Went
+pub mod DeskMoved
