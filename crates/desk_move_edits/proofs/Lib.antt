@@ -7,3 +7,8 @@ pub mod CanLay
 pub mod Laid
 pub mod Went
 pub mod DeskMoved
+pub mod StateMoves
+pub mod Starts
+pub mod Whole
+pub mod KeyMoves
+pub mod Sums
