@@ -12,3 +12,5 @@ pub mod Starts
 pub mod Whole
 pub mod KeyMoves
 pub mod Sums
+pub mod Leaves
+pub mod MaskMoves

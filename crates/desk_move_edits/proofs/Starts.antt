@@ -79,18 +79,18 @@ module _ (parts : Parts) (y : Edit) (done : Done) (ahead : IsAhead parts y done)
     stays = refl;
   }
 
-  -- ---- a mask that stood at its slot does so still
-  module _ (raised : Parts) (built : List MaskName) (r : IsRaising parts raised y built) where
-    k : List (Commit Edit)
-    k = commits raised.ledger
-
-    pub still_at : (m s : ℕ) → IsMaskAt hook_codec h m s → IsMaskAt hook_codec (commits raised.ledger) m s
-    still_at m s at = record { hook = at.hook; one = at.one; small = at.small; there = names at.hook at.one at.there }
+  -- ---- a mask that stood at its slot meanwhile does so still
+  module _ (one two : Parts) (built more : List MaskName) (r1 : IsRaising parts one y built) (r2 : IsRaising parts two y more) where
+    pub at_between : (m s : ℕ) → IsMaskAt hook_codec (commits one.ledger) m s → IsMaskAt hook_codec (commits two.ledger) m s
+    at_between m s at = record { hook = at.hook; one = at.one; small = at.small; there = names at.hook at.one at.there }
       where
-        chains : (hook : Hook) (kept : HookTables) → HasTables hook kept h → (root_of h (places.head_root (hook_number hook))).chain ≡ (root_of (commits raised.ledger) (places.head_root (hook_number hook))).chain
-        chains hook kept has = let later = r.tables hook kept has in has.chain ∙ sym later.chain
+        chains : (hook : Hook) (kept : HookTables) → HasTables hook kept h → (root_of (commits one.ledger) (places.head_root (hook_number hook))).chain ≡ (root_of (commits two.ledger) (places.head_root (hook_number hook))).chain
+        chains hook kept has = let first = r1.tables hook kept has in let second = r2.tables hook kept has in first.chain ∙ sym second.chain
 
-        names : (n : ℕ) → n < 2 → Names hook_codec (root_of h (places.head_root n)).chain m s → Names hook_codec (root_of (commits raised.ledger) (places.head_root n)).chain m s
+        names : (n : ℕ) → n < 2 → Names hook_codec (root_of (commits one.ledger) (places.head_root n)).chain m s → Names hook_codec (root_of (commits two.ledger) (places.head_root n)).chain m s
         names zero less in_ = subst (λ (ls : List Link). Names hook_codec ls m s) (chains hooks.Ingress parts.ingress ahead.has.ingress) in_
         names (suc zero) less in_ = subst (λ (ls : List Link). Names hook_codec ls m s) (chains hooks.Egress parts.egress ahead.has.egress) in_
         names (suc (suc n)) less in_ = absurd (omega (arith, less))
+
+  pub still_at : (raised : Parts) (built : List MaskName) → IsRaising parts raised y built → (m s : ℕ) → IsMaskAt hook_codec h m s → IsMaskAt hook_codec (commits raised.ledger) m s
+  still_at raised built r = at_between parts raised [] built begins r

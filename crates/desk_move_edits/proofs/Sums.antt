@@ -15,7 +15,7 @@ use Rattle.desk_edits.specs.Parting.{rows_for, HaveLeft}
 use Rattle.desk_edits.proofs.Counts.{counted_then, counted_as}
 use Rattle.desk_edits.proofs.Desked.{turned_blocks, turned_rows, turned_masks}
 use Rattle.desk_edits.proofs.Kept.{rows_led, masks_led_pools}
-use Rattle.desk_move_edits.specs.Moves.{old_masks}
+use Rattle.desk_move_edits.specs.Moves.{IsOther, old_masks}
 
 -- ---- what is free once new actions are put
 pub enough_led : (was ahead : Pools) → ahead ≡ record was { blocks = ahead.blocks; actions = ahead.actions } → (made to from : ℕ) → IsCounted was.blocks ahead.blocks made 0 → made + laid to + laid from ≤ length was.blocks.free
@@ -36,11 +36,6 @@ some_rows count some = ap (λ (b : Bool). if b then 0 else size_of count / 16) (
 
 some_masks : (count : ℕ) → 0 < count → laid_masks count ≡ 1
 some_masks count some = ap (λ (b : Bool). if b then 0 else 1) (ne_eqb count 0 (λ none. omega (arith, none, some)))
-
--- the mask to which a filter comes had so many, where it stood
-abbrev pub IsOther : (ℕ → ℕ) → ℕ → Option ℕ → ℕ → Type 0
-IsOther count to None others = others ≡ 0
-IsOther count to (Some slot) others = (count to ≡ others) × (0 < others)
 
 module _ (hook : Hook) (old new : Pools) (count : ℕ → ℕ) (to from : ℕ) (into : Option ℕ) (have others : ℕ) (left : HaveLeft count (turned hook old) new (old_masks to from into)) (own : count from ≡ have) (some : 0 < have) (other : IsOther count to into others) where
   -- as much leaves as is laid for as many
@@ -76,6 +71,24 @@ pub free_still : (hook : Hook) (was ahead raised : Pools) → ahead ≡ record w
 free_still hooks.Ingress was ahead raised one two free = ap (λ (p : Pools). p.ingress.is_free) two ∙ (ap (λ (p : Pools). p.ingress.is_free) one ∙ free)
 free_still hooks.Egress was ahead raised one two free = ap (λ (p : Pools). p.egress.is_free) two ∙ (ap (λ (p : Pools). p.egress.is_free) one ∙ free)
 
+pub free_laid : (hook : Hook) (one two : Pools) → two ≡ record one { blocks = two.blocks; rows = two.rows; masks = two.masks } → (idle_of hook one).is_free ≡ true → (idle_of hook two).is_free ≡ true
+free_laid hooks.Ingress one two is free = ap (λ (p : Pools). p.ingress.is_free) is ∙ free
+free_laid hooks.Egress one two is free = ap (λ (p : Pools). p.egress.is_free) is ∙ free
+
 -- taken, and then taken with what leaves
 pub counted_after : (p q r : PoolNumbers) (one two leaving : ℕ) → IsCounted p q one 0 → IsCounted q r two leaving → IsCounted p r (one + two) leaving
 counted_after p q r one two leaving first second = counted_as p r (one + two) (one + two) (0 + leaving) leaving refl (omega arith) (counted_then p q r one two 0 leaving first second)
+
+pub counted_leaving : (p q r : PoolNumbers) (taken leaving : ℕ) → IsCounted p q taken 0 → IsCounted q r 0 leaving → IsCounted p r taken leaving
+counted_leaving p q r taken leaving first second = counted_as p r (taken + 0) taken leaving leaving (omega arith) refl (counted_after p q r taken 0 leaving first second)
+
+-- what is free once the first mask is laid too
+pub enough_raised : (was ahead raised : Pools) → ahead ≡ record was { blocks = ahead.blocks; actions = ahead.actions } → (made to from : ℕ) → IsCounted was.blocks ahead.blocks made 0 → IsCounted ahead.blocks raised.blocks (laid to) 0
+    → IsCounted ahead.rows raised.rows (laid_rows to) 0 → IsCounted ahead.masks raised.masks (laid_masks to) 0 → made + laid to + laid from ≤ length was.blocks.free
+    → laid_rows to + laid_rows from ≤ length was.rows.free → laid_masks to + laid_masks from ≤ length was.masks.free
+    → (laid from ≤ length raised.blocks.free) × (laid_rows from ≤ length raised.rows.free) × (laid_masks from ≤ length raised.masks.free)
+enough_raised was ahead raised others made to from counted b r m blocks rows masks = (
+  let is = counted.free in let also = b.free in omega (arith, is, also, blocks),
+  let same = ap (λ (p : PoolNumbers). length p.free) (rows_led was ahead others) in let is = r.free in omega (arith, same, is, rows),
+  let same = ap (λ (p : PoolNumbers). length p.free) (masks_led_pools was ahead others) in let is = m.free in omega (arith, same, is, masks),
+)

@@ -34,7 +34,7 @@ use Rattle.miniq_pair.specs.Pairs.{first_block_of, swap_commit}
 use Rattle.hook_law.specs.Places as places
 use Rattle.hook_law.specs.Records.{StatedTable}
 use Rattle.hook_law.specs.Standing.{Role, Mask, Bucket, region_of, IsIn, IsMaskAt, Names, Stands as StandsRoot}
-use Rattle.hook_law.specs.Keeping.{IsAtRest, Present}
+use Rattle.hook_law.specs.Keeping.{Keeps, IsAtRest, Present}
 use Rattle.hook_law.proofs.Standing.{present_end, unused_end}
 use Rattle.hook_meaning.specs.Stated.{TableNames, hook_meaning, tables_at, filters_at}
 use Rattle.hook_meaning.specs.Blocks.{mask_record, hook_codec}
@@ -113,6 +113,11 @@ bucket_same h c low mask [] = refl
 bucket_same h c low mask (k ∷ ks) = let rest = bucket_same h c low mask ks in let one = root_other h c (bucket_root mask k) (λ same. omega (arith, low, same)) in
     λ t. map (λ (l : Link). l.block) (one t).chain ++ rest t
 
+-- a mask that a head names stands in the state
+pub stands_at : (h : List (Commit Edit)) (b : ℕ) → b ≤ length h → Keeps hook_meaning hook_codec h b → Sound (now h) → (m s : ℕ) → IsMaskAt hook_codec h m s → Stands (now h) m
+stands_at h b low keeps is_sound m s at = let k = hook_of at.hook at.one in standing (now h) k.0 m is_sound
+    (subst (λ (n : ℕ). HasSerial (tables_at (now h) n) m) (sym k.1) (root_has h m s at.hook (present_end hook_meaning hook_codec h b low keeps) at.one at.there))
+
 -- a mask that kept tables name stands
 named_at : (h : List (Commit Edit)) (hook : Hook) (kept : HookTables) → HasTables hook kept h → (m s : ℕ) → IsNamedIn kept.tables m s → IsMaskAt hook_codec h m s
 named_at h hook kept has m s n = record {
@@ -162,8 +167,7 @@ module _ (h : List (Commit Edit)) (b : ℕ) (y : Edit) (hook : Hook) (built : Li
   }
 
   stood : (m s : ℕ) → IsMaskAt hook_codec h m s → Stands (now h) m
-  stood m s at = let k = hook_of at.hook at.one in standing (now h) k.0 m s_sound
-      (subst (λ (n : ℕ). HasSerial (tables_at (now h) n) m) (sym k.1) (root_has h m s at.hook p at.one at.there))
+  stood = stands_at h b low keeps.law s_sound
 
   not_concerned : (m s : ℕ) → IsMaskAt hook_codec h m s → m ≢ to → m ≢ from → C m → ⊥
   not_concerned m s at first second (inl x) = pick (o.built_for.each m x.0 x.1)

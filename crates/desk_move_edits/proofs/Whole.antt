@@ -56,6 +56,13 @@ moved_since start raised after y built hook r m = record {
   rest = m.rest ∙ ap (λ (p : Parts). record p { ledger = after.ledger; pools = after.pools; masks = after.masks; ingress = after.ingress; egress = after.egress; room = after.room }) r.stays;
 }
 
+-- what was laid leaves the rest of the pools and the point
+pub raised_pools : (start one two : Parts) (y : Edit) (built more : List MaskName) → IsRaising start one y built → IsRaising start two y more → two.pools ≡ record one.pools { blocks = two.pools.blocks; rows = two.pools.rows; masks = two.pools.masks }
+raised_pools start one two y built more r1 r2 = ap (λ (p : Parts). p.pools) r2.stays ∙ sym (ap (λ (p : Parts). record p.pools { blocks = two.pools.blocks; rows = two.pools.rows; masks = two.pools.masks }) r1.stays)
+
+pub raised_point : (start one two : Parts) (y : Edit) (built more : List MaskName) → IsRaising start one y built → IsRaising start two y more → two.ledger.point ≡ one.ledger.point
+raised_point start one two y built more r1 r2 = ap (λ (p : Parts). p.ledger.point) r2.stays ∙ sym (ap (λ (p : Parts). p.ledger.point) r1.stays)
+
 module _ (was ahead after : Parts) (y : Edit) (done : Done) (hook : Hook) (d : IsDesk was) (a : IsAhead ahead y done) (still : GoesOnStill (commits was.ledger) (commits ahead.ledger))
     (sheet : IsSameButCells (sheet_of was.ledger.writer.place) (sheet_of ahead.ledger.writer.place)) (m : IsMovedOn ahead after y hook) where
   bases : base after.ledger ≡ base was.ledger

@@ -1,6 +1,6 @@
 -- A filter that moves to another key or mask (this project's own). `h` is all commits before the one that
 -- carries the edit, and y is the edit.
-use Rattle.std.specs.Prelude.{◌≡◌, ◌≢◌, ◌⊎◌, ℕ, ◌+◌, List, [], ◌∷◌, ◌++◌, map, Option, Some, None}
+use Rattle.std.specs.Prelude.{◌≡◌, ◌≢◌, ◌⊎◌, ℕ, ◌+◌, ◌-◌, ◌<◌, ◌≤◌, List, [], ◌∷◌, ◌++◌, map, Option, Some, None}
 use Rattle.tc_base.specs.declared.hook.Hook.{Hook}
 use Rattle.visit_room.specs.declared.names.MaskName.{MaskName}
 use Rattle.store_history.specs.declared.history.Commit.{Commit}
@@ -9,6 +9,8 @@ use Rattle.pin_store.specs.declared.shape.Shape.{Shape}
 use Rattle.pin_store.specs.Sheets.{IsSameButCells}
 use Rattle.pin_store.specs.Calls.{sheet_of}
 use Rattle.filter_state.specs.declared.edit.Edit.{Edit}
+use Rattle.filter_state.specs.declared.edit.FilterLine.{FilterLine}
+use Rattle.filter_state.specs.declared.refusal.Done.{Done}
 use Rattle.edit_effect_laws.specs.Parts.{Stands}
 use Rattle.miniq_pair.specs.Heads.{hook_number}
 use Rattle.mask_writer.specs.Masks.{Masks}
@@ -21,10 +23,12 @@ use Rattle.head_commit_laws.specs.Built.{IsBuilt}
 use Rattle.desk_pools.specs.declared.pools.Pools.{Pools}
 use Rattle.desk_pools.specs.Steps.{turned}
 use Rattle.desk_ledger.specs.Kept.{commits}
+use Rattle.desk_needs.specs.Live.{count_of}
 use Rattle.desk_parts.specs.declared.parts.Parts.{Parts}
 use Rattle.desk_parts.specs.Desk.{IsDesk}
 use Rattle.desk_edits.specs.Ahead.{GoesOnAside}
 use Rattle.desk_edits.specs.Parting.{IsParting}
+use Rattle.desk_move_edits.specs.Raises.{IsToLay}
 
 -- of the masks to which the filter comes and which it leaves, those that stand after the edit were built, each
 -- once, and no others
@@ -50,6 +54,27 @@ pub record IsToMove (h : List (Commit Edit)) (y : Edit) (hook : Hook) (built : L
   pub leaves : LeavesOtherHook hook (λ mask. (mask ≡ to) ⊎ (mask ≡ from)) (now h) (next h y)
   pub built_for : AreBuiltFor h y hook to from built
   pub at : IsAtOld h to from slot into
+
+-- ---- a filter that leaves its mask for another
+-- so many filters the mask had to which the filter comes, where it stood
+abbrev pub IsOther : (ℕ → ℕ) → ℕ → Option ℕ → ℕ → Type 0
+IsOther count to None others = others ≡ 0
+IsOther count to (Some slot) others = (count to ≡ others) × (0 < others)
+
+-- the mask to which it comes was built, with the slot that is named; the one that it leaves has these words, and
+-- had so many filters: where it had others, it is to be laid with these, and else it doesn't stand any more
+pub record IsToLeave (h : List (Commit Edit)) (y : Edit) (line : FilterLine) (done : Done) (words : List ℕ)
+    (first : MaskName) (slot count : ℕ) (into : Option ℕ) (others to from : ℕ) : Type 0 where
+  pub apart : to ≢ from
+  pub named : first.serial ≡ to
+  pub here : HasSerial (tables_at (next h y) (hook_number line.hook)) to
+  pub leaves : LeavesOtherHook line.hook (λ mask. (mask ≡ to) ⊎ (mask ≡ from)) (now h) (next h y)
+  pub at : IsAtOld h to from slot into
+  pub counted : count_of (now h) from ≡ count
+  pub some : 0 < count
+  pub other : IsOther (count_of (now h)) to into others
+  pub lay : 1 < count → IsToLay h y line done words (count - 1) from
+  pub gone : count ≤ 1 → Stands (next h y) from → ⊥
 
 -- ---- masks at their old slots
 -- a number alone, and with another one where that is there

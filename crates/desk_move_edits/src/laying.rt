@@ -73,7 +73,8 @@ pub(crate) fn lay_mask<E: EditName<Edit>>(
     requires fit { All FitsBlock filters.now }
     requires words { words_in (next (commits parts.old.ledger) E.edit) serial ≡ words.now.words }
     requires count { count ≡ length filters.now }
-    requires few { (parts.old.ledger.point + 1 < 2 ^ 32) × (count ≤ FILTERS_MAX) × (serial < 2 ^ 32) }
+    requires few { (parts.old.ledger.point + 1 < 2 ^ 32) × (count ≤ FILTERS_MAX + 1)
+        × (serial < 2 ^ 32) }
     requires enough { (count < length parts.old.pools.blocks.free)
         × (size_of count / ROW_BUCKETS ≤ length parts.old.pools.rows.free)
         × (0 < length parts.old.pools.masks.free) }

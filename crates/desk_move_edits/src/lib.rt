@@ -26,14 +26,17 @@
 
 mod laying;
 mod listing;
+mod leaving;
 mod mask_room;
 mod moving;
+mod named;
 mod other_key;
-//mod other_mask;
+mod other_mask;
 mod parting;
 mod raising;
 mod telling;
 
 pub use mask_room::MaskRoom;
 pub use other_key::give_other_key;
+pub use other_mask::give_other_mask;
 

@@ -39,7 +39,7 @@ pub(crate) fn raise_mask<E: EditName<Edit>>(
     requires raising { (start : TheParts) × (built : List Name) × IsRaising start parts.old E.edit built }
     requires lay { (serial : ℕ)
         × IsToLay (commits parts.old.ledger) E.edit line.now done.now words.now.words count serial }
-    requires few { (parts.old.ledger.point + 1 < 2 ^ 32) × (count ≤ FILTERS_MAX) }
+    requires few { (parts.old.ledger.point + 1 < 2 ^ 32) × (count ≤ FILTERS_MAX + 1) }
     requires enough { (laid count ≤ length parts.old.pools.blocks.free)
         × (laid_rows count ≤ length parts.old.pools.rows.free)
         × (laid_masks count ≤ length parts.old.pools.masks.free) }

@@ -24,7 +24,7 @@ use Rattle.desk_move_edits.specs.Moves.{IsToMove, IsMovedOn}
 use Rattle.desk_move_edits.proofs.Starts.{begins}
 use Rattle.desk_move_edits.proofs.KeyMoves.{key_lay, key_moves, now_raised}
 use Rattle.desk_move_edits.proofs.Whole.{moved_since, some_may_go, whole_point, whole_journal, whole_sheet, whole_places, whole_rest, whole_left, rows_let, masks_let}
-use Rattle.desk_move_edits.proofs.Sums.{enough_led, IsOther, gone_blocks, gone_rows, gone_masks, free_still, counted_after}
+use Rattle.desk_move_edits.proofs.Sums.{enough_led, gone_blocks, gone_rows, gone_masks, free_still, counted_after}
 use Rattle.desk_move_edits.proofs.other_key.give_other_key.Goals as goal
 
 pub raise_mask-mask-requires-clause-raising : goal.raise_mask-mask-requires-clause-raising
