@@ -66,7 +66,7 @@ use Rattle.desk_moves.proofs.BuiltMasks.{bucket_stood}
 use Rattle.desk_edits.specs.Parting.{IsToGo, IsParting, HaveLeft}
 use Rattle.desk_edits.proofs.Begun.{counted}
 use Rattle.desk_move_edits.specs.Raises.{HaveTheirBlocks}
-use Rattle.desk_move_edits.specs.Moves.{AreBuiltFor, IsAtOld, none_or, other_slot, old_slots, old_masks, IsToMove, MayPartAll}
+use Rattle.desk_move_edits.specs.Moves.{AreBuiltFor, IsAtOld, old_slots, old_masks, IsToMove, MayPartAll}
 
 -- ---- the masks at their old slots, by name
 abbrev pub other_names : ℕ → Option ℕ → List MaskName

@@ -1,6 +1,7 @@
 -- A filter that moves to another key or mask (this project's own). `h` is all commits before the one that
 -- carries the edit, and y is the edit.
-use Rattle.std.specs.Prelude.{◌≡◌, ◌≢◌, ◌⊎◌, ℕ, ◌+◌, ◌-◌, ◌<◌, ◌≤◌, List, [], ◌∷◌, ◌++◌, map, Option, Some, None}
+use Rattle.std.specs.Prelude.{◌≡◌, ◌≢◌, ◌⊎◌, ℕ, ◌+◌, ◌-◌, ◌<◌, ◌≤◌, List, [], ◌∷◌, ◌++◌, map, Option, Some}
+use Rattle.std.specs.Prelude.{None}
 use Rattle.tc_base.specs.declared.hook.Hook.{Hook}
 use Rattle.visit_room.specs.declared.names.MaskName.{MaskName}
 use Rattle.store_history.specs.declared.history.Commit.{Commit}
@@ -30,8 +31,8 @@ use Rattle.desk_edits.specs.Ahead.{GoesOnAside}
 use Rattle.desk_edits.specs.Parting.{IsParting}
 use Rattle.desk_move_edits.specs.Raises.{IsToLay}
 
--- of the masks to which the filter comes and which it leaves, those that stand after the edit were built, each
--- once, and no others
+-- of the masks to which the filter comes and which it leaves, those that stand after the edit were built,
+-- each once, and no others
 pub record AreBuiltFor (h : List (Commit Edit)) (y : Edit) (hook : Hook) (to from : ℕ) (built : List MaskName)
     : Type 0 where
   pub each : (mask slot : ℕ) → IsBuilt built mask slot → (mask ≡ to) ⊎ (mask ≡ from)
@@ -61,8 +62,8 @@ abbrev pub IsOther : (ℕ → ℕ) → ℕ → Option ℕ → ℕ → Type 0
 IsOther count to None others = others ≡ 0
 IsOther count to (Some slot) others = (count to ≡ others) × (0 < others)
 
--- the mask to which it comes was built, with the slot that is named; the one that it leaves has these words, and
--- had so many filters: where it had others, it is to be laid with these, and else it doesn't stand any more
+-- the mask to which it comes was built, with the slot that is named; the one that it leaves has these words,
+-- and had so many filters: where it had others, it is to be laid with these, and else it stands no more
 pub record IsToLeave (h : List (Commit Edit)) (y : Edit) (line : FilterLine) (done : Done) (words : List ℕ)
     (first : MaskName) (slot count : ℕ) (into : Option ℕ) (others to from : ℕ) : Type 0 where
   pub apart : to ≢ from
@@ -77,21 +78,22 @@ pub record IsToLeave (h : List (Commit Edit)) (y : Edit) (line : FilterLine) (do
   pub gone : count ≤ 1 → Stands (next h y) from → ⊥
 
 -- ---- masks at their old slots
--- a number alone, and with another one where that is there
-abbrev pub none_or : {X : Type 0} → X → Option ℕ → List X
-none_or x None = []
-none_or x (Some other) = x ∷ []
-
+-- the other slot, where there is one
 abbrev pub other_slot : Option ℕ → List ℕ
 other_slot None = []
 other_slot (Some other) = other ∷ []
 
+-- the slot of the mask which the filter leaves, and that of the one to which it comes, where that stood
 abbrev pub old_slots : ℕ → Option ℕ → List ℕ
 old_slots slot into = slot ∷ other_slot into
 
--- the mask which the filter leaves, and the one to which it comes, where that stood
+-- and the masks themselves
+abbrev pub other_mask : ℕ → Option ℕ → List ℕ
+other_mask to None = []
+other_mask to (Some other) = to ∷ []
+
 abbrev pub old_masks : ℕ → ℕ → Option ℕ → List ℕ
-old_masks to from into = from ∷ none_or to into
+old_masks to from into = from ∷ other_mask to into
 
 -- the writer of masks holds them, which are gone, and what they have is in no pool
 pub record MayPartAll (masks : Masks) (pools : Pools) (slots : List ℕ) : Type 0 where

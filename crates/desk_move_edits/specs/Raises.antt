@@ -67,8 +67,8 @@ pub record IsRaising (start parts : Parts) (y : Edit) (built : List MaskName) : 
   pub early : AreEarly parts
   pub pools : ArePools parts.pools (commits parts.ledger) (base parts.ledger)
   pub sized : AreSized parts.pools
-  pub holds : HoldsBuilt parts.masks hook_shape (cells parts.ledger) (commits parts.ledger) (base parts.ledger) y
-      built
+  pub holds : HoldsBuilt parts.masks hook_shape (cells parts.ledger) (commits parts.ledger)
+      (base parts.ledger) y built
   pub handed : AreBuiltHanded parts.pools parts.masks built
   pub actions : AreActionsHanded parts.pools (commits parts.ledger) (base parts.ledger) y
   pub here : AreHereFor parts.actions (commits parts.ledger) (next (commits parts.ledger) y)

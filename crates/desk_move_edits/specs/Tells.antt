@@ -1,5 +1,5 @@
--- The filters of a mask, told off the lists (this project's own). `h` is all commits, and s is a state that the
--- lists spell.
+-- The filters of a mask, told off the lists (this project's own). `h` is all commits, and s is a state that
+-- the lists spell.
 use Rattle.std.specs.Prelude.{◌≡◌, ℕ, ◌≤◌, List, length, map, Some, All}
 use Rattle.act_registry.specs.declared.limits.TheConstants.{MADE_MAX}
 use Rattle.tc_base.specs.declared.hook.Hook.{Hook}

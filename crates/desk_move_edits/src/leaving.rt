@@ -54,7 +54,8 @@ pub(crate) fn leave_mask<E: EditName<Edit>>(
         → IsRaising start parts.old E.edit (first ∷ []) → IsMovedOn start parts.new E.edit line.now.hook }
     ensures blocks { (others to from : ℕ) → IsToLeave (commits parts.old.ledger) E.edit line.now done.now
         words.now.words first slot count into others to from
-        → IsCounted parts.old.pools.blocks parts.new.pools.blocks (laid (count - 1)) (laid count + laid others) }
+        → IsCounted parts.old.pools.blocks parts.new.pools.blocks (laid (count - 1))
+        (laid count + laid others) }
     ensures rows { (others to from : ℕ) → IsToLeave (commits parts.old.ledger) E.edit line.now done.now
         words.now.words first slot count into others to from
         → IsCounted parts.old.pools.rows parts.new.pools.rows (laid_rows (count - 1))

@@ -12,7 +12,12 @@ use flow_fields::Key;
 use hook_lists::mask_at;
 
 // The mask with those words, in the table of the line's chain that has the pref, where it is there.
-fn find_list<'a>(lists: &'a Lists, line: &FilterLine, pref: u32, words: &Key<14>) -> Option<&'a MaskList>
+fn find_list<'a>(
+    lists: &'a Lists,
+    line: &FilterLine,
+    pref: u32,
+    words: &Key<14>,
+) -> Option<&'a MaskList>
     ensures some { IfSome result (λ list. (s : State) → Spells lists.now s → (serial : ℕ)
         × IsMaskIn s line.now pref words.now.words serial
         × IsListOf s line.now.hook serial (plain_mask list.now)) }

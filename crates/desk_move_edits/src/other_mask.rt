@@ -97,7 +97,9 @@ pub fn give_other_mask<E: EditName<Edit>>(
     let words = mask_named(parts, line);
     let done = lead::<E>(parts, store, prepared);
     let first = raise_mask::<E>(parts, store, line, &done, &line.mask, others + 1, to);
-    leave_mask::<E>(parts, store, line, &done, &words, first, slot, count, into, from);
+    leave_mask::<E>(
+        parts, store, line, &done, &words, first, slot, count, into, from,
+    );
     let_go(parts, gone);
     done
 }

@@ -10,8 +10,8 @@ use desk_edits::part_with;
 use desk_pools::Pools;
 use mask_writer::MaskWriter;
 
-/// The masks at a slot and at another, where there is one, are gone: they leave the writer, and what they have
-/// leaves the pools.
+/// The masks at a slot and at another, where there is one, are gone: they leave the writer, and what they
+/// have leaves the pools.
 pub(crate) fn part_with_old(masks: &mut MaskWriter, pools: &mut Pools, slot: u32, into: Option<u32>)
     requires may { MayPartAll masks.old pools.old (old_slots slot into) }
     requires sized { AreSized pools.old }

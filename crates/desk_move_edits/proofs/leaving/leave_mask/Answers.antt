@@ -49,9 +49,12 @@ move_in_head-requires-else-count-gt1-clause-raising g c = let up = c.requires.ra
 pub move_in_head-requires-else-count-gt1-clause-moves : goal.move_in_head-requires-else-count-gt1-clause-moves
 move_in_head-requires-else-count-gt1-clause-moves g c = let was = c.args.parts.now in let y = g.E.EditName.edit in let up = c.requires.raising in let line = c.args.line.now in let done = c.args.done.now in let first = c.args.first in
     let slot = c.args.slot in let count : ℕ = c.args.count in let into = c.args.into in let words = c.args.words.now.words in let first_built : List MaskName = first ∷ [] in
-    let o = c.requires.leave in
-    (o.1, o.2, subst (λ (l : List MaskName). IsToMove (commits was.ledger) y line.hook l slot into o.1 o.2) (sym c.from_ref.ensures.value)
-    (alone_moves up.0 was y done up.1 line words first slot count into o.0 o.1 o.2 up.2 o.3 (let few = c.if-count-gt1.false in omega (arith, few))))
+    let o = c.requires.leave in (
+      o.1,
+      o.2,
+      subst (λ (l : List MaskName). IsToMove (commits was.ledger) y line.hook l slot into o.1 o.2) (sym c.from_ref.ensures.value)
+          (alone_moves up.0 was y done up.1 line words first slot count into o.0 o.1 o.2 up.2 o.3 (let few = c.if-count-gt1.false in omega (arith, few))),
+    )
 
 pub returns-then-count-gt1-clause-moved : goal.returns-then-count-gt1-clause-moved
 returns-then-count-gt1-clause-moved g c = λ start ahead r. let y = g.E.EditName.edit in let second = c.raise_mask-second in let both : List MaskName = c.args.first ∷ second.result ∷ [] in

@@ -32,7 +32,7 @@ part_with_old-requires-clause-may g c =
     told.journal told.lawful (told.store.shaped ∙ sym c.requires.store.shaped) told.sheet refl
     refl told.rests refl (told.pools masks pools has may.pools_are c.requires.handed may.actions may.idle) told.tables told.active told.others in
     let holds = subst (λ (s : Shape). HoldsMasks masks s (cells new) (commits new)) shape (told.masks masks has) in
-    let m = c.requires.moves in 
+    let m = c.requires.moves in
     may_all h b y hook built slot into m.0 m.1 may.kept.keeps c.requires.ready.0 c.requires.ready.1 m.2 masks hook_shape (cells old) c.requires.holds c.requires.blocks pools may.pools_are
     (commits new) (base new) sw.kept.low sw.kept.keeps given sw.tables (now_is_next h (commits new) y sw.journal) (cells new) holds sw.pools_are told.stays told.only (λ m s at con. told.gone masks m s has at con) place given.tables number told.seen
     c.turn.new.self c.turn.ensures
@@ -62,7 +62,7 @@ returns-clause-masks g c =
     told.journal told.lawful (told.store.shaped ∙ sym c.requires.store.shaped) told.sheet refl
     refl told.rests refl (told.pools masks pools has may.pools_are c.requires.handed may.actions may.idle) told.tables told.active told.others in
     let holds = subst (λ (s : Shape). HoldsMasks masks s (cells new) (commits new)) shape (told.masks masks has) in
-    let m = c.requires.moves in 
+    let m = c.requires.moves in
     moved_masks h b y hook built slot into m.0 m.1 may.kept.keeps c.requires.ready.0 c.requires.ready.1 m.2 masks hook_shape (cells old) c.requires.holds c.requires.blocks pools may.pools_are
     (commits new) (base new) sw.kept.low sw.kept.keeps given sw.tables (now_is_next h (commits new) y sw.journal) (cells new) holds sw.pools_are told.stays told.only (λ m s at con. told.gone masks m s has at con) place given.tables number told.seen
     c.turn.new.self c.turn.ensures c.part_with_old.new.masks c.part_with_old.new.pools c.part_with_old.ensures.parting c.part_with_old.ensures.left
@@ -79,7 +79,7 @@ returns-clause-pools g c =
     told.journal told.lawful (told.store.shaped ∙ sym c.requires.store.shaped) told.sheet refl
     refl told.rests refl (told.pools masks pools has may.pools_are c.requires.handed may.actions may.idle) told.tables told.active told.others in
     let holds = subst (λ (s : Shape). HoldsMasks masks s (cells new) (commits new)) shape (told.masks masks has) in
-    let m = c.requires.moves in 
+    let m = c.requires.moves in
     moved_pools h b y hook built slot into m.0 m.1 may.kept.keeps c.requires.ready.0 c.requires.ready.1 m.2 masks hook_shape (cells old) c.requires.holds c.requires.blocks pools may.pools_are
     (commits new) (base new) sw.kept.low sw.kept.keeps given sw.tables (now_is_next h (commits new) y sw.journal) (cells new) holds sw.pools_are told.stays told.only (λ m s at con. told.gone masks m s has at con) place given.tables number told.seen
     c.turn.new.self c.turn.ensures c.part_with_old.new.masks c.part_with_old.new.pools c.part_with_old.ensures.parting c.part_with_old.ensures.left

@@ -32,9 +32,11 @@ raise_mask-mask-requires-clause-raising g c = let led = c.lead-done.ensures in l
 
 pub raise_mask-mask-requires-clause-lay : goal.raise_mask-mask-requires-clause-lay
 raise_mask-mask-requires-clause-lay g c = let was = c.args.parts.now in let y = g.E.EditName.edit in let w = c.requires.way.0 in let led = c.lead-done.ensures in let ahead = c.lead-done.new.parts in let done = c.lead-done.result in
-    let count : ℕ = c.args.count in
-    (w.row.mask_serial, subst (λ (l : FilterLine). IsToLay (commits ahead.ledger) y l done l.mask.words count w.row.mask_serial) c.requires.way.1
-    (key_lay was ahead y done c.requires.desk led.ahead led.still (masks_led was ahead led.rest) c.requires.edit.1 led.done c.args.line.now.hook c.args.slot count w))
+    let count : ℕ = c.args.count in (
+      w.row.mask_serial,
+      subst (λ (l : FilterLine). IsToLay (commits ahead.ledger) y l done l.mask.words count w.row.mask_serial) c.requires.way.1
+          (key_lay was ahead y done c.requires.desk led.ahead led.still (masks_led was ahead led.rest) c.requires.edit.1 led.done c.args.line.now.hook c.args.slot count w),
+    )
 
 pub raise_mask-mask-requires-clause-enough : goal.raise_mask-mask-requires-clause-enough
 raise_mask-mask-requires-clause-enough g c = let was = c.args.parts.now in let y = g.E.EditName.edit in let w = c.requires.way.0 in let led = c.lead-done.ensures in let ahead = c.lead-done.new.parts in let h = commits was.ledger in
@@ -49,10 +51,13 @@ pub move_in_head-requires-clause-moves : goal.move_in_head-requires-clause-moves
 move_in_head-requires-clause-moves g c = let was = c.args.parts.now in let y = g.E.EditName.edit in let w = c.requires.way.0 in let led = c.lead-done.ensures in let ahead = c.lead-done.new.parts in let done = c.lead-done.result in
     let count : ℕ = c.args.count in let masks = masks_led was ahead led.rest in let raised = c.raise_mask-mask in let hook = c.args.line.now.hook in
     let lay = key_lay was ahead y done c.requires.desk led.ahead led.still masks c.requires.edit.1 led.done hook c.args.slot count w in
-    let serial = raised.ensures.serial w.row.mask_serial (subst (λ (l : FilterLine). IsToLay (commits ahead.ledger) y l done l.mask.words count w.row.mask_serial) c.requires.way.1 lay) in
-    (w.row.mask_serial, w.row.mask_serial, subst (λ (l : List MaskName). IsToMove (commits raised.new.parts.ledger) y hook l c.args.slot None w.row.mask_serial w.row.mask_serial) (sym c.from_ref.ensures.value)
-    (key_moves was ahead y done c.requires.desk led.ahead led.still masks c.requires.edit.1 led.done hook c.args.slot count w raised.result serial raised.new.parts
-    (raised.ensures.raising ahead [] (begins ahead y done led.ahead)) raised.ensures.here))
+    let serial = raised.ensures.serial w.row.mask_serial (subst (λ (l : FilterLine). IsToLay (commits ahead.ledger) y l done l.mask.words count w.row.mask_serial) c.requires.way.1 lay) in (
+      w.row.mask_serial,
+      w.row.mask_serial,
+      subst (λ (l : List MaskName). IsToMove (commits raised.new.parts.ledger) y hook l c.args.slot None w.row.mask_serial w.row.mask_serial) (sym c.from_ref.ensures.value)
+          (key_moves was ahead y done c.requires.desk led.ahead led.still masks c.requires.edit.1 led.done hook c.args.slot count w raised.result serial raised.new.parts
+          (raised.ensures.raising ahead [] (begins ahead y done led.ahead)) raised.ensures.here),
+    )
 
 pub move_in_head-requires-clause-free : goal.move_in_head-requires-clause-free
 move_in_head-requires-clause-free g c = let was = c.args.parts.now in let led = c.lead-done.ensures in let ahead = c.lead-done.new.parts in

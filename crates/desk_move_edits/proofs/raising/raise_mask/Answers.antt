@@ -15,13 +15,13 @@ use Rattle.desk_move_edits.proofs.raising.raise_mask.Goals as goal
 
 pub tell_mask-serial-requires-clause-there : goal.tell_mask-serial-requires-clause-there
 tell_mask-serial-requires-clause-there g c = let was = c.args.parts.now in let y = g.E.EditName.edit in let up = c.requires.raising in let lay = c.requires.lay in let t = next (commits was.ledger) y in (
-      commits was.ledger,
-      t,
-      lay.0,
-      can_tell up.0 was y up.1 up.2,
-      lay.1.mask,
-      let many = counts t lay.0 in let count = lay.1.counted in let room = c.requires.room.2 in omega (arith, many, count, room),
-    )
+  commits was.ledger,
+  t,
+  lay.0,
+  can_tell up.0 was y up.1 up.2,
+  lay.1.mask,
+  let many = counts t lay.0 in let count = lay.1.counted in let room = c.requires.room.2 in omega (arith, many, count, room),
+)
 
 pub lay_mask-slot-requires-clause-filters : goal.lay_mask-slot-requires-clause-filters
 lay_mask-slot-requires-clause-filters g c = let was = c.args.parts.now in let y = g.E.EditName.edit in let up = c.requires.raising in let lay = c.requires.lay in let h = commits was.ledger in let told = c.tell_mask-serial.ensures in
