@@ -1,12 +1,11 @@
 -- What was taken for a mask may be used for it.
-use Rattle.std.proofs.Common.{◌≡◌, ◌≢◌, ◌∙◌, inl, inr, ℕ, ◌+◌, ◌*◌, ◌/◌, ◌%◌, ◌<◌, ◌≤◌, ◌^◌, List, [], ◌∷◌, ◌++◌, length, eqb, get_or, slice_get, Some, refl, sym, ap, subst, arith}
+use Rattle.std.proofs.Common.{◌≡◌, ◌∙◌, ℕ, ◌+◌, ◌*◌, ◌/◌, ◌%◌, ◌<◌, ◌≤◌, ◌^◌, List, [], ◌∷◌, ◌++◌, length, eqb, get_or, refl, sym, ap, subst, arith}
 use Rattle.std.specs.Prelude.{All, IsTrue}
 use Rattle.std.specs.List.{IsDistinct}
 use Rattle.std.proofs.lemmas.List.{length-map}
 use Rattle.std.proofs.lemmas.Option.{slice_get-get_or}
 use Rattle.visit_room.specs.declared.names.MaskName.{MaskName}
 use Rattle.store_history.specs.declared.history.Commit.{Commit}
-use Rattle.store_history.specs.History.{root_of}
 use Rattle.flow_mask.specs.Sizes.{is_size, size_of}
 use Rattle.filter_state.specs.declared.edit.Edit.{Edit}
 use Rattle.block_codec.specs.declared.filter.StoredFilter.{StoredFilter}
@@ -17,7 +16,6 @@ use Rattle.mask_order.specs.Fitting.{FitsBlock}
 use Rattle.mask_table.specs.Buckets.{mask_root, bucket_root}
 use Rattle.edit_effect_laws.specs.Parts.{words_of}
 use Rattle.hook_law.specs.Places as places
-use Rattle.hook_law.specs.Meaning.{point_of}
 use Rattle.hook_law.specs.Standing.{IsIn, IsUnused}
 use Rattle.hook_meaning.specs.Stated.{hook_meaning, filters_at}
 use Rattle.hook_meaning.specs.Blocks.{hook_codec}

@@ -1,15 +1,11 @@
 -- While masks are laid, the lists tell the masks as the edit leaves them.
-use Rattle.std.proofs.Common.{◌≡◌, ◌∙◌, ℕ, List, length, sym}
-use Rattle.std.proofs.lemmas.List.{length-map}
+use Rattle.std.proofs.Common.{List}
 use Rattle.visit_room.specs.declared.names.MaskName.{MaskName}
 use Rattle.filter_state.specs.declared.edit.Edit.{Edit}
 use Rattle.hook_edit_laws.specs.Premises.{next}
 use Rattle.hook_edit_laws.proofs.Accepted.{next_sound}
-use Rattle.hook_meaning.specs.Stated.{filters_at}
 use Rattle.desk_ledger.specs.Kept.{commits, base}
-use Rattle.desk_needs.specs.Live.{count_of}
 use Rattle.desk_parts.specs.declared.parts.Parts.{Parts}
-use Rattle.desk_edits.proofs.Found.{counts}
 use Rattle.desk_move_edits.specs.Tells.{CanTell}
 use Rattle.desk_move_edits.specs.Raises.{IsRaising}
 

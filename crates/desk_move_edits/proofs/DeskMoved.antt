@@ -1,10 +1,9 @@
 -- A whole desk, once the edit that moves a filter is made.
-use Rattle.std.proofs.Common.{◌≡◌, ◌∙◌, ℕ, ◌+◌, true, List, [], ◌∷◌, ◌++◌, refl, sym, ap, subst}
+use Rattle.std.proofs.Common.{◌≡◌, ◌∙◌, ◌+◌, true, List, [], ◌∷◌, ◌++◌, sym, ap, subst}
 use Rattle.tc_base.specs.declared.hook.Hook.{Hook}
 use Rattle.tc_base.specs.declared.hook.Hook.TheVariants.{Ingress, Egress}
 use Rattle.visit_room.specs.declared.names.MaskName.{MaskName}
 use Rattle.pin_store.specs.Calls.{sheet_of}
-use Rattle.store_history.specs.History.{edits_of}
 use Rattle.filter_state.specs.declared.edit.Edit.{Edit}
 use Rattle.filter_state.specs.declared.refusal.Done.{Done}
 use Rattle.miniq_pair.specs.Pairs.{other_place}
@@ -17,7 +16,7 @@ use Rattle.desk_masks.specs.declared.hook_tables.HookTables.{HookTables}
 use Rattle.desk_masks.specs.Masks.{HasMasks}
 use Rattle.desk_masks.specs.Tables.{HasTables}
 use Rattle.desk_parts.specs.declared.parts.Parts.{Parts}
-use Rattle.desk_parts.specs.Desk.{hook_shape, cells, AreSized, IsDesk}
+use Rattle.desk_parts.specs.Desk.{hook_shape, cells, AreSized}
 use Rattle.desk_heads.specs.Handed.{idle_of}
 use Rattle.desk_edits.specs.Ahead.{IsAhead}
 use Rattle.desk_edits.specs.Swaps.{tables_of, with_tables, MaySwap, IsSwapped}

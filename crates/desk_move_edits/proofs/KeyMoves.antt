@@ -1,16 +1,14 @@
 -- A filter gets another key: its mask as it is laid, and what its edit changes.
-use Rattle.std.proofs.Common.{◌≡◌, ◌∙◌, ◌⊎◌, inl, inr, ℕ, List, [], ◌∷◌, ◌++◌, length, Option, Some, None, Ok, refl, sym, ap, subst, arith}
+use Rattle.std.proofs.Common.{◌≡◌, ◌∙◌, ◌⊎◌, inl, inr, ℕ, List, [], ◌∷◌, None, Ok, sym, ap, subst, arith}
 use Rattle.tc_base.specs.declared.hook.Hook.{Hook}
 use Rattle.visit_room.specs.declared.names.MaskName.{MaskName}
 use Rattle.store_history.specs.declared.history.Commit.{Commit}
-use Rattle.store_history.specs.History.{edits_of}
 use Rattle.filter_state.specs.declared.edit.Edit.{Edit}
 use Rattle.filter_state.specs.declared.edit.Edit.TheVariants as edits
-use Rattle.filter_state.specs.declared.edit.FilterLine.{FilterLine}
 use Rattle.filter_state.specs.declared.refusal.Done.{Done}
 use Rattle.filter_state.specs.declared.refusal.Done.TheVariants as dones
 use Rattle.filter_state.specs.Lines.{IsLine}
-use Rattle.filter_state.specs.States.{Row, State}
+use Rattle.filter_state.specs.States.{State}
 use Rattle.filter_state.specs.Sound.{Sound}
 use Rattle.filter_state.specs.Steps.{step}
 use Rattle.edit_effect_laws.specs.Parts.{words_of}
@@ -20,7 +18,7 @@ use Rattle.hook_law.specs.Keeping.{Present}
 use Rattle.hook_law.proofs.Standing.{present_end}
 use Rattle.hook_meaning.specs.Stated.{hook_meaning, tables_at}
 use Rattle.hook_meaning.specs.Blocks.{hook_codec}
-use Rattle.hook_edit_laws.specs.Premises.{now, next, IsAccepted, LeavesOtherHook}
+use Rattle.hook_edit_laws.specs.Premises.{now, next, LeavesOtherHook}
 use Rattle.hook_edit_laws.proofs.Accepted.{sound}
 use Rattle.hook_edit_laws.proofs.Heading.{other_key_after}
 use Rattle.head_commit_laws.specs.Listed.{HasSerial}
@@ -35,7 +33,7 @@ use Rattle.desk_edits.specs.Ahead.{IsAhead, GoesOnStill}
 use Rattle.desk_edits.proofs.Found.{same_state, same_now, same_next, at_ahead}
 use Rattle.desk_move_edits.specs.Tells.{IsAnsweredMask}
 use Rattle.desk_move_edits.specs.Raises.{IsRaising, IsToLay}
-use Rattle.desk_move_edits.specs.Moves.{AreBuiltFor, IsToMove}
+use Rattle.desk_move_edits.specs.Moves.{IsToMove}
 use Rattle.desk_move_edits.proofs.Starts.{none_built, still_at}
 use Rattle.desk_move_edits.proofs.StateMoves.{serials, answer, key_count, key_some, key_words, key_found}
 

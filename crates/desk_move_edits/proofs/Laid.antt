@@ -1,5 +1,5 @@
 -- A mask more is laid, and all else is as it was.
-use Rattle.std.proofs.Common.{◌≡◌, ◌≢◌, ◌∙◌, ◌⊎◌, inl, inr, ℕ, zero, suc, ◌+◌, ◌*◌, ◌/◌, ◌%◌, ◌<◌, ◌≤◌, List, [], ◌∷◌, ◌++◌, length, map, get_or, set, slice_get, Option, Some, None, refl, sym, ap, subst, arith}
+use Rattle.std.proofs.Common.{◌≡◌, ◌≢◌, ◌∙◌, ◌⊎◌, inl, inr, ℕ, zero, suc, ◌+◌, ◌/◌, ◌<◌, ◌≤◌, List, [], ◌∷◌, ◌++◌, length, map, get_or, set, Option, Some, None, refl, sym, ap, subst, arith}
 use Rattle.std.specs.List.{range_with_len}
 use Rattle.std.proofs.lemmas.List.{get_or-set_same, get_or-set_other}
 use Rattle.std.proofs.lemmas.Option.{same_Some, slice_get-get_or}
@@ -8,7 +8,6 @@ use Rattle.store_history.specs.declared.history.Commit.{Commit}
 use Rattle.store_history.specs.declared.history.Link.{Link}
 use Rattle.store_history.specs.declared.history.Named.{Named}
 use Rattle.store_history.specs.History.{root_of, edits_of}
-use Rattle.pin_store.specs.declared.shape.Shape.{Shape}
 use Rattle.pin_store.specs.Sheets.{IsSameButCells}
 use Rattle.pin_store.specs.Calls.{sheet_of}
 use Rattle.filter_state.specs.declared.edit.Edit.{Edit}
@@ -17,14 +16,14 @@ use Rattle.filter_lists.specs.Spells.{Spells}
 use Rattle.block_codec.specs.declared.mask.StoredMask.{StoredMask}
 use Rattle.mask_table.specs.Buckets.{mask_root, bucket_root}
 use Rattle.mask_mirror.specs.declared.mirror.KeptMask.{KeptMask}
-use Rattle.mask_mirror.specs.Forgetting.{blocks_of, bucket_blocks}
+use Rattle.mask_mirror.specs.Forgetting.{blocks_of}
 use Rattle.mask_mirror.specs.Linked.{Placed, raise_commits}
 use Rattle.mask_writer.specs.Masks.{Masks}
 use Rattle.mask_writer.specs.Standing.{masks_of, StandsAt}
 use Rattle.mask_writer.proofs.Standing.{slots_count, mask_storable}
 use Rattle.miniq_pair.proofs.Placing.{same_cells}
 use Rattle.hook_law.specs.Places as places
-use Rattle.hook_law.specs.Meaning.{point_of, state_at}
+use Rattle.hook_law.specs.Meaning.{point_of}
 use Rattle.hook_law.specs.Standing.{IsIn, IsMaskAt, IsUnused}
 use Rattle.hook_law.specs.Keeping.{IsAtRest}
 use Rattle.hook_meaning.specs.Stated.{hook_meaning}
@@ -34,29 +33,27 @@ use Rattle.hook_edit_laws.specs.Premises.{now, next}
 use Rattle.root_pool_laws.proofs.Apart.{in_left}
 use Rattle.head_commit_laws.specs.Raised.{IsReady, IsSpareRoot, CanRaise}
 use Rattle.head_commit_laws.specs.Built.{IsBuilt}
-use Rattle.head_commit_laws.proofs.Raising.{raise_back, raise_other}
 use Rattle.number_pools.specs.Numbers.{PoolNumbers}
 use Rattle.desk_pools.specs.declared.pools.Pools.{Pools}
 use Rattle.desk_pools.specs.Pools.{ArePools}
 use Rattle.desk_pools.specs.Steps.{IsInPool}
 use Rattle.desk_ledger.specs.declared.ledger.Ledger.{Ledger}
 use Rattle.desk_ledger.specs.Kept.{commits, base}
-use Rattle.desk_actions.specs.Effects.{IsCounted}
-use Rattle.desk_actions.specs.Places.{Placed as ActionsPlaced, AreHereFor}
+use Rattle.desk_actions.specs.Places.{AreHereFor}
 use Rattle.desk_needs.specs.Live.{count_of}
 use Rattle.desk_masks.specs.declared.hook_tables.HookTables.{HookTables}
 use Rattle.desk_masks.specs.Tables.{HasTables}
 use Rattle.desk_parts.specs.declared.parts.Parts.{Parts}
-use Rattle.desk_parts.specs.Desk.{shape_of, hook_shape, cells, AreSized}
+use Rattle.desk_parts.specs.Desk.{shape_of, hook_shape, cells}
 use Rattle.desk_heads.specs.Handed.{AreActionsHanded}
 use Rattle.tc_base.specs.declared.hook.Hook.{Hook}
 use Rattle.desk_moves.specs.Builds.{HoldsBuilt, AreBuiltHanded}
-use Rattle.desk_moves.proofs.OneMore.{built_sort, apart_slot, after}
+use Rattle.desk_moves.proofs.OneMore.{built_sort, apart_slot}
 use Rattle.desk_moves.proofs.BuiltMasks.{slot_empty, rows_free}
 use Rattle.desk_edits.specs.Ahead.{GoesOnAside}
 use Rattle.desk_edits.specs.Taken.{IsMaskRoom}
 use Rattle.desk_edits.proofs.AsideThen.{aside_then}
-use Rattle.desk_edits.proofs.Commits.{AreAside, raise_aside, no_slots, aside_early}
+use Rattle.desk_edits.proofs.Commits.{raise_aside, no_slots, aside_early}
 use Rattle.desk_edits.proofs.Found.{same_state}
 use Rattle.desk_edits.proofs.Passing.{here_stays}
 use Rattle.desk_move_edits.specs.Raises.{HaveTheirBlocks, AreEarly, IsRaising}

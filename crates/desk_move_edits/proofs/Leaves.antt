@@ -1,13 +1,11 @@
 -- A filter leaves its mask: what the edit's commit asks once the masks are laid.
-use Rattle.std.proofs.Common.{◌≡◌, ◌≢◌, ◌∙◌, ◌⊎◌, inl, inr, ℕ, ◌<◌, ◌≤◌, List, [], ◌∷◌, ◌++◌, Option, Some, None, refl, sym, ap, subst}
-use Rattle.tc_base.specs.declared.hook.Hook.{Hook}
+use Rattle.std.proofs.Common.{◌≡◌, ◌∙◌, ◌⊎◌, inl, inr, ℕ, ◌≤◌, List, [], ◌∷◌, Option, Some, None, sym, ap, subst}
 use Rattle.visit_room.specs.declared.names.MaskName.{MaskName}
 use Rattle.store_history.specs.declared.history.Commit.{Commit}
 use Rattle.filter_state.specs.declared.edit.Edit.{Edit}
 use Rattle.filter_state.specs.declared.edit.FilterLine.{FilterLine}
 use Rattle.filter_state.specs.declared.refusal.Done.{Done}
 use Rattle.filter_state.specs.States.{State}
-use Rattle.edit_effect_laws.specs.Parts.{Stands}
 use Rattle.miniq_pair.specs.Heads.{hook_number}
 use Rattle.hook_law.specs.Standing.{IsMaskAt}
 use Rattle.hook_meaning.specs.Stated.{hook_meaning, tables_at}
@@ -22,7 +20,7 @@ use Rattle.desk_moves.proofs.OneMore.{built_sort, built_more, built_last}
 use Rattle.desk_edits.specs.Ahead.{IsAhead}
 use Rattle.desk_edits.proofs.Found.{same_state}
 use Rattle.desk_move_edits.specs.Raises.{IsRaising}
-use Rattle.desk_move_edits.specs.Moves.{AreBuiltFor, IsAtOld, IsToMove, IsOther, IsToLeave}
+use Rattle.desk_move_edits.specs.Moves.{IsAtOld, IsToMove, IsOther, IsToLeave}
 use Rattle.desk_move_edits.proofs.Starts.{at_between}
 use Rattle.desk_move_edits.proofs.KeyMoves.{one_built, is_built}
 

@@ -1,15 +1,12 @@
 -- A mask of the lists, by what the state has that they spell.
 use Rattle.std.proofs.Common.{◌≡◌, ◌∙◌, ℕ, List, [], ◌∷◌, map, slice_get, Some, refl, sym, ap, subst}
-use Rattle.std.specs.Prelude.{filter}
 use Rattle.tc_base.specs.declared.hook.Hook.{Hook}
 use Rattle.filter_index.specs.declared.filter.Filter.{Filter}
 use Rattle.filter_state.specs.declared.edit.FilterLine.{FilterLine}
 use Rattle.filter_state.specs.States.{Row, State}
-use Rattle.filter_state.specs.Order.{SameRows, of_mask}
-use Rattle.filter_state.specs.Tables.{mask_row}
 use Rattle.filter_tables.specs.Plain.{PlainMask, PlainTable}
 use Rattle.filter_tables.specs.Places.{item_at}
-use Rattle.filter_tables.specs.Rows.{tables_on, row_of, all_rows}
+use Rattle.filter_tables.specs.Rows.{tables_on, row_of}
 use Rattle.hook_lists.specs.declared.kept.Kept.{Kept}
 use Rattle.hook_lists.specs.States.{both_of, AreKept}
 use Rattle.filter_lists.specs.Spells.{Spells}
@@ -17,10 +14,8 @@ use Rattle.order_laws.proofs.Same.{order_same}
 use Rattle.head_laws.specs.Heads.{head_of}
 use Rattle.head_laws.proofs.MaskRows.{mask_rows}
 use Rattle.edit_effect_laws.specs.Parts.{filter_of}
-use Rattle.miniq_pair.specs.Heads.{hook_number}
 use Rattle.hook_law.specs.Records.{StatedTable}
-use Rattle.hook_meaning.specs.Stated.{TableNames, table_stated, filter_stated, tables_at, filters_at}
-use Rattle.head_commit_laws.specs.Listed.{HasSerial}
+use Rattle.hook_meaning.specs.Stated.{TableNames, table_stated, filter_stated}
 use Rattle.head_commit_laws.proofs.Places.{map_at, item_get}
 use Rattle.desk_heads.proofs.TablesGiven.{lists_are}
 use Rattle.desk_move_edits.specs.Tells.{stated, IsMaskIn, IsListOf}

@@ -1,12 +1,10 @@
 -- A filter gets another mask: both masks as they are laid, and what its edit changes.
-use Rattle.std.proofs.Common.{◌≡◌, ◌≢◌, ◌∙◌, ◌⊎◌, inl, inr, ℕ, zero, suc, false, ◌+◌, ◌-◌, ◌<◌, ◌≤◌, List, [], ◌∷◌, ◌++◌, length, Option, Some, None, Ok, refl, sym, ap, subst, arith, ne_eqb}
+use Rattle.std.proofs.Common.{◌≡◌, ◌≢◌, ◌∙◌, ◌⊎◌, ℕ, false, ◌+◌, ◌<◌, List, [], ◌∷◌, length, Option, Some, None, Ok, refl, sym, ap, subst, arith, ne_eqb}
 use Rattle.tc_base.specs.declared.hook.Hook.{Hook}
-use Rattle.tc_base.specs.declared.hook.Hook.TheVariants as hooks
 use Rattle.visit_room.specs.declared.names.MaskName.{MaskName}
 use Rattle.store_history.specs.declared.history.Commit.{Commit}
 use Rattle.filter_state.specs.declared.edit.Edit.{Edit}
 use Rattle.filter_state.specs.declared.edit.Edit.TheVariants as edits
-use Rattle.filter_state.specs.declared.edit.FilterLine.{FilterLine}
 use Rattle.filter_state.specs.declared.refusal.Done.{Done}
 use Rattle.filter_state.specs.declared.refusal.Done.TheVariants as dones
 use Rattle.filter_state.specs.Lines.{IsLine}
@@ -19,12 +17,9 @@ use Rattle.filter_state.proofs.Pairs.{each_weaker}
 use Rattle.row_lookup_laws.proofs.Heads.{filter_none}
 use Rattle.edit_effect_laws.specs.Parts.{Stands, words_of}
 use Rattle.mask_mirror.specs.declared.mirror.KeptMask.{KeptMask}
-use Rattle.mask_writer.specs.Standing.{StandsAt}
 use Rattle.mask_writer.proofs.Standing.{one_mask}
 use Rattle.miniq_pair.specs.Heads.{hook_number}
 use Rattle.hook_law.specs.Standing.{IsMaskAt}
-use Rattle.hook_law.specs.Keeping.{Keeps, Present}
-use Rattle.hook_law.proofs.Standing.{present_end}
 use Rattle.hook_meaning.specs.Stated.{hook_meaning, tables_at}
 use Rattle.hook_meaning.specs.Blocks.{hook_codec}
 use Rattle.hook_edit_laws.specs.Premises.{now, next, LeavesOtherHook}

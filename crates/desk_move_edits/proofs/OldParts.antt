@@ -1,11 +1,11 @@
 -- Masks at old slots, one after the other.
-use Rattle.std.proofs.Common.{◌≡◌, ◌∙◌, ℕ, List, [], ◌∷◌, ◌++◌, map, Option, Some, None, refl, sym, ap, subst}
+use Rattle.std.proofs.Common.{◌≡◌, ◌∙◌, ℕ, List, [], ◌∷◌, map, Option, Some, None, refl, sym, ap, subst}
 use Rattle.visit_room.specs.declared.names.MaskName.{MaskName}
 use Rattle.mask_writer.specs.Masks.{Masks}
 use Rattle.desk_pools.specs.declared.pools.Pools.{Pools}
 use Rattle.desk_edits.specs.Parting.{HaveLeft, IsParting, MayPart}
 use Rattle.desk_edits.proofs.Partings.{more_left}
-use Rattle.desk_move_edits.specs.Moves.{other_slot, old_slots, MayPartAll}
+use Rattle.desk_move_edits.specs.Moves.{other_slot, MayPartAll}
 
 abbrev pub slots_of : List MaskName → List ℕ
 slots_of names = map (λ (name : MaskName). name.slot) names

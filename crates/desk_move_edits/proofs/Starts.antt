@@ -1,5 +1,5 @@
 -- Masks begin to be laid once the lists have gone ahead, and what stood stands meanwhile.
-use Rattle.std.proofs.Common.{◌≡◌, ◌≢◌, ◌∙◌, ℕ, zero, suc, ◌+◌, ◌<◌, ◌≤◌, List, [], ◌∷◌, ◌++◌, length, Some, refl, sym, ap, subst, arith}
+use Rattle.std.proofs.Common.{◌≡◌, ◌∙◌, ℕ, zero, suc, ◌<◌, List, [], refl, sym, ap, subst, arith}
 use mathlib.Core.List.{append-nil}
 use Rattle.tc_base.specs.declared.hook.Hook.{Hook}
 use Rattle.tc_base.specs.declared.hook.Hook.TheVariants as hooks
@@ -10,8 +10,6 @@ use Rattle.store_history.specs.History.{root_of}
 use Rattle.filter_state.specs.declared.edit.Edit.{Edit}
 use Rattle.filter_state.specs.declared.refusal.Done.{Done}
 use Rattle.mask_mirror.specs.declared.mirror.KeptMask.{KeptMask}
-use Rattle.mask_mirror.specs.Forgetting.{bucket_blocks}
-use Rattle.mask_writer.specs.Standing.{StandsAt}
 use Rattle.mask_writer.proofs.Standing.{one_mask}
 use Rattle.miniq_pair.specs.Heads.{hook_number}
 use Rattle.hook_law.specs.Places as places

@@ -1,5 +1,5 @@
 -- A replace with another key or another mask, over the plain states.
-use Rattle.std.proofs.Common.{◌≡◌, ◌≢◌, ◌∙◌, inl, inr, ℕ, ◌+◌, ◌<◌, ◌≤◌, ◌&&◌, ◌||◌, Bool, true, false, not, if◌then◌else◌, List, [], ◌∷◌, ◌++◌, length, Option, Some, None, Ok, refl, sym, ap, subst, arith, length-append, eqb-true, eq-eqb}
+use Rattle.std.proofs.Common.{◌≡◌, ◌≢◌, ◌∙◌, ℕ, ◌+◌, ◌<◌, ◌&&◌, ◌||◌, Bool, true, false, not, if◌then◌else◌, List, [], ◌∷◌, ◌++◌, length, Some, Ok, refl, sym, ap, subst, arith, length-append, eqb-true}
 use Rattle.std.specs.Str.{bytes_eq}
 use Rattle.std.specs.List.{list_any}
 use Rattle.std.proofs.lemmas.Bool.{false≢true, false_from_ne_true, and_left, and_right, and_from, and_parts}
@@ -16,7 +16,7 @@ use Rattle.filter_state.proofs.Pairs.{each_both, each_append, each_filter, each_
 use Rattle.state_laws.proofs.Tests.{bytes_eq_true, bytes_eq_from, row_in_table, row_in_table_from}
 use Rattle.state_laws.proofs.Fits.{Akin, TableFits, MaskFits}
 use Rattle.state_laws.proofs.Old.{is_old}
-use Rattle.edit_effect_laws.specs.Parts.{Filter, Stands, filters_of, words_of, without}
+use Rattle.edit_effect_laws.specs.Parts.{Stands, filters_of, words_of, without}
 use Rattle.edit_effect_laws.proofs.Adding.{line_filter}
 use Rattle.edit_effect_laws.proofs.Replacing.{Replaces, replaces, moved_row, exchanged_actions}
 use Rattle.edit_effect_laws.proofs.Moving.{MovesKey, MovesMask, Known, known}

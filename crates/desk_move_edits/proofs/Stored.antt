@@ -1,5 +1,5 @@
 -- The filters of a mask, told off the lists, are those of the state as they are stored.
-use Rattle.std.proofs.Common.{◌≡◌, ◌∙◌, ℕ, zero, suc, ◌≤◌, Bool, true, false, cond, List, [], ◌∷◌, length, map, filter, slice_get, Some, refl, sym, ap, subst}
+use Rattle.std.proofs.Common.{◌≡◌, ◌∙◌, ℕ, zero, suc, Bool, true, false, cond, List, [], ◌∷◌, length, map, filter, slice_get, Some, refl, sym, ap, subst}
 use Rattle.std.specs.Prelude.{All}
 use Rattle.std.specs.List.{AllByRecursion}
 use Rattle.std.proofs.lemmas.List.Elements.{All-from_recursion}
@@ -9,21 +9,17 @@ use Rattle.filter_state.specs.declared.edit.Edit.{Edit}
 use Rattle.filter_state.specs.declared.edit.FilterLine.{FilterLine}
 use Rattle.filter_state.specs.States.{Row, State}
 use Rattle.filter_state.specs.Order.{of_mask}
-use Rattle.filter_state.specs.Sound.{Each, IsRow, Sound}
+use Rattle.filter_state.specs.Sound.{Each, IsRow}
 use Rattle.edit_effect_laws.specs.Parts.{filter_of}
-use Rattle.block_codec.specs.declared.filter.StoredFilter.{StoredFilter}
 use Rattle.mask_order.specs.Fitting.{FitsBlock}
 use Rattle.hook_law.specs.Records.{StatedFilter}
-use Rattle.hook_law.specs.Meaning.{IsLive}
-use Rattle.hook_law.specs.Standing.{IsIn, IsSlotOf}
-use Rattle.hook_law.specs.Keeping.{Keeps}
-use Rattle.hook_meaning.specs.Stated.{hook_meaning, filter_stated, filters_at}
-use Rattle.hook_meaning.specs.Blocks.{hook_codec}
+use Rattle.hook_law.specs.Standing.{IsIn}
+use Rattle.hook_meaning.specs.Stated.{filter_stated, filters_at}
 use Rattle.hook_meaning.specs.Told.{with_slots}
 use Rattle.head_commit_laws.proofs.Places.{map_at}
 use Rattle.filter_commit_laws.specs.Edits.{IsOfLine}
 use Rattle.desk_masks.proofs.Slotting.{stored_own}
-use Rattle.desk_actions.specs.Places.{Placed, slot_of}
+use Rattle.desk_actions.specs.Places.{Placed}
 use Rattle.desk_filter_names.specs.Named.{CanBeNamed}
 use Rattle.desk_filter_names.proofs.Storable.{few_serials, made_serials, line_stored}
 use Rattle.hook_lists.specs.declared.kept.Kept.{Kept}

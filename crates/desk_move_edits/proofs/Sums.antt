@@ -1,5 +1,5 @@
 -- What is taken and what leaves with a filter that moves, added up.
-use Rattle.std.proofs.Common.{◌≡◌, ◌∙◌, ℕ, ◌+◌, ◌/◌, ◌<◌, ◌≤◌, true, List, [], ◌∷◌, length, Option, Some, None, refl, sym, ap, subst, arith, ne_eqb, Bool}
+use Rattle.std.proofs.Common.{◌≡◌, ◌∙◌, ℕ, ◌+◌, ◌/◌, ◌<◌, ◌≤◌, true, length, Option, Some, None, refl, sym, ap, subst, arith, ne_eqb, Bool}
 use Rattle.std.specs.Prelude.{sum_by, if◌then◌else◌}
 use Rattle.tc_base.specs.declared.hook.Hook.{Hook}
 use Rattle.tc_base.specs.declared.hook.Hook.TheVariants as hooks
@@ -7,7 +7,6 @@ use Rattle.flow_mask.specs.Sizes.{size_of}
 use Rattle.number_pools.specs.Numbers.{PoolNumbers}
 use Rattle.desk_need_laws.specs.Told.{laid, laid_rows, laid_masks}
 use Rattle.desk_pools.specs.declared.pools.Pools.{Pools}
-use Rattle.desk_pools.specs.declared.pools.IdlePlace.{IdlePlace}
 use Rattle.desk_pools.specs.Steps.{turned}
 use Rattle.desk_actions.specs.Effects.{IsCounted}
 use Rattle.desk_heads.specs.Handed.{idle_of}

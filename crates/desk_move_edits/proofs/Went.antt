@@ -10,7 +10,7 @@ use Rattle.tc_base.specs.declared.hook.Hook.TheVariants as hooks
 use Rattle.visit_room.specs.declared.names.MaskName.{MaskName}
 use Rattle.store_history.specs.declared.history.Commit.{Commit}
 use Rattle.store_history.specs.declared.history.Link.{Link}
-use Rattle.store_history.specs.History.{root_of, edits_of}
+use Rattle.store_history.specs.History.{root_of}
 use Rattle.store_history.proofs.Histories.{root_other}
 use Rattle.pin_store.specs.declared.shape.Shape.{Shape}
 use Rattle.flow_mask.specs.Sizes.{size_of}
@@ -28,7 +28,7 @@ use Rattle.mask_mirror.specs.declared.mirror.KeptMask.{KeptMask}
 use Rattle.mask_mirror.specs.Forgetting.{blocks_of, bucket_blocks}
 use Rattle.mask_writer.specs.Masks.{Masks}
 use Rattle.mask_writer.specs.Standing.{StandsAt}
-use Rattle.mask_writer.proofs.Standing.{record_read, mask_storable, one_mask}
+use Rattle.mask_writer.proofs.Standing.{record_read, mask_storable}
 use Rattle.miniq_pair.specs.Heads.{hook_number, head_root}
 use Rattle.miniq_pair.specs.Pairs.{first_block_of, swap_commit}
 use Rattle.hook_law.specs.Places as places
@@ -36,12 +36,12 @@ use Rattle.hook_law.specs.Records.{StatedTable}
 use Rattle.hook_law.specs.Standing.{Role, Mask, Bucket, region_of, IsIn, IsMaskAt, Names, Stands as StandsRoot}
 use Rattle.hook_law.specs.Keeping.{Keeps, IsAtRest, Present}
 use Rattle.hook_law.proofs.Standing.{present_end, unused_end}
-use Rattle.hook_meaning.specs.Stated.{TableNames, hook_meaning, tables_at, filters_at}
+use Rattle.hook_meaning.specs.Stated.{TableNames, hook_meaning, tables_at}
 use Rattle.hook_meaning.specs.Blocks.{mask_record, hook_codec}
 use Rattle.hook_meaning.proofs.Reading.{first_maps}
 use Rattle.hook_store_law.specs.Kept.{KeepsHook}
-use Rattle.hook_edit_laws.specs.Premises.{now, next, LeavesOtherHook}
-use Rattle.hook_edit_laws.proofs.Accepted.{sound, next_sound}
+use Rattle.hook_edit_laws.specs.Premises.{now, next}
+use Rattle.hook_edit_laws.proofs.Accepted.{sound}
 use Rattle.head_chain_laws.specs.Chains.{stated_of, FitsTable, IsNamedIn}
 use Rattle.head_chain_laws.proofs.HeadChains.{small_first, in_names}
 use Rattle.head_commit_laws.specs.Listed.{HasSerial}
@@ -66,7 +66,7 @@ use Rattle.desk_moves.proofs.BuiltMasks.{bucket_stood}
 use Rattle.desk_edits.specs.Parting.{IsToGo, IsParting, HaveLeft}
 use Rattle.desk_edits.proofs.Begun.{counted}
 use Rattle.desk_move_edits.specs.Raises.{HaveTheirBlocks}
-use Rattle.desk_move_edits.specs.Moves.{AreBuiltFor, IsAtOld, old_slots, old_masks, IsToMove, MayPartAll}
+use Rattle.desk_move_edits.specs.Moves.{IsAtOld, old_slots, old_masks, IsToMove, MayPartAll}
 
 -- ---- the masks at their old slots, by name
 abbrev pub other_names : ℕ → Option ℕ → List MaskName

@@ -1,15 +1,11 @@
-use Rattle.std.proofs.Common.{◌≡◌, ◌∙◌, ℕ, ◌+◌, ◌-◌, ◌≤◌, ◌<◌, List, [], ◌∷◌, length, refl, sym, ap, subst, arith}
+use Rattle.std.proofs.Common.{◌≡◌, ℕ, ◌+◌, ◌-◌, ◌≤◌, List, [], ◌∷◌, refl, sym, ap, subst, arith}
 use Rattle.visit_room.specs.declared.names.MaskName.{MaskName}
 use Rattle.hook_edit_laws.specs.Premises.{now}
-use Rattle.number_pools.specs.Numbers.{PoolNumbers}
 use Rattle.desk_need_laws.specs.Told.{laid, laid_rows, laid_masks}
-use Rattle.desk_pools.specs.declared.pools.Pools.{Pools}
 use Rattle.desk_ledger.specs.Kept.{commits}
-use Rattle.desk_actions.specs.Effects.{IsCounted}
 use Rattle.desk_needs.specs.Live.{count_of}
-use Rattle.desk_parts.specs.declared.parts.Parts.{Parts as TheParts}
 use Rattle.desk_edits.proofs.Counts.{counted_as}
-use Rattle.desk_move_edits.specs.Raises.{IsRaising, IsToLay}
+use Rattle.desk_move_edits.specs.Raises.{IsRaising}
 use Rattle.desk_move_edits.specs.Moves.{IsToMove}
 use Rattle.desk_move_edits.proofs.Leaves.{alone_moves, both_move, count_later, other_later}
 use Rattle.desk_move_edits.proofs.Sums.{gone_blocks, gone_rows, gone_masks, free_laid, counted_leaving}

@@ -1,26 +1,21 @@
-use Rattle.std.proofs.Common.{◌≡◌, ◌∙◌, ℕ, ◌+◌, ◌≤◌, List, [], ◌∷◌, length, refl, Option, None, sym, ap, subst, arith}
-use Rattle.std.specs.Prelude.{sum_by}
+use Rattle.std.proofs.Common.{◌≡◌, ◌∙◌, ℕ, ◌+◌, List, [], ◌∷◌, length, refl, None, sym, ap, subst, arith}
 use Rattle.visit_room.specs.declared.names.MaskName.{MaskName}
-use Rattle.flow_mask.specs.Sizes.{size_of}
 use Rattle.filter_state.specs.declared.edit.FilterLine.{FilterLine}
 use Rattle.filter_state.specs.States.{State}
-use Rattle.hook_edit_laws.specs.Premises.{now, next}
+use Rattle.hook_edit_laws.specs.Premises.{now}
 use Rattle.number_pools.specs.Numbers.{PoolNumbers}
 use Rattle.desk_need_laws.specs.Told.{laid, laid_rows, laid_masks}
-use Rattle.desk_pools.specs.declared.pools.Pools.{Pools}
-use Rattle.desk_pools.specs.declared.pools.IdlePlace.{IdlePlace}
 use Rattle.desk_ledger.specs.Kept.{commits}
 use Rattle.desk_actions.specs.Effects.{IsCounted}
 use Rattle.desk_needs.specs.Live.{count_of}
 use Rattle.desk_parts.specs.declared.parts.Parts.{Parts as TheParts}
 use Rattle.desk_ways.specs.declared.way.Way.TheVariants as ways
-use Rattle.desk_heads.specs.Handed.{idle_of}
 use Rattle.desk_edits.specs.Spent.{made_by, needed}
 use Rattle.desk_edits.proofs.Counts.{counted_thrice, counted_as}
-use Rattle.desk_edits.proofs.Kept.{masks_led, rows_led, masks_led_pools, idle_led}
+use Rattle.desk_edits.proofs.Kept.{masks_led, rows_led, masks_led_pools}
 use Rattle.desk_edits.proofs.Made.{of_replace, made_more}
 use Rattle.desk_move_edits.specs.Raises.{IsRaising, IsToLay}
-use Rattle.desk_move_edits.specs.Moves.{IsToMove, IsMovedOn}
+use Rattle.desk_move_edits.specs.Moves.{IsToMove}
 use Rattle.desk_move_edits.proofs.Starts.{begins}
 use Rattle.desk_move_edits.proofs.KeyMoves.{key_lay, key_moves, now_raised}
 use Rattle.desk_move_edits.proofs.Whole.{moved_since, some_may_go, whole_point, whole_journal, whole_sheet, whole_places, whole_rest, whole_left, rows_let, masks_let}

@@ -1,5 +1,4 @@
-use Rattle.std.proofs.Common.{◌≡◌, ◌∙◌, ℕ, ◌+◌, ◌-◌, ◌≤◌, List, [], ◌∷◌, length, Option, Some, refl, sym, ap, subst, arith}
-use Rattle.visit_room.specs.declared.names.MaskName.{MaskName}
+use Rattle.std.proofs.Common.{◌≡◌, ℕ, ◌+◌, ◌-◌, [], length, Some, sym, ap, subst, arith}
 use Rattle.filter_state.specs.declared.edit.FilterLine.{FilterLine}
 use Rattle.hook_edit_laws.specs.Premises.{now, named_row}
 use Rattle.number_pools.specs.Numbers.{PoolNumbers}

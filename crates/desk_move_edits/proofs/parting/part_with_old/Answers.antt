@@ -1,5 +1,5 @@
-use Rattle.std.proofs.Common.{◌≡◌, ◌∷◌, [], refl}
-use Rattle.desk_move_edits.specs.Moves.{other_slot, MayPartAll}
+use Rattle.std.proofs.Common.{◌∷◌, [], refl}
+use Rattle.desk_move_edits.specs.Moves.{other_slot}
 use Rattle.desk_move_edits.proofs.OldParts.{first_part, rest_part, one_parted, one_left, more_parted, tail_some, tail_none, part_as}
 use Rattle.desk_move_edits.proofs.parting.part_with_old.Goals as goal
 
