@@ -33,8 +33,8 @@ fn is_named(tables: &[StoredTable], near: usize, serial: u32) -> bool
         .any(|table| has_name(table.masks.items(), serial))
 }
 
-// The mask at a slot, which is gone, leaves the writer, and then its slot, its rows and its blocks leave.
-fn part_with(masks: &mut MaskWriter, pools: &mut Pools, slot: u32)
+/// The mask at a slot, which is gone, leaves the writer, and then its slot, its rows and its blocks leave.
+pub fn part_with(masks: &mut MaskWriter, pools: &mut Pools, slot: u32)
     requires may { MayPart masks.old pools.old slot }
     requires sized { AreSized pools.old }
     ensures parting { (at : MayPart masks.old pools.old slot)

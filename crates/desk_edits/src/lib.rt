@@ -38,7 +38,8 @@
 //! The thread that has the store's writer calls, with an edit that was made ready before. A call refuses
 //! nothing, takes no memory and doesn't wait.
 //!
-//! Not here: a filter that moves to another mask or key.
+//! Not here: a filter that moves to another mask or key, which `desk_move_edits` does. It takes numbers for
+//! the masks that it lays anew by `take_for_mask`, and parts with each at its old slot by `part_with`.
 //!
 //! Not promised: that the pools have what is taken, that the idle place of a hook is free, or that `later`
 //! filters are counted right. All are the caller's to see to, by tidying or else, and by `later_in_bucket` of
@@ -72,6 +73,7 @@ pub use in_place::exchange_in_place;
 pub use into_mask::put_into_mask;
 pub use laws::{gone_may_go, places_stay};
 pub use leading::{lead, lead_removal};
+pub use leaving::part_with;
 pub use letting::let_go;
 pub use opening::open_in_head;
 pub use out_of_mask::take_out_of_mask;

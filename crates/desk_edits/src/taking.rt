@@ -1,5 +1,5 @@
 //! What a mask takes out of the pools.
-ghost use Rattle.std.specs.Prelude.{◌≡◌, ◌≤◌, ◌<◌, ℕ, List, [], length, vec_capacity};
+ghost use Rattle.std.specs.Prelude.{◌≡◌, ◌≤◌, ◌<◌, ◌++◌, ◌∷◌, ℕ, List, [], length, vec_capacity};
 ghost use Rattle.store_history.specs.declared.history.Commit.{Commit};
 ghost use Rattle.filter_state.specs.declared.edit.Edit.{Edit};
 ghost use Rattle.desk_pools.specs.Pools.{ArePools};
@@ -25,6 +25,11 @@ pub fn take_for_mask(
     ensures pools { (h : List (Commit Edit)) (b : ℕ) → ArePools pools.old h b → ArePools pools.new h b }
     ensures taken { (h : List (Commit Edit)) (b : ℕ) → ArePools pools.old h b
         → IsMaskRoom pools.new h b result.0 result.1.blocks result.1.rows }
+    // what was free was taken, and what left stays
+    ensures free { (pools.old.masks.free ≡ pools.new.masks.free ++ result.0 ∷ [])
+        × (pools.old.rows.free ≡ pools.new.rows.free ++ result.1.rows) }
+    ensures left { (pools.new.masks.left ≡ pools.old.masks.left)
+        × (pools.new.rows.left ≡ pools.old.rows.left) }
     ensures many { (length result.1.blocks ≡ block_count) × (length result.1.rows ≡ row_count) }
     ensures blocks { IsCounted pools.old.blocks pools.new.blocks block_count 0 }
     ensures rows { IsCounted pools.old.rows pools.new.rows row_count 0 }

@@ -16,8 +16,8 @@ use filter_state::{Done, FilterLine};
 use flow_fields::Key;
 use visit_room::{ActionName, Hit};
 
-// The names of actions, at the slots where they are.
-fn names_of(places: &ActionPlaces, serials: &[u32]) -> Hit
+/// The names of actions, at the slots where they are.
+pub fn names_of(places: &ActionPlaces, serials: &[u32]) -> Hit
     requires few { length serials.now ≤ HIT_ACTIONS }
     requires made { All (λ serial. serial ≤ MADE_MAX) serials.now }
     ensures { result ≡ named places.now serials.now }

@@ -1,0 +1,16 @@
+pub mod Listed
+pub mod Stored
+pub mod There
+pub mod OldParts
+pub mod CanTold
+pub mod CanLay
+pub mod Laid
+pub mod Went
+pub mod DeskMoved
+pub mod StateMoves
+pub mod Starts
+pub mod Whole
+pub mod KeyMoves
+pub mod Sums
+pub mod Leaves
+pub mod MaskMoves

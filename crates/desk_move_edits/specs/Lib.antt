@@ -1,0 +1,4 @@
+pub mod Rooms
+pub mod Tells
+pub mod Raises
+pub mod Moves
