@@ -5,4 +5,4 @@ pub mod Changes
 pub mod Coming
 pub mod Replaced
 pub mod Removed
-pub mod Actions
+pub mod NoFilter
