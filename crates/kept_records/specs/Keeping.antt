@@ -12,7 +12,8 @@ use Rattle.kept_things.specs.Places.{AllKept}
 use Rattle.kept_records.specs.declared.records.HookRecords.{HookRecords}
 
 -- it was what the root named after some of the commits, with the stamp that the root then had
-pub record WasRead {T : Type 0} (read : List Link → Option T) (h : List (Commit Edit)) (kept : Kept T) : Type 0 where
+pub record WasRead {T : Type 0} (read : List Link → Option T) (h : List (Commit Edit))
+    (kept : Kept T) : Type 0 where
   pub then : List (Commit Edit)
   pub seen : IsPrefix then h
   pub stamp : kept.stamp ≡ (root_of then kept.number).stamp

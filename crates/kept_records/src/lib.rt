@@ -1,10 +1,10 @@
 //! What a reader of a live hook keeps of the records that it decoded.
 //!
 //! A walk asks for a mask and for an action at each step, and their records change seldom. So a reader keeps
-//! what it decoded last, by the number and the stamp of the root that named it. A visit loads the root's word,
-//! and where the stamp is that one, and there is a block, the root names the same chain: the law of the store
-//! says that stamps of one root rise. It doesn't matter how long ago that was, nor whether the reader was
-//! outside meanwhile and the blocks were given again. Else the block is read and decoded, and kept.
+//! what it decoded last, by the number and the stamp of the root that named it. A visit loads the root's
+//! word, and where the stamp is that one, and there is a block, the root names the same chain: the law of the
+//! store says that stamps of one root rise. It doesn't matter how long ago that was, nor whether the reader
+//! was outside meanwhile and the blocks were given again. Else the block is read and decoded, and kept.
 //!
 //! `HookRecords` is what is kept, with the two visits that use it. Their clauses are those of `lookup` of
 //! `mask_table` and of `load_action` of `action_roots`; nothing in them tells whether something was kept.

@@ -56,8 +56,8 @@ impl HookRecords {
     ghost use Rattle.hook_meaning.specs.Told.{stands_at, words_after, filters_after};
     ghost use Rattle.kept_records.specs.Keeping.{KeepsRecords};
 
-    /// Whether the mask at a slot has a filter with the packet's key under the mask, with its actions, and the
-    /// greatest of the stamps. What `into` has where there is none is left open.
+    /// Whether the mask at a slot has a filter with the packet's key under the mask, with its actions, and
+    /// the greatest of the stamps. What `into` has where there is none is left open.
     pub fn look<M: Ledger>(
         &mut self,
         reader: &mut Reader<HookLaw>,

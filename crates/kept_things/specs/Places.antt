@@ -1,5 +1,6 @@
 -- Where things are kept, and what is told of them (this project's own).
-use Rattle.std.specs.Prelude.{ℕ, ◌%◌, ◌==◌, ◌&&◌, List, Option, Some, None, IfSome, All, slice_index_or, if◌then◌else◌}
+use Rattle.std.specs.Prelude.{ℕ, ◌%◌, ◌==◌, ◌&&◌, List, Option, Some, None, IfSome, All, slice_index_or}
+use Rattle.std.specs.Prelude.{if◌then◌else◌}
 use Rattle.std.specs.Option.{option_map}
 use Rattle.kept_things.specs.declared.kept.Kept.{Kept}
 
