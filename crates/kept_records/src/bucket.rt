@@ -10,10 +10,14 @@ ghost use Rattle.block_reading.specs.Read.{filter_in};
 ghost use Rattle.block_chain.specs.Ways.{block_words, HasRoot};
 ghost use Rattle.mask_table.specs.Buckets.{IsAnswer};
 ghost use Rattle.hook_store_law.specs.Kept.{KeepsHook};
+ghost use Rattle.kept_things.specs.Places.{AllKept};
+ghost use Rattle.kept_records.specs.Keeping.{WasRead, IsKnown};
 
+use crate::known_filter::{KnownFilter, keep_known, tell_known};
 use bucket_search::find_from;
 use flow_fields::Key;
 use hook_store_law::{HookLaw, HookStore};
+use kept_things::KeptThings;
 use pin_store::{Reader, Steps};
 use std::sync::ledger::Ledger;
 use tc_base::Point;
@@ -31,6 +35,7 @@ fn number_of(first: Option<u32>) -> u64
 
 /// Whether a filter of the bucket with that root has the key, with its actions, and the root's stamp.
 pub(crate) fn search<M: Ledger>(
+    filters: &mut KeptThings<KnownFilter>,
     reader: &mut Reader<HookLaw>,
     store: &HookStore,
     root: u32,
@@ -41,9 +46,11 @@ pub(crate) fn search<M: Ledger>(
     requires store { IsSeatOf store.now reader.old.place }
     requires shape { HasRoot store.now.shape root }
     requires inside { IsInside reader.old.place }
+    requires kept { AllKept (WasRead IsKnown (seen_by reader.old.place)) filters.old }
     ensures store { IsSeatOf store.now reader.new.place }
     ensures same { IsSameReader reader.old.place reader.new.place }
     ensures longer { IsPrefix (seen_by reader.old.place) (seen_by reader.new.place) }
+    ensures kept { AllKept (WasRead IsKnown (seen_by reader.new.place)) filters.new }
     ensures lawful { KeepsHook (seen_by reader.new.place) (floor_start reader.new.place) }
     ensures found { (there : List StoredFilter)
         → read_all filter_in (root_of (seen_by reader.new.place) root).chain ≡ Some there
@@ -55,7 +62,11 @@ pub(crate) fn search<M: Ledger>(
     ensures steps { steps.new + loads_of reader.old.place ≡ steps.old + loads_of reader.new.place }
 {
     let word = reader.load_root(store, root, steps);
+    if word.first.is_some() && tell_known(filters, root, word.stamp, key, into) {
+        return (true, word.stamp);
+    }
     let next = number_of(word.first);
     let found = find_from(reader, store, root, next, key, into, steps);
+    keep_known(filters, root, word.stamp, found, key, into);
     (found, word.stamp)
 }

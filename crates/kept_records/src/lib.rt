@@ -6,6 +6,9 @@
 //! store says that stamps of one root rise. It doesn't matter how long ago that was, nor whether the reader
 //! was outside meanwhile and the blocks were given again. Else the block is read and decoded, and kept.
 //!
+//! Of a bucket the filter is kept that was found in it last, with its key. So a packet that meets that filter
+//! costs the root's word and a comparison; else the chain is searched.
+//!
 //! `HookRecords` is what is kept, with the two visits that use it. Their clauses are those of `lookup` of
 //! `mask_table` and of `load_action` of `action_roots`; nothing in them tells whether something was kept.
 //!
@@ -19,8 +22,10 @@
 
 mod bucket;
 mod first_block;
+mod known_filter;
 mod looking;
 mod records;
 mod renewing;
 
+pub use known_filter::KnownFilter;
 pub use records::HookRecords;

@@ -89,7 +89,7 @@ impl HookRecords {
             (seen_by reader.new.place) n slot serial key.now.words result.0 into.new result.1
             (loads_of reader.new.place - loads_of reader.old.place) }
     {
-        let HookRecords { masks, .. } = self;
+        let HookRecords { masks, filters, .. } = self;
         let at = MASK_ROOTS + slot;
         let stamp = renew_mask(masks, reader, store, at, steps);
         let Some(mask) = masks.at(at, stamp) else {
@@ -98,7 +98,7 @@ impl HookRecords {
         let _words = words_of(&mask.mask);
         let wanted = masked(key, &mask.mask);
         let root = root_for(mask, &wanted);
-        let (found, later) = search(reader, store, root, &wanted, into, steps);
+        let (found, later) = search(filters, reader, store, root, &wanted, into, steps);
         (found, stamp.max(later))
     }
 

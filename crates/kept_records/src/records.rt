@@ -1,15 +1,18 @@
 //! The records that a reader keeps.
 ghost use Rattle.std.specs.Prelude.{replicate, IfOk, None, ◌≡◌};
 
+use crate::known_filter::KnownFilter;
 use block_codec::{StoredAction, StoredMask};
 use kept_things::KeptThings;
 use std::alloc::Global;
 use tc_base::NoMemory;
 
-/// The records of masks and of actions, each by the number and the stamp of its root.
+/// Records of masks, filters that were found, and records of actions, each by the number and the stamp of its
+/// root.
 #[derive(Drop)]
 pub struct HookRecords {
     pub masks: KeptThings<StoredMask>,
+    pub filters: KeptThings<KnownFilter>,
     pub actions: KeptThings<StoredAction>,
 }
 
@@ -25,6 +28,7 @@ impl HookRecords {
     {
         Ok(HookRecords {
             masks: KeptThings::with_room(alloc)?,
+            filters: KeptThings::with_room(alloc)?,
             actions: KeptThings::with_room(alloc)?,
         })
     }

@@ -9,7 +9,7 @@ ghost use Rattle.block_reading.specs.Read.{mask_of_words, action_of_words};
 ghost use Rattle.block_chain.specs.Ways.{block_words, HasRoot};
 ghost use Rattle.kept_things.specs.Places.{kept_at, AllKept};
 ghost use Rattle.kept_records.specs.Blocks.{first_words};
-ghost use Rattle.kept_records.specs.Keeping.{WasRead};
+ghost use Rattle.kept_records.specs.Keeping.{WasRead, IsRead};
 ghost use Rattle.hook_store_law.specs.Kept.{KeepsHook};
 
 use crate::first_block::load_first;
@@ -46,12 +46,12 @@ pub(crate) fn renew_mask<M: Ledger>(
     requires store { IsSeatOf store.now reader.old.place }
     requires shape { HasRoot store.now.shape root }
     requires inside { IsInside reader.old.place }
-    requires kept { AllKept (WasRead (read_first mask_of_words) (seen_by reader.old.place)) masks.old }
+    requires kept { AllKept (WasRead (IsRead mask_of_words) (seen_by reader.old.place)) masks.old }
     ensures store { IsSeatOf store.now reader.new.place }
     ensures same { IsSameReader reader.old.place reader.new.place }
     ensures longer { IsPrefix (seen_by reader.old.place) (seen_by reader.new.place) }
     ensures lawful { KeepsHook (seen_by reader.new.place) (floor_start reader.new.place) }
-    ensures kept { AllKept (WasRead (read_first mask_of_words) (seen_by reader.new.place)) masks.new }
+    ensures kept { AllKept (WasRead (IsRead mask_of_words) (seen_by reader.new.place)) masks.new }
     ensures mask { kept_at masks.new root result
         ≡ read_first mask_of_words (root_of (seen_by reader.new.place) root).chain }
     ensures stamp { result ≡ (root_of (seen_by reader.new.place) root).stamp }
@@ -78,12 +78,12 @@ pub(crate) fn renew_action<M: Ledger>(
     requires store { IsSeatOf store.now reader.old.place }
     requires shape { HasRoot store.now.shape root }
     requires inside { IsInside reader.old.place }
-    requires kept { AllKept (WasRead (read_first action_of_words) (seen_by reader.old.place)) actions.old }
+    requires kept { AllKept (WasRead (IsRead action_of_words) (seen_by reader.old.place)) actions.old }
     ensures store { IsSeatOf store.now reader.new.place }
     ensures same { IsSameReader reader.old.place reader.new.place }
     ensures longer { IsPrefix (seen_by reader.old.place) (seen_by reader.new.place) }
     ensures lawful { KeepsHook (seen_by reader.new.place) (floor_start reader.new.place) }
-    ensures kept { AllKept (WasRead (read_first action_of_words) (seen_by reader.new.place)) actions.new }
+    ensures kept { AllKept (WasRead (IsRead action_of_words) (seen_by reader.new.place)) actions.new }
     ensures action { kept_at actions.new root result
         ≡ read_first action_of_words (root_of (seen_by reader.new.place) root).chain }
     ensures stamp { result ≡ (root_of (seen_by reader.new.place) root).stamp }
