@@ -74,8 +74,8 @@ impl KeptHead {
 
     /// Puts the tables into the room, in place of those that are there.
     ///
-    /// Walks over a hook at rest get the same tables each time. So those of the last walk, which stand by, are
-    /// looked at first: that costs less than copying them.
+    /// Walks over a hook at rest get the same tables each time. So those of the last walk, which stand by,
+    /// are looked at first: that costs less than copying them.
     pub(crate) fn tell(&self, into: &mut HeadRoom)
         ensures { into.new.tables ≡ self.now.tables }
     {
