@@ -8,6 +8,8 @@ use Rattle.store_history.specs.Reads.{read_first}
 use Rattle.pin_store.specs.Calls.{seen_by, floor_start, IsSameReader}
 use Rattle.filter_state.specs.declared.edit.Edit.{Edit}
 use Rattle.visit_room.specs.declared.names.ActionName.{ActionName}
+use Rattle.std.specs.Option.{option_map}
+use Rattle.act_kinds.specs.declared.params.Params.{Params}
 use Rattle.act_kinds.specs.Acts.{FitsFrames}
 use Rattle.block_codec.specs.declared.action.StoredAction.{StoredAction}
 use Rattle.block_reading.specs.Read.{action_of_words}
@@ -26,8 +28,8 @@ use Rattle.hook_reader.specs.Told.{head_point}
 use Rattle.hook_reader.proofs.Visits.{action_kept, heads_still, reading, points_still}
 
 module _ (old new : HookSeat) (is : IsReading old) (longer : IsPrefix (seen_by old.place) (seen_by new.place)) (same : IsSameReader old.place new.place)
-    (keeps : Keeps hook_meaning hook_codec (seen_by new.place) (floor_start new.place)) (action : ActionName) (known : KnowsAction old action) (read : Option StoredAction)
-    (read_is : read ≡ read_first action_of_words (root_of (seen_by new.place) (action_root action.slot)).chain) where
+    (keeps : Keeps hook_meaning hook_codec (seen_by new.place) (floor_start new.place)) (action : ActionName) (known : KnowsAction old action) (read : Option Params)
+    (read_is : read ≡ option_map (λ (it : StoredAction). it.params) (read_first action_of_words (root_of (seen_by new.place) (action_root action.slot)).chain)) where
   abbrev h : List (Commit Edit)
   h = seen_by new.place
 
@@ -39,23 +41,26 @@ module _ (old new : HookSeat) (is : IsReading old) (longer : IsPrefix (seen_by o
   answered = action_answered h (floor_start new.place) known.first.point action.slot action.serial keeps
       (action_kept old new is longer same known.first.point action.slot action.serial known.lived)
 
+  read_here : read ≡ Some answered.0.params
+  read_here = read_is ∙ ap (option_map (λ (it : StoredAction). it.params)) answered.1
+
   -- the record is there
   pub is_read : read ≡ None → ⊥
-  is_read none = none-some answered.0 (sym none ∙ (read_is ∙ answered.1))
+  is_read none = none-some answered.0.params (sym none ∙ read_here)
 
-  module _ (stored : StoredAction) (there : read ≡ Some stored) (point : ℕ) (point_is : point ≡ max stamp (head_point old.head)) (latest : new.latest ≡ max old.latest point) where
-    own : answered.0 ≡ stored
-    own = same_Some answered.0 stored (sym answered.1 ∙ (sym read_is ∙ there))
+  module _ (given : Params) (there : read ≡ Some given) (point : ℕ) (point_is : point ≡ max stamp (head_point old.head)) (latest : new.latest ≡ max old.latest point) where
+    own : answered.0.params ≡ given
+    own = same_Some answered.0.params given (sym read_here ∙ there)
 
     point_same : max stamp known.first.point ≡ point
     point_same = ap (λ (n : ℕ). max stamp n) (sym (ap head_point known.walked)) ∙ sym point_is
 
-    pub act_answered : answer_of (state_after_edits h point) (params_of action.serial) ≡ Some (told_params stored.params)
-    act_answered = subst (λ (n : ℕ). answer_of (state_after_edits h n) (params_of action.serial) ≡ Some (told_params stored.params)) point_same
-        (answered.2 ∙ ap (λ (s : StoredAction). Some (told_params s.params)) own)
+    pub act_answered : answer_of (state_after_edits h point) (params_of action.serial) ≡ Some (told_params given)
+    act_answered = subst (λ (n : ℕ). answer_of (state_after_edits h n) (params_of action.serial) ≡ Some (told_params given)) point_same
+        (answered.2 ∙ ap (λ (p : Params). Some (told_params p)) own)
 
-    pub act_fits : FitsFrames stored.params
-    act_fits = subst (λ (s : StoredAction). FitsFrames s.params) own answered.3
+    pub act_fits : FitsFrames given
+    act_fits = subst FitsFrames own answered.3
 
     pub act_reached : point ≤ point_of h
     act_reached = subst (λ (n : ℕ). n ≤ point_of h) point_same answered.4

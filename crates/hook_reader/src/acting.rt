@@ -38,15 +38,16 @@ impl HookReader {
             visits,
             latest,
             head,
+            records,
             ..
         } = self;
-        let (stored, stamp) = read_action(reader, store, action.slot);
-        let Some(stored) = stored else {
+        let (params, stamp) = read_action(records, reader, store, action.slot);
+        let Some(params) = params else {
             unreachable!();
         };
         let point = stamp.max(head_point(head));
         *visits = visits.saturating_add(1);
         *latest = point.max(*latest);
-        (stored.params, point)
+        (params, point)
     }
 }

@@ -2,6 +2,7 @@
 ghost use Rattle.std.specs.Prelude.{◌≡◌, ◌<◌, ◌≤◌, ◌++◌, ◌∷◌, [], length};
 ghost use Rattle.visit_room.specs.declared.limits.TheConstants.{HEAD_TABLES};
 
+use crate::same_heads::are_same_heads;
 use std::alloc::Global;
 use std::marker::Model;
 use tc_base::{NoMemory, Point};
@@ -72,10 +73,16 @@ impl KeptHead {
     }
 
     /// Puts the tables into the room, in place of those that are there.
+    ///
+    /// Walks over a hook at rest get the same tables each time. So those of the last walk, which stand by,
+    /// are looked at first: that costs less than copying them.
     pub(crate) fn tell(&self, into: &mut HeadRoom)
         ensures { into.new.tables ≡ self.now.tables }
     {
-        copy_heads(&self.tables, into);
+        into.recall();
+        if !are_same_heads(self.tables.heads(), into.heads()) {
+            copy_heads(&self.tables, into);
+        }
     }
 
     /// Keeps other tables, with their stamp.

@@ -2,8 +2,8 @@
 //!
 //! A `HookReader` is a reader of the hook's store with what it remembers from one visit to the next. Between
 //! `enter_walk` and `leave_walk` it answers one walk, through `Walking`, which implements the `Visits` of
-//! `walk_steps`. Each visit loads one root or two, and the blocks behind them, and waits for nobody: what
-//! the roots named as the reader went in, or later, stands until it leaves.
+//! `walk_steps`. Each visit loads one root or two, and what it needs of the blocks, and waits for nobody:
+//! what the roots named as the reader went in, or later, stands until it leaves.
 //!
 //! # What a point is
 //!
@@ -27,6 +27,9 @@
 //! there is a block, the root names the same chain: the law of the store says that stamps of one root rise.
 //! It doesn't matter how long ago that was, nor whether the reader was outside meanwhile and the blocks were
 //! given again. Else the blocks are read and decoded.
+//!
+//! The records of masks and of actions are kept in the same way, by `kept_records`. So in a hook at rest a
+//! visit loads words of roots, and of filters what tells whether they are met.
 //!
 //! # What is known
 //!
@@ -52,6 +55,7 @@ mod loads;
 mod looking;
 mod reader;
 mod receipt;
+mod same_heads;
 mod slot_points;
 mod telling;
 mod walking;

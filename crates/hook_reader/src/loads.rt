@@ -1,11 +1,13 @@
 //! The loads of the three visits, which nobody counts here.
 ghost use Rattle.block_codec.specs.declared.places.TheConstants.{ACTION_SLOTS, MASK_SLOTS, ROOTS};
 ghost use Rattle.std.specs.Prelude.{◌≡◌, ◌<◌, ◌≤◌, ◌-◌, ℕ, length, take};
+ghost use Rattle.std.specs.Option.{option_map};
 ghost use mathlib.Core.List.{IsPrefix};
 ghost use Rattle.store_history.specs.History.{root_of, first_block};
 ghost use Rattle.root_word_laws.specs.Words.{StampsRise};
 ghost use Rattle.store_history.specs.Reads.{read_first};
 ghost use Rattle.pin_store.specs.Calls.{seen_by, floor_start, loads_of, IsInside, IsSeatOf, IsSameReader};
+ghost use Rattle.block_codec.specs.declared.action.StoredAction.{StoredAction};
 ghost use Rattle.block_reading.specs.Read.{action_of_words};
 ghost use Rattle.block_chain.specs.Ways.{block_words};
 ghost use Rattle.mask_table.specs.Told.{LookedUp, IsLoadedPoint};
@@ -15,12 +17,12 @@ ghost use Rattle.hook_law.specs.Keeping.{Keeps};
 ghost use Rattle.hook_meaning.specs.Stated.{hook_meaning};
 ghost use Rattle.hook_meaning.specs.Blocks.{hook_codec};
 ghost use Rattle.hook_meaning.specs.Told.{heads_after, stands_at, words_after, filters_after};
+ghost use Rattle.kept_records.specs.Keeping.{KeepsRecords};
 
-use action_roots::load_action;
-use block_codec::StoredAction;
+use act_kinds::Params;
 use flow_fields::Key;
 use hook_store_law::{HookLaw, HookStore};
-use mask_table::lookup;
+use kept_records::HookRecords;
 use miniq_pair::head;
 use pin_store::{Reader, RootWord, Steps};
 use std::marker::Brand;
@@ -75,6 +77,7 @@ pub(crate) fn read_head(
 }
 
 fn look_as<M: Ledger>(
+    records: &mut HookRecords,
     reader: &mut Reader<HookLaw>,
     store: &HookStore,
     slot: u32,
@@ -86,10 +89,12 @@ fn look_as<M: Ledger>(
     requires shape { (store.now.shape.words ≡ block_words) × (ROOTS ≤ store.now.shape.roots) }
     requires slot { slot < MASK_SLOTS }
     requires inside { IsInside reader.old.place }
+    requires kept { KeepsRecords (seen_by reader.old.place) records.old }
     requires blank { (blank.name ≡ M.name) × (blank.parts ≡ M.parts) × (0 < M.parts) }
     ensures store { IsSeatOf store.now reader.new.place }
     ensures same { IsSameReader reader.old.place reader.new.place }
     ensures longer { IsPrefix (seen_by reader.old.place) (seen_by reader.new.place) }
+    ensures kept { KeepsRecords (seen_by reader.new.place) records.new }
     ensures lawful { Keeps hook_meaning hook_codec (seen_by reader.new.place)
         (floor_start reader.new.place) }
     ensures stamps { IsLoadedPoint (seen_by reader.old.place) (seen_by reader.new.place) slot key.now.words
@@ -102,12 +107,13 @@ fn look_as<M: Ledger>(
         (loads_of reader.new.place - loads_of reader.old.place) }
 {
     let mut steps = Steps::<M>::new(blank);
-    lookup(reader, store, slot, key, into, &mut steps)
+    records.look(reader, store, slot, key, into, &mut steps)
 }
 
 /// Whether the mask at a slot has a filter with the packet's key under the mask, with its actions, and the
 /// greatest of the stamps.
 pub(crate) fn look(
+    records: &mut HookRecords,
     reader: &mut Reader<HookLaw>,
     store: &HookStore,
     slot: u32,
@@ -118,9 +124,11 @@ pub(crate) fn look(
     requires shape { (store.now.shape.words ≡ block_words) × (ROOTS ≤ store.now.shape.roots) }
     requires slot { slot < MASK_SLOTS }
     requires inside { IsInside reader.old.place }
+    requires kept { KeepsRecords (seen_by reader.old.place) records.old }
     ensures store { IsSeatOf store.now reader.new.place }
     ensures same { IsSameReader reader.old.place reader.new.place }
     ensures longer { IsPrefix (seen_by reader.old.place) (seen_by reader.new.place) }
+    ensures kept { KeepsRecords (seen_by reader.new.place) records.new }
     ensures lawful { Keeps hook_meaning hook_codec (seen_by reader.new.place)
         (floor_start reader.new.place) }
     ensures stamps { IsLoadedPoint (seen_by reader.old.place) (seen_by reader.new.place) slot key.now.words
@@ -132,53 +140,59 @@ pub(crate) fn look(
         (seen_by reader.new.place) n slot serial key.now.words result.0 into.new result.1
         (loads_of reader.new.place - loads_of reader.old.place) }
 {
-    look_as::<Brand>(reader, store, slot, key, into, Blank::new(1))
+    look_as::<Brand>(records, reader, store, slot, key, into, Blank::new(1))
 }
 
 fn action_as<M: Ledger>(
+    records: &mut HookRecords,
     reader: &mut Reader<HookLaw>,
     store: &HookStore,
     slot: u32,
     blank: Blank,
-) -> (Option<StoredAction>, Point)
+) -> (Option<Params>, Point)
     requires store { IsSeatOf store.now reader.old.place }
     requires shape { (store.now.shape.words ≡ block_words) × (ROOTS ≤ store.now.shape.roots) }
     requires slot { slot < ACTION_SLOTS }
     requires inside { IsInside reader.old.place }
+    requires kept { KeepsRecords (seen_by reader.old.place) records.old }
     requires blank { (blank.name ≡ M.name) × (blank.parts ≡ M.parts) × (0 < M.parts) }
     ensures store { IsSeatOf store.now reader.new.place }
     ensures same { IsSameReader reader.old.place reader.new.place }
     ensures longer { IsPrefix (seen_by reader.old.place) (seen_by reader.new.place) }
+    ensures kept { KeepsRecords (seen_by reader.new.place) records.new }
     ensures lawful { Keeps hook_meaning hook_codec (seen_by reader.new.place)
         (floor_start reader.new.place) }
-    ensures action { result.0
-        ≡ read_first action_of_words (root_of (seen_by reader.new.place) (action_root slot)).chain }
+    ensures params { result.0 ≡ option_map (λ (it : StoredAction). it.params)
+        (read_first action_of_words (root_of (seen_by reader.new.place) (action_root slot)).chain) }
     ensures stamp { result.1 ≡ (root_of (seen_by reader.new.place) (action_root slot)).stamp }
 {
     let mut steps = Steps::<M>::new(blank);
-    load_action(reader, store, slot, &mut steps)
+    records.action(reader, store, slot, &mut steps)
 }
 
-/// The record at the slot of an action, and the stamp of the slot's root.
+/// The parameters of the action at a slot, and the stamp of the slot's root.
 pub(crate) fn read_action(
+    records: &mut HookRecords,
     reader: &mut Reader<HookLaw>,
     store: &HookStore,
     slot: u32,
-) -> (Option<StoredAction>, Point)
+) -> (Option<Params>, Point)
     requires store { IsSeatOf store.now reader.old.place }
     requires shape { (store.now.shape.words ≡ block_words) × (ROOTS ≤ store.now.shape.roots) }
     requires slot { slot < ACTION_SLOTS }
     requires inside { IsInside reader.old.place }
+    requires kept { KeepsRecords (seen_by reader.old.place) records.old }
     ensures store { IsSeatOf store.now reader.new.place }
     ensures same { IsSameReader reader.old.place reader.new.place }
     ensures longer { IsPrefix (seen_by reader.old.place) (seen_by reader.new.place) }
+    ensures kept { KeepsRecords (seen_by reader.new.place) records.new }
     ensures lawful { Keeps hook_meaning hook_codec (seen_by reader.new.place)
         (floor_start reader.new.place) }
-    ensures action { result.0
-        ≡ read_first action_of_words (root_of (seen_by reader.new.place) (action_root slot)).chain }
+    ensures params { result.0 ≡ option_map (λ (it : StoredAction). it.params)
+        (read_first action_of_words (root_of (seen_by reader.new.place) (action_root slot)).chain) }
     ensures stamp { result.1 ≡ (root_of (seen_by reader.new.place) (action_root slot)).stamp }
 {
-    action_as::<Brand>(reader, store, slot, Blank::new(1))
+    action_as::<Brand>(records, reader, store, slot, Blank::new(1))
 }
 
 fn word_as<M: Ledger>(

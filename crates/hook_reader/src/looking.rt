@@ -80,11 +80,12 @@ impl HookReader {
             latest,
             head,
             points,
+            records,
             ..
         } = self;
         let _words = words_of(key);
         let floor = head_point(head).max(points.at(mask.slot));
-        let (found, loaded) = look(reader, store, mask.slot, key, into);
+        let (found, loaded) = look(records, reader, store, mask.slot, key, into);
         clear_unless(found, into);
         let point = loaded.max(floor);
         *visits = visits.saturating_add(1);

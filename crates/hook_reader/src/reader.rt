@@ -5,6 +5,7 @@ use crate::kept_head::KeptHead;
 use crate::receipt::HookReceipt;
 use crate::slot_points::SlotPoints;
 use hook_store_law::{HookLaw, HookStore};
+use kept_records::HookRecords;
 use pin_store::{Reader, Writer};
 use std::alloc::Global;
 use std::marker::Model;
@@ -20,12 +21,14 @@ pub struct HookReader {
     pub(crate) points: SlotPoints,
     pub(crate) ingress: KeptHead,
     pub(crate) egress: KeptHead,
+    pub(crate) records: HookRecords,
 }
 
 impl Model for HookReader {
     ghost use Rattle.pin_store.specs.Calls.{seen_by};
     ghost use Rattle.hook_reader.specs.Seats.{HookSeat, first_head_of, IsReading};
     ghost use Rattle.hook_reader.specs.KeptHeads.{KeepsHeads};
+    ghost use Rattle.kept_records.specs.Keeping.{KeepsRecords};
 
     ghost Value = { HookSeat };
 
@@ -43,7 +46,8 @@ impl Model for HookReader {
       latest = r.latest;
       head = first_head_of r.head;
       points = r.points;
-    }) × KeepsHeads (seen_by r.reader.place) r.ingress r.egress };
+    }) × KeepsHeads (seen_by r.reader.place) r.ingress r.egress
+        × KeepsRecords (seen_by r.reader.place) r.records };
 }
 
 impl HookReader {
@@ -68,6 +72,7 @@ impl HookReader {
             points: SlotPoints::with_room(alloc)?,
             ingress: KeptHead::with_room(alloc)?,
             egress: KeptHead::with_room(alloc)?,
+            records: HookRecords::with_room(alloc)?,
         })
     }
 

@@ -3,6 +3,7 @@ use Rattle.pin_store.specs.Calls.{seen_by, start_in}
 use Rattle.hook_reader.specs.Seats.{first_head_of}
 use Rattle.hook_reader.proofs.Reading.{point_longer, outside_reading}
 use Rattle.hook_reader.proofs.Copies.{heads_longer}
+use Rattle.kept_records.proofs.Kept.{records_longer}
 use Rattle.hook_reader.proofs.reader.HookReader.learn.Goals as goal
 
 pub invariant_of-self : goal.invariant_of-self
@@ -12,4 +13,5 @@ invariant_of-self c = let s = c.self.inside in let e = c.learn.ensures in let q 
       outside_reading s.reader.place q s.visits s.latest c.max.result (first_head_of s.head) s.points c.self.invariant.0
           e.longer (omega (arith, start)) (omega (arith, most)) (omega (arith, most, own, late, other, at)),
       heads_longer (seen_by s.reader.place) (seen_by q) s.ingress s.egress e.longer c.self.invariant.1,
+      records_longer (seen_by s.reader.place) (seen_by q) s.records e.longer c.self.invariant.2,
     )

@@ -8,6 +8,7 @@ use Rattle.hook_law.specs.Meaning.{point_of}
 use Rattle.hook_reader.specs.Seats.{first_head_of}
 use Rattle.hook_reader.proofs.Reading.{start_none, outside_reading}
 use Rattle.hook_reader.proofs.Copies.{heads_longer}
+use Rattle.kept_records.proofs.Kept.{records_longer}
 use Rattle.hook_reader.proofs.reader.HookReader.leave_walk.Goals as goal
 
 pub invariant_of-self : goal.invariant_of-self
@@ -16,4 +17,5 @@ invariant_of-self c = let s = c.self.inside in let e = c.leave.ensures in let q 
       (subst (IsPrefix (seen_by s.reader.place)) (sym e.seen) (prefix_self (seen_by s.reader.place))) (omega (arith, start)) (le_refl s.latest)
       (subst (λ (h : List (Commit Edit)). s.latest ≤ point_of h) (sym e.seen) c.self.invariant.0.late),
   heads_longer (seen_by s.reader.place) (seen_by q) s.ingress s.egress (subst (IsPrefix (seen_by s.reader.place)) (sym e.seen) (prefix_self (seen_by s.reader.place))) c.self.invariant.1,
+  records_longer (seen_by s.reader.place) (seen_by q) s.records (subst (IsPrefix (seen_by s.reader.place)) (sym e.seen) (prefix_self (seen_by s.reader.place))) c.self.invariant.2,
 )

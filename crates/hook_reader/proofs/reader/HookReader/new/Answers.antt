@@ -7,4 +7,5 @@ pub invariant_of-result : goal.invariant_of-result
 invariant_of-result c = (
   new_reading c.args.reader.place c.in_ok-with_room.field-0 c.requires.outside c.in_ok-with_room.ensures,
   no_heads (seen_by c.args.reader.place) _ _ c.in_ok-with_room-2.ensures c.in_ok-with_room-3.ensures,
+  c.in_ok-with_room-4.ensures (seen_by c.args.reader.place),
 )

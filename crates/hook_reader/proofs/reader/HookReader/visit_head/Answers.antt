@@ -11,6 +11,7 @@ use Rattle.hook_reader.specs.Known.{KnowsMask, KnowsAction}
 use Rattle.hook_reader.specs.Told.{first_of, WalkTold}
 use Rattle.hook_reader.proofs.Visits.{late_old, reading, points_still}
 use Rattle.hook_reader.proofs.Heads.{heads_noted, masks_further, actions_further, masks_told}
+use Rattle.kept_records.proofs.Kept.{records_longer}
 use Rattle.hook_reader.proofs.reader.HookReader.visit_head.Goals as goal
 
 pub invariant_of-self : goal.invariant_of-self
@@ -24,6 +25,7 @@ invariant_of-self c = let s = c.self.inside in let e = c.tell_hook.ensures in
       reading old new is e.longer e.same c.max-point.result latest reached (heads_noted old new is e.longer e.same c.max-point.result latest reached refl head) is.wide
           (points_still old new is e.longer e.same (omega (arith, latest)) refl),
       c.tell_hook.ensures.kept,
+      records_longer (seen_by s.reader.place) (seen_by new.place) s.records e.longer c.self.invariant.2,
     )
 
 pub returns-clause-told : goal.returns-clause-told

@@ -32,6 +32,7 @@ invariant_of-self c = let s = c.self.inside in let e = c.look-found.ensures in l
     (stood_after old new e.longer e.same e.lawful mask known floor floor_is key found actions loaded _ e.found) in (
       look_reading old new is e.longer e.same e.lawful mask known known.stood.there.small loaded point point_is stood latest refl c.set.ensures,
       heads_longer (seen_by s.reader.place) (seen_by c.look-found.new.reader.place) s.ingress s.egress e.longer c.self.invariant.1,
+      e.kept,
     )
 
 pub returns-clause-told : goal.returns-clause-told
