@@ -44,7 +44,7 @@ impl Parts {
     ghost use Rattle.pin_store.specs.Calls.{seen_by, sheet_of};
     ghost use Rattle.filter_state.specs.States.{no_state};
     ghost use Rattle.filter_lists.specs.Spells.{Spells};
-    ghost use Rattle.desk_pools.specs.Pools.{IsNothingLeft};
+    ghost use Rattle.desk_pools.specs.Pools.{IsNothingLeft, AreAllFree};
     ghost use Rattle.desk_parts.specs.Desk.{shape_of, hook_shape, IsDesk};
 
     /// The parts of the desk of a new store: no qdisc, and nothing made. It takes all the room that they ever
@@ -58,6 +58,7 @@ impl Parts {
         ensures place { IfOk result (λ p. p.ledger.writer.place ≡ writer.place) }
         ensures lists { IfOk result (λ p. Spells p.ledger.lists no_state) }
         ensures none { IfOk result (λ p. IsNothingLeft p.pools) }
+        ensures all { IfOk result (λ p. AreAllFree p.pools) }
     {
         Ok(Parts {
             ledger: Ledger {

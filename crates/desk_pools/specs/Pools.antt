@@ -1,5 +1,5 @@
 -- What of a hook's store may be given again (this project's own). `h` is all commits, b is the base.
-use Rattle.std.specs.Prelude.{◌≡◌, ℕ, ◌+◌, ◌*◌, ◌<◌, ◌≤◌, List, [], ◌++◌, true}
+use Rattle.std.specs.Prelude.{◌≡◌, ℕ, ◌+◌, ◌*◌, ◌<◌, ◌≤◌, List, [], ◌++◌, length, true}
 use Rattle.std.specs.List.{range_with_len, flat_map}
 use Rattle.tc_base.specs.declared.hook.Hook.{Hook}
 use Rattle.tc_base.specs.declared.hook.Hook.TheVariants.{Ingress, Egress}
@@ -70,6 +70,13 @@ pub record ArePools (pools : Pools) (h : List (Commit Edit)) (b : ℕ) : Type 0 
   pub egress : IsIdle h b Egress pools.egress
   pub one_root : HaveOneRoot h
   pub heads : HaveOwnHeads h
+
+-- as many are free as there are
+pub record AreAllFree (pools : Pools) : Type 0 where
+  pub blocks : length pools.blocks.free ≡ POOL_BLOCKS
+  pub rows : length pools.rows.free ≡ ROWS
+  pub masks : length pools.masks.free ≡ MASK_SLOTS
+  pub actions : length pools.actions.free ≡ ACTION_SLOTS
 
 -- nothing has left that isn't free
 pub record IsNothingLeft (pools : Pools) : Type 0 where

@@ -52,7 +52,7 @@ impl Pools {
     ghost use Rattle.block_codec.specs.declared.places.TheConstants.{MASK_SLOTS, MASK_ROOTS, ROWS, BUCKET_ROOTS};
     ghost use Rattle.block_codec.specs.declared.places.TheConstants.{ROW_BUCKETS};
     ghost use Rattle.root_pool_laws.specs.Blocks.{IsLeft};
-    ghost use Rattle.desk_pools.specs.Pools.{gone_roots, IsFreeAt, IsLeftAt, ArePools, IsNothingLeft};
+    ghost use Rattle.desk_pools.specs.Pools.{gone_roots, IsFreeAt, IsLeftAt, ArePools, IsNothingLeft, AreAllFree};
     ghost use Rattle.desk_pools.specs.Steps.{IsInPool, IsTaken, AreTaken, MayLeave, turned};
 
     /// The pools of a new store, in which all is free: the active place of each hook is 0. It takes all the
@@ -62,6 +62,7 @@ impl Pools {
     pub fn new(alloc: Global) -> Result<Pools, NoMemory>
         ensures pools { IfOk result (λ p. ArePools p [] 0) }
         ensures none { IfOk result IsNothingLeft }
+        ensures all { IfOk result AreAllFree }
         ensures places { IfOk result (λ p. (p.ingress.place ≡ 1) × (p.egress.place ≡ 1)) }
         ensures sizes { IfOk result (λ p. (p.blocks.size ≡ POOL_BLOCKS) × (p.rows.size ≡ ROWS)
             × (p.masks.size ≡ MASK_SLOTS) × (p.actions.size ≡ ACTION_SLOTS)) }

@@ -1,4 +1,5 @@
-use Rattle.std.proofs.Common.{◌≡◌, refl}
+use Rattle.std.proofs.Common.{◌≡◌, ◌∙◌, length, refl, ap}
+use Rattle.std.proofs.lemmas.List.FromFn.{length-range_with_len}
 use Rattle.desk_pools.proofs.Opening.{pools_open}
 use Rattle.desk_pools.proofs.pools.Pools.new.Goals as goal
 
@@ -18,3 +19,11 @@ returns-clause-none c = record {
 
 pub returns-clause-sizes : goal.returns-clause-sizes
 returns-clause-sizes c = (c.in_ok-with_size.ensures.size, c.in_ok-with_size-2.ensures.size, c.in_ok-with_size-3.ensures.size, c.in_ok-with_size-4.ensures.size)
+
+pub returns-clause-all : goal.returns-clause-all
+returns-clause-all c = record {
+  blocks = ap length c.in_ok-with_size.ensures.free ∙ length-range_with_len 0 16384;
+  rows = ap length c.in_ok-with_size-2.ensures.free ∙ length-range_with_len 0 8192;
+  masks = ap length c.in_ok-with_size-3.ensures.free ∙ length-range_with_len 0 8192;
+  actions = ap length c.in_ok-with_size-4.ensures.free ∙ length-range_with_len 0 2048;
+}
