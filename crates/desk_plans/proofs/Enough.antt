@@ -1,10 +1,10 @@
 -- What is free is enough for each part of an edit, and no more is taken than is needed.
-use Rattle.std.proofs.Common.{◌≡◌, ◌∙◌, ◌⊎◌, inl, inr, ℕ, ◌+◌, ◌≤◌, Bool, true, false, List, [], ◌∷◌, ◌++◌, length, Option, Some, None, Ok, refl, sym, ap, subst, arith, le_refl}
+use Rattle.std.proofs.Common.{◌≡◌, ◌∙◌, inl, inr, ℕ, ◌+◌, ◌≤◌, Bool, true, false, [], ◌∷◌, ◌++◌, length, Option, Some, Ok, refl, sym, ap, subst, arith}
 use Rattle.std.specs.Prelude.{if◌then◌else◌}
 use Rattle.tc_base.specs.declared.hook.Hook.{Hook}
 use Rattle.tc_base.specs.declared.hook.Hook.TheVariants.{Ingress, Egress}
-use Rattle.store_history.specs.declared.history.Commit.{Commit}
 use Rattle.store_history.specs.History.{edits_of}
+use Rattle.pin_store.specs.declared.view.Sheet.{Sheet}
 use Rattle.pin_store.specs.Sheets.{IsSameButCells}
 use Rattle.pin_store.specs.Calls.{sheet_of}
 use Rattle.filter_state.specs.declared.edit.Edit.{Edit}
@@ -21,20 +21,18 @@ use Rattle.desk_needs.specs.Needs.{needs_of, needed_of, head_needed}
 use Rattle.desk_pools.specs.declared.pools.Pools.{Pools}
 use Rattle.desk_pools.specs.declared.pools.IdlePlace.{IdlePlace}
 use Rattle.desk_pools.specs.Steps.{turned}
-use Rattle.desk_actions.specs.Effects.{IsCounted}
 use Rattle.desk_ledger.specs.Kept.{commits}
 use Rattle.desk_parts.specs.declared.parts.Parts.{Parts}
 use Rattle.desk_parts.specs.Desk.{IsDesk}
 use Rattle.desk_heads.specs.Handed.{idle_of}
 use Rattle.desk_ways.specs.declared.way.Way.{Way}
-use Rattle.desk_ways.specs.Ways.{IsWay}
 use Rattle.desk_ways.proofs.Needed.{ways_need}
 use Rattle.desk_edits.specs.Spent.{needed, HaveFree}
 use Rattle.desk_edits.proofs.Desked.{now_is_next}
 use Rattle.desk_counts.specs.Counts.{free_place, free_of, AreCounted}
 use Rattle.desk_plans.specs.Done.{Suffices, IsDone}
 use Rattle.desk_plans.specs.declared.means.Means.{Means}
-use Rattle.desk_plans.specs.Plans.{IsOfLine, IsReadyFor, MayEdit}
+use Rattle.desk_plans.specs.Plans.{IsOfLine, MayEdit}
 
 pub of_add : (s : State) (line : FilterLine) (y : Edit) → IsAddOf s line y → IsOfLine line y
 of_add s line y (inl is) = inl is
@@ -114,3 +112,6 @@ all_done old new y done n desk point journal steps sheet is low counts = record 
   lowered = lowered_of old.pools new.pools (now (commits old.ledger)) y (subst (IsLowered old.pools new.pools) (sym is) low);
   counted = λ before. subst (AreCounted new.pools) (sym (now_is_next (commits old.ledger) (commits new.ledger) y journal)) (counts before);
 }
+
+pub same_sheet : (old new : Sheet) → new ≡ old → IsSameButCells old new
+same_sheet old new same = subst (λ (s : Sheet). IsSameButCells s new) same (record { epoch = refl; starts = refl; quiet = refl; notes = refl; made = refl })

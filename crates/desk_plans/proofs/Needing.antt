@@ -1,7 +1,6 @@
 -- What edits need that are planned.
-use Rattle.std.proofs.Common.{◌≡◌, ◌∙◌, ◌⊎◌, inl, inr, ℕ, ◌+◌, ◌-◌, List, not, Option, Some, None, Ok, refl, sym, ap, subst, arith, true, false}
+use Rattle.std.proofs.Common.{◌≡◌, ◌∙◌, inl, inr, ℕ, List, not, Ok, refl, sym, ap, subst, arith, true}
 use Rattle.std.specs.Prelude.{filter}
-use Rattle.std.specs.Option.{unwrap_or}
 use Rattle.act_kinds.specs.declared.params.Kind.{Kind}
 use Rattle.store_history.specs.declared.history.Commit.{Commit}
 use Rattle.filter_state.specs.declared.action_line.ActionLine.{ActionLine}
@@ -19,7 +18,6 @@ use Rattle.edit_effect_laws.proofs.Accepted.{not_unless}
 use Rattle.filter_state.specs.Journals.{state_after}
 use Rattle.hook_edit_laws.specs.Premises.{now, IsAccepted}
 use Rattle.live_count_laws.proofs.NoFilter.{made_by_change, changed}
-use Rattle.desk_needs.specs.declared.needs.Needs.{Needs}
 use Rattle.desk_needs.specs.Needs.{made, nothing, needs_from, needs_of}
 use Rattle.desk_actions.specs.Kinds.{IsMaking, IsChanging}
 use Rattle.desk_plain_edits.specs.Kinds.{IsOfQdisc}

@@ -1,5 +1,5 @@
 -- What a plan rests on goes on while a desk is tidied.
-use Rattle.std.proofs.Common.{◌≡◌, ◌∙◌, ◌⊎◌, ℕ, List, Option, Some, None, Ok, refl, sym, ap, subst, true, false}
+use Rattle.std.proofs.Common.{◌≡◌, ℕ, List, Option, Some, None, Ok, sym, ap, subst, true}
 use Rattle.store_history.specs.declared.history.Commit.{Commit}
 use Rattle.store_history.specs.History.{edits_of}
 use Rattle.tc_base.specs.declared.hook.Hook.{Hook}
@@ -26,10 +26,10 @@ use Rattle.desk_parts.specs.declared.parts.Parts.{Parts}
 use Rattle.desk_parts.specs.Desk.{IsDesk}
 use Rattle.desk_ways.specs.declared.way.Way.{Way}
 use Rattle.desk_ways.specs.declared.way.Way.TheVariants as ways
-use Rattle.desk_ways.specs.Ways.{IsMaskWith, IntoMask, WithMask, Replaces, InPlace, OtherKey, OtherMask, IsTarget, OutOfMask, IsAlone, TakesMasks, Closes, IsWay}
+use Rattle.desk_ways.specs.Ways.{IsMaskWith, Replaces, IsTarget, TakesMasks, IsWay}
 use Rattle.desk_plans.specs.declared.plan.Plan.{Plan}
 use Rattle.desk_plans.specs.declared.plan.Plan.TheVariants as plans
-use Rattle.desk_plans.specs.Plans.{IsOfWay, IsDeleting, IsPlan}
+use Rattle.desk_plans.specs.Plans.{IsPlan}
 
 module _ (old new : Parts) (was : IsDesk old) (is : IsDesk new) (journal : edits_of (commits new.ledger) ≡ edits_of (commits old.ledger)) (masks : new.masks ≡ old.masks) where
   abbrev h : List (Commit Edit)

@@ -1,5 +1,5 @@
 -- What an edit leaves that was done on a whole desk (this project's own).
-use Rattle.std.specs.Prelude.{◌≡◌, ℕ, ◌+◌, ◌≤◌, List, [], ◌∷◌, ◌++◌, Ok}
+use Rattle.std.specs.Prelude.{◌≡◌, ◌+◌, ◌≤◌, [], ◌∷◌, ◌++◌, Ok}
 use Rattle.store_history.specs.History.{edits_of}
 use Rattle.pin_store.specs.Sheets.{IsSameButCells}
 use Rattle.pin_store.specs.Calls.{sheet_of}
@@ -9,7 +9,6 @@ use Rattle.filter_state.specs.Steps.{step}
 use Rattle.hook_edit_laws.specs.Premises.{now, next}
 use Rattle.desk_needs.specs.declared.pool.Pool.{Pool}
 use Rattle.desk_needs.specs.Needs.{needed_of}
-use Rattle.desk_pools.specs.declared.pools.Pools.{Pools}
 use Rattle.desk_ledger.specs.Kept.{commits}
 use Rattle.desk_parts.specs.declared.parts.Parts.{Parts}
 use Rattle.desk_parts.specs.Desk.{IsDesk}

@@ -1,5 +1,4 @@
-use Rattle.std.proofs.Common.{◌≡◌, ◌∙◌, ℕ, ◌+◌, ◌≤◌, List, length, sym, ap, subst, arith, le_refl}
-use Rattle.filter_state.specs.declared.edit.Edit.{Edit}
+use Rattle.std.proofs.Common.{length, sym, ap, subst, arith}
 use Rattle.hook_edit_laws.specs.Premises.{now}
 use Rattle.desk_pools.specs.declared.pools.Pools.{Pools}
 use Rattle.desk_ledger.specs.Kept.{commits}
@@ -7,7 +6,7 @@ use Rattle.desk_ways.specs.declared.way.Way.TheVariants as ways
 use Rattle.desk_edits.specs.Spent.{needed}
 use Rattle.desk_counts.proofs.Coming.{into}
 use Rattle.desk_plans.specs.Plans.{IsOfLine}
-use Rattle.desk_plans.proofs.Enough.{of_add, have_free, way_needs, IsLowered, unturned_low, all_done}
+use Rattle.desk_plans.proofs.Enough.{of_add, have_free, way_needs, unturned_low, all_done}
 use Rattle.desk_plans.proofs.adding.into_mask.Goals as goal
 
 pub put_into_mask-requires-clause-way : goal.put_into_mask-requires-clause-way

@@ -1,14 +1,11 @@
-use Rattle.std.proofs.Common.{◌≡◌, ◌∙◌, ℕ, ◌+◌, ◌≤◌, List, length, Some, inr, refl, true, sym, ap, subst, arith}
+use Rattle.std.proofs.Common.{◌≡◌, ◌∙◌, refl, true, sym, ap, subst, arith}
 use Rattle.tc_base.specs.declared.hook.Hook.{Hook}
-use Rattle.filter_state.specs.declared.edit.Edit.{Edit}
 use Rattle.filter_state.specs.declared.edit.FilterLine.{FilterLine}
-use Rattle.hook_edit_laws.specs.Premises.{now, next}
-use Rattle.desk_pools.specs.declared.pools.Pools.{Pools}
+use Rattle.hook_edit_laws.specs.Premises.{now}
 use Rattle.desk_pools.specs.Steps.{turned}
 use Rattle.desk_ledger.specs.Kept.{commits}
 use Rattle.desk_heads.specs.Handed.{idle_of}
 use Rattle.desk_ways.specs.declared.way.Way.TheVariants as ways
-use Rattle.desk_ways.specs.Ways.{WithMask, OtherKey, OtherMask}
 use Rattle.desk_edits.specs.Spent.{needed}
 use Rattle.desk_counts.proofs.Coming.{with}
 use Rattle.desk_plans.specs.Plans.{IsOfLine}

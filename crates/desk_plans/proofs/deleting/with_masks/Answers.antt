@@ -1,15 +1,12 @@
-use Rattle.std.proofs.Common.{◌≡◌, ◌∙◌, ℕ, ◌+◌, ◌≤◌, List, length, Some, inr, refl, sym, ap, subst, arith}
+use Rattle.std.proofs.Common.{◌≡◌, ◌∙◌, ℕ, List, length, refl, sym, ap, subst, arith}
 use Rattle.tc_base.specs.declared.hook.Hook.{Hook}
 use Rattle.tc_base.specs.declared.hook.Hook.TheVariants.{Ingress, Egress}
-use Rattle.filter_state.specs.declared.edit.Edit.{Edit}
-use Rattle.filter_state.specs.declared.edit.FilterLine.{FilterLine}
-use Rattle.hook_edit_laws.specs.Premises.{now, next}
+use Rattle.hook_edit_laws.specs.Premises.{now}
 use Rattle.desk_pools.specs.declared.pools.Pools.{Pools}
 use Rattle.desk_pools.specs.Steps.{turned}
 use Rattle.desk_ledger.specs.Kept.{commits}
 use Rattle.desk_line_actions.specs.Gone.{NamesGone}
 use Rattle.desk_ways.specs.declared.way.Way.TheVariants as ways
-use Rattle.desk_ways.specs.Ways.{WithMask, OtherKey, OtherMask}
 use Rattle.desk_edits.specs.Spent.{needed}
 use Rattle.desk_counts.proofs.Removed.{closes}
 use Rattle.desk_plans.proofs.Enough.{head_free, way_needs, turned_low, all_done}

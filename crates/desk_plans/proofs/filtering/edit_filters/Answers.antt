@@ -1,4 +1,4 @@
-use Rattle.std.proofs.Common.{◌≡◌, sym, ap, subst}
+use Rattle.std.proofs.Common.{subst}
 use Rattle.desk_ways.specs.declared.way.Way.{Way}
 use Rattle.desk_plans.specs.Plans.{MayEdit}
 use Rattle.desk_plans.proofs.filtering.edit_filters.Goals as goal

@@ -1,15 +1,11 @@
-use Rattle.std.proofs.Common.{◌≡◌, ◌∙◌, Bool, List, Option, sym, ap}
+use Rattle.std.proofs.Common.{◌∙◌, Option, sym, ap}
 use Rattle.std.specs.Prelude.{is_some}
 use Rattle.std.specs.Option.{option_copied}
 use Rattle.act_kinds.specs.declared.params.Params.{Params}
 use Rattle.act_registry.specs.declared.entry.Entry.{Entry}
 use Rattle.act_registry.specs.Kept as registries
 use Rattle.action_plan.specs.Entries.{actions_of}
-use Rattle.filter_state.specs.States.{Action, State}
 use Rattle.filter_state.specs.Actions.{is_live}
-use Rattle.hook_lists.specs.declared.kept.Kept.{Kept}
-use Rattle.hook_lists.specs.States.{state_of}
-use Rattle.filter_lists.specs.Spells.{Spells}
 use Rattle.filter_lists.proofs.Registries.{live_found}
 use Rattle.desk_plans.proofs.plan.is_there.Goals as goal
 

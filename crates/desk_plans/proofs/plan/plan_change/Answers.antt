@@ -1,4 +1,4 @@
-use Rattle.std.proofs.Common.{◌≡◌, ◌∙◌, ℕ, inr, refl, sym, ap}
+use Rattle.std.proofs.Common.{◌∙◌, ℕ, inr, refl, sym, ap}
 use Rattle.filter_state.specs.Actions.{is_live}
 use Rattle.hook_edit_laws.specs.Premises.{now}
 use Rattle.desk_plans.proofs.plan.plan_change.Goals as goal

@@ -1,4 +1,4 @@
-use Rattle.std.proofs.Common.{◌≡◌, ℕ, Vec, Global, sym, subst}
+use Rattle.std.proofs.Common.{ℕ, Vec, Global, sym, subst}
 use Rattle.hook_edit_laws.specs.Premises.{now}
 use Rattle.filter_lists.specs.Spells.{Spells}
 use Rattle.desk_parts.specs.declared.parts.Parts.{Parts}

@@ -1,15 +1,10 @@
-use Rattle.std.proofs.Common.{◌≡◌, ◌∙◌, ℕ, ◌+◌, ◌≤◌, List, length, Some, inr, refl, true, sym, ap, subst, arith}
+use Rattle.std.proofs.Common.{◌≡◌, ◌∙◌, ℕ, List, inr, refl, sym, ap, subst, arith}
 use Rattle.tc_base.specs.declared.hook.Hook.{Hook}
-use Rattle.filter_state.specs.declared.edit.Edit.{Edit}
 use Rattle.filter_state.specs.declared.edit.FilterLine.{FilterLine}
-use Rattle.hook_edit_laws.specs.Premises.{now, next}
-use Rattle.desk_pools.specs.declared.pools.Pools.{Pools}
-use Rattle.desk_pools.specs.Steps.{turned}
+use Rattle.hook_edit_laws.specs.Premises.{now}
 use Rattle.desk_ledger.specs.Kept.{commits}
 use Rattle.desk_line_actions.specs.Gone.{NamesGone}
-use Rattle.desk_heads.specs.Handed.{idle_of}
 use Rattle.desk_ways.specs.declared.way.Way.TheVariants as ways
-use Rattle.desk_ways.specs.Ways.{WithMask, OtherKey, OtherMask}
 use Rattle.desk_edits.specs.Spent.{needed}
 use Rattle.desk_counts.proofs.Replaced.{other_key}
 use Rattle.desk_plans.specs.Plans.{IsOfLine}
@@ -54,4 +49,4 @@ returns-clause-done g c = let may = c.requires.may in let w = may.1.planned.is i
       egress = heads.1;
     })
     (λ all. other_key was.pools now_.pools (commits was.ledger) (commits now_.ledger) _ y _ _ _ all may.1.ready.accepted names told.journal at c.args.slot c.args.count
-        (record { line = w.line; row = w.row; replaces = w.replaces; on = ap (λ (l : FilterLine). l.hook) line; same_mask = w.same_mask; other_key = w.other_key; mask = w.mask }) told.left told.rows told.masks)
+    (record { line = w.line; row = w.row; replaces = w.replaces; on = ap (λ (l : FilterLine). l.hook) line; same_mask = w.same_mask; other_key = w.other_key; mask = w.mask }) told.left told.rows told.masks)

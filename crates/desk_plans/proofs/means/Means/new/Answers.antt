@@ -1,4 +1,4 @@
-use Rattle.std.proofs.Common.{◌≡◌, ◌≢◌, ℕ, sym, ap, subst}
+use Rattle.std.proofs.Common.{◌≡◌, ◌≢◌, subst}
 use Rattle.desk_needs.specs.declared.needs.Needs.{Needs}
 use Rattle.desk_edits.specs.Spent.{HasRoom}
 use Rattle.desk_plans.proofs.Roomy.{means_fit}

@@ -1,5 +1,3 @@
-use Rattle.std.proofs.Common.{◌≡◌, refl, sym, ap, subst}
-use Rattle.desk_ledger.specs.Kept.{commits}
 use Rattle.desk_plans.proofs.Needing.{deleted_live}
 use Rattle.desk_plans.proofs.plan.Plan.of.Goals as goal
 
