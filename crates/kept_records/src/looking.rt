@@ -124,6 +124,8 @@ impl HookRecords {
         ensures params { result.0 ≡ option_map (λ (it : ActionRecord). it.params)
             (read_first action_of_words (root_of (seen_by reader.new.place) (action_root slot)).chain) }
         ensures stamp { result.1 ≡ (root_of (seen_by reader.new.place) (action_root slot)).stamp }
+        ensures few { loads_of reader.new.place ≤ loads_of reader.old.place + 1 + block_words }
+        ensures steps { steps.new + loads_of reader.old.place ≡ steps.old + loads_of reader.new.place }
     {
         let HookRecords { actions, .. } = self;
         let root = ACTION_ROOTS + slot;

@@ -87,6 +87,8 @@ pub(crate) fn renew_action<M: Ledger>(
     ensures action { kept_at actions.new root result
         ≡ read_first action_of_words (root_of (seen_by reader.new.place) root).chain }
     ensures stamp { result ≡ (root_of (seen_by reader.new.place) root).stamp }
+    ensures few { loads_of reader.new.place ≤ loads_of reader.old.place + 1 + block_words }
+    ensures steps { steps.new + loads_of reader.old.place ≡ steps.old + loads_of reader.new.place }
 {
     let word = reader.load_root(store, root, steps);
     if word.first.is_some() && actions.at(root, word.stamp).is_some() {
