@@ -1,2 +1,5 @@
 pub mod Rising
 pub mod Readers
+pub mod Shorts
+pub mod Beginnings
+pub mod Roominess

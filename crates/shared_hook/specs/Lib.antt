@@ -1,1 +1,4 @@
 pub mod Views
+pub mod Short
+pub mod Applied
+pub mod Begun

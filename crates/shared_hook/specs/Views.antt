@@ -1,5 +1,5 @@
 -- What contracts see of a desk and of the readers that nobody took yet (this project's own).
-use Rattle.std.specs.Prelude.{◌≡◌, ℕ, List, length, map, if◌then◌else◌}
+use Rattle.std.specs.Prelude.{◌≡◌, ℕ, List, length, map}
 use Rattle.atomic_table.specs.declared.shared.Seat.{Seat}
 use Rattle.tc_base.specs.declared.hook.Hook.TheVariants as hooks
 use Rattle.store_history.specs.History.{edits_of}
@@ -11,8 +11,8 @@ use Rattle.hook_reader.specs.Seats.{HookSeat}
 use Rattle.desk_needs.specs.declared.pool.Pool.{Pool}
 use Rattle.desk_needs.specs.declared.pool.Pool.TheVariants as pools
 use Rattle.desk_pools.specs.declared.pools.Pools.{Pools}
-use Rattle.desk_pools.specs.declared.pools.IdlePlace.{IdlePlace}
 use Rattle.desk_parts.specs.declared.parts.Parts.{Parts}
+use Rattle.desk_counts.specs.Counts.{free_place, left_place}
 use Rattle.shared_hook.specs.declared.counts.PoolCounts.{PoolCounts}
 
 abbrev pub count_of : PoolCounts → Pool → ℕ
@@ -22,13 +22,6 @@ count_of counts pools.MaskRoots = counts.masks
 count_of counts pools.ActionRoots = counts.actions
 count_of counts (pools.Head hooks.Ingress) = counts.ingress
 count_of counts (pools.Head hooks.Egress) = counts.egress
-
--- one of a hook's two places is active, and the other is free, or left
-abbrev pub free_place : IdlePlace → ℕ
-free_place idle = if idle.is_free then 1 else 0
-
-abbrev pub left_place : IdlePlace → ℕ
-left_place idle = if idle.is_free then 0 else 1
 
 abbrev pub free_in : Pools → PoolCounts
 free_in p = record {

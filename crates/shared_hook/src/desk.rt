@@ -1,5 +1,4 @@
 //! The desk.
-ghost use Rattle.std.specs.Prelude.{◌≡◌, if◌then◌else◌};
 
 use crate::counts::PoolCounts;
 use desk_ledger::Ledger;
@@ -9,6 +8,7 @@ use filter_lists::Lists;
 use hook_reader::{HookReader, HookReceipt};
 use hook_store_law::HookStore;
 use pin_store::Scan;
+use std::alloc::Global;
 use std::marker::Model;
 use tc_base::Point;
 
@@ -18,24 +18,22 @@ use tc_base::Point;
 #[derive(Drop)]
 pub struct Desk {
     pub(crate) parts: Parts,
+    pub(crate) alloc: Global,
 }
 
 impl Model for Desk {
+    ghost use Rattle.hook_edit_laws.specs.Premises.{now};
+    ghost use Rattle.desk_ledger.specs.Kept.{commits};
     ghost use Rattle.desk_parts.specs.Desk.{IsDesk};
+    ghost use Rattle.desk_counts.specs.Counts.{AreCounted};
     ghost use Rattle.shared_hook.specs.Views.{DeskView, view_of};
 
     ghost Value = { DeskView };
 
     ghost view = { λ d. view_of d.parts };
 
-    ghost invariant = { λ d. IsDesk d.parts };
-}
-
-// How many of the two places of a hook's tables are free: the idle one, or none.
-fn free_place(is_free: bool) -> u32
-    ensures { result ≡ (if is_free then 1 else 0) }
-{
-    u32::from(is_free)
+    ghost invariant = { λ d. IsDesk d.parts
+        × AreCounted d.parts.pools (now (commits d.parts.ledger)) };
 }
 
 impl Desk {
@@ -53,6 +51,7 @@ impl Desk {
     ghost use Rattle.hook_law.specs.Keeping.{Keeps, IsAtRest};
     ghost use Rattle.hook_edit_laws.specs.Premises.{now};
     ghost use Rattle.desk_needs.specs.declared.pool.Pool.{Pool};
+    ghost use Rattle.desk_needs.specs.Live.{live_of, size_of_pool};
     ghost use Rattle.desk_tidy.specs.Tidied.{IsTwiceIn};
     ghost use Rattle.shared_hook.specs.Views.{count_of, journal};
 
@@ -86,30 +85,14 @@ impl Desk {
     pub fn all_free(&self) -> PoolCounts
         ensures { result ≡ self.now.free }
     {
-        let pools = &self.parts.pools;
-        PoolCounts {
-            blocks: pools.blocks.free(),
-            rows: pools.rows.free(),
-            masks: pools.masks.free(),
-            actions: pools.actions.free(),
-            ingress: free_place(pools.ingress.is_free),
-            egress: free_place(pools.egress.is_free),
-        }
+        PoolCounts::free_in(&self.parts.pools)
     }
 
     /// What of each pool left and isn't free yet.
     pub fn all_retired(&self) -> PoolCounts
         ensures { result ≡ self.now.left }
     {
-        let pools = &self.parts.pools;
-        PoolCounts {
-            blocks: pools.blocks.left(),
-            rows: pools.rows.left(),
-            masks: pools.masks.left(),
-            actions: pools.actions.left(),
-            ingress: 1 - free_place(pools.ingress.is_free),
-            egress: 1 - free_place(pools.egress.is_free),
-        }
+        PoolCounts::left_in(&self.parts.pools)
     }
 
     /// How many of a pool are free.
@@ -119,9 +102,12 @@ impl Desk {
         self.all_free().of(pool)
     }
 
-    /// How many of a pool left and aren't free yet.
+    /// How many of a pool left and aren't free yet. With those that are free and those that the state at the
+    /// journal's end has in use they are all that there are.
     pub fn retired(&self, pool: Pool) -> u32
-        ensures { result ≡ count_of self.now.left pool }
+        ensures left { result ≡ count_of self.now.left pool }
+        ensures all { count_of self.now.free pool + result + live_of (now (seen_by self.now.place)) pool
+            ≡ size_of_pool pool }
     {
         self.all_retired().of(pool)
     }

@@ -7,8 +7,10 @@
 //! without a number around it. Up to eight `HookReader`s, each in a thread of its own, walk the store
 //! meanwhile. `make_hook` makes all of these at once, for a hook without a qdisc.
 //!
-//! The call that applies an edit isn't here yet. A desk tells its lists and its pools, gives out receipts,
-//! meets readers and tidies.
+//! `Desk::try_apply` is that call. The plain step decides whether the edit is accepted. Then all memory is taken
+//! and all that the edit needs of the pools is known, before the first commit is made: nothing can fail
+//! between two commits, so an edit stands whole or not at all. Beside it a desk tells its lists and its pools,
+//! gives out receipts, meets readers and tidies.
 //!
 //! # Why no reader waits
 //!
@@ -27,23 +29,34 @@
 //!
 //! Blocks, rows, slots and the idle places of tables that left may be given once every reader that was
 //! inside at that time has left. `Desk::tidy` finds out, by epochs, and says which reader is in the way where
-//! one is.
+//! one is. `try_apply` tidies where a pool has less than the edit needs. Where it has less even then, the edit
+//! is held: it stands nowhere, the answer names the pool and a reader that is in the way, and the caller may
+//! try again. What is free, what left and what the state has in use are all that a pool has, and a state and
+//! an accepted edit never need more than that: so an edit is held only where something had left.
 //!
 //! # Who may call what
 //!
 //! The desk and each reader may be sent to any thread, and are used by one at a time. A reader that learns a
-//! receipt of the desk (`receipt`, then `learn`) answers no visit of a head from before it. `make_hook` takes
-//! memory; no other call here does, and none waits.
+//! receipt of the desk (`receipt`, then `learn`) answers no visit of a head from before it. `make_hook` and
+//! `try_apply` take memory; no other call here does, and none waits.
 //!
-//! Not promised: that a reader ever leaves, and that two readers see one edit at one time.
+//! Not promised: that a reader ever leaves, that a held edit is ever accepted, and that two readers see one
+//! edit at one time.
 #![tactic(auto)]
 
+mod applying;
+mod beginning;
+mod clearing;
 mod counts;
 mod desk;
+mod fault;
 mod making;
+mod named;
 mod passes;
+mod short;
 
 pub use counts::PoolCounts;
 pub use desk::Desk;
+pub use fault::ApplyFault;
 pub use making::make_hook;
 pub use passes::Passes;

@@ -36,7 +36,7 @@ pub fn make_hook(alloc: Global) -> Result<(HookStore, Desk, Passes), NoMemory>
     let (store, writer, readers) = make_store::<HookLaw>(alloc, HOOK_SHAPE)?;
     let parts = Parts::new(alloc, writer)?;
     let left = readers_of(alloc, &store, readers)?;
-    Ok((store, Desk { parts }, Passes { left }))
+    Ok((store, Desk { parts, alloc }, Passes { left }))
 }
 
 // The readers of a hook, made of the new readers of its store.

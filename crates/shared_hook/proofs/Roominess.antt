@@ -1,0 +1,44 @@
+-- Room is made for an edit.
+use Rattle.std.proofs.Common.{◌≡◌, ◌∙◌, ◌⊎◌, inl, inr, ℕ, ◌+◌, ◌-◌, ◌%◌, ◌≤◌, ◌<◌, List, [], ◌++◌, length, Some, None, refl, sym, ap, subst, arith, le_refl, append-nil}
+use Rattle.std.specs.Prelude.{slice_get, slice_index_or}
+use Rattle.store_history.specs.declared.history.Commit.{Commit}
+use Rattle.pin_store.specs.declared.note.Note.{Note}
+use Rattle.pin_store.specs.declared.note.Note.TheVariants.{Unknown, Seen}
+use Rattle.pin_store.specs.declared.scan.Scan.TheVariants.{Pinned}
+use Rattle.pin_store.specs.Calls.{sheet_of}
+use Rattle.filter_state.specs.declared.edit.Edit.{Edit}
+use Rattle.store_history.specs.History.{edits_of}
+use Rattle.hook_law.specs.Meaning.{state_at}
+use Rattle.hook_meaning.specs.Stated.{hook_meaning}
+use Rattle.hook_edit_laws.specs.Premises.{now}
+use Rattle.desk_needs.specs.declared.needs.Needs.{Needs}
+use Rattle.desk_needs.specs.declared.pool.Pool.{Pool}
+use Rattle.desk_tidy.specs.Tidied.{IsTwiceIn}
+use Rattle.desk_ledger.specs.Kept.{commits}
+use Rattle.desk_parts.specs.declared.parts.Parts.{Parts}
+use Rattle.desk_parts.specs.Desk.{IsDesk}
+use Rattle.desk_counts.specs.Counts.{AreCounted}
+use Rattle.shared_hook.specs.Begun.{HasAll, IsCleared}
+
+-- where nothing is short all stays as it is
+pub cleared_same : (parts : Parts) (needs : Needs) → IsDesk parts → AreCounted parts.pools (now (commits parts.ledger)) → HasAll parts needs → IsCleared parts parts needs
+cleared_same parts needs desk counted all = record {
+  desk = desk;
+  lists = refl;
+  point = refl;
+  journal = refl;
+  masks = refl;
+  seen = ([], sym (append-nil (commits parts.ledger)), λ at c there. absurd (cc there));
+  free = λ pool. le_refl _;
+  counted = counted;
+  still = λ has. refl;
+  tidied = λ lacks. absurd (lacks all);
+}
+
+-- the state is that of the journal
+pub same_now : (h k : List (Commit Edit)) → edits_of k ≡ edits_of h → now k ≡ now h
+same_now h k same = ap (λ (edits : List Edit). state_at hook_meaning edits (length edits)) same
+
+-- the reader that is in the way
+pub twice_seen : (notes : List Note) (reader pin : ℕ) → IsTwiceIn notes (Pinned reader pin) → (slice_index_or notes (reader - 1) Unknown ≡ Seen pin 2) × (pin % 2 ≡ 1)
+twice_seen notes reader pin (i, at, seen, odd) = let same : i ≡ reader - 1 = omega (arith, at) in (subst (λ (n : ℕ). slice_index_or notes n Unknown ≡ Seen pin 2) same seen, odd)
