@@ -43,7 +43,8 @@
 //!
 //! Not promised: that the pools have what is taken, that the idle place of a hook is free, or that `later`
 //! filters are counted right. All are the caller's to see to, by tidying or else, and by `later_in_bucket` of
-//! `desk_filters`; and so it is to tell which kind of edit it is, as `way_of` of `desk_ways` does.
+//! `desk_filters`; and so it is to tell which kind of edit it is, as `way_of` of `desk_ways` does. Such a
+//! caller, for any kind of edit, is `desk_plans`.
 #![tactic(auto)]
 
 mod adding;

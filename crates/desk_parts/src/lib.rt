@@ -3,8 +3,8 @@
 //! A desk has the plain lists and the store's writer (`desk_ledger`), the pools of what may be given
 //! (`desk_pools`), the places of live actions (`desk_actions`), the writer of masks, and the tables of each
 //! hook (`desk_masks`). Each of these has its own fact over the commits, which says that it is right.
-//! `IsDesk` (`specs/Desk.antt`) is all of them together: what holds between two edits. Each kind of edit is
-//! to ask for it and to leave it, so that any edit may follow any other.
+//! `IsDesk` (`specs/Desk.antt`) is all of them together: what holds between two edits. Each kind of edit asks
+//! for it and leaves it, so any edit may follow any other.
 //!
 //! `Parts::new` makes them for a new store, where all is empty, and takes all the memory that they ever need
 //! beside the lists'. `tidy` gives free what left, as `desk_tidy` says, and leaves all else.
