@@ -68,6 +68,9 @@ count_left p pools.ActionRoots = refl
 count_left p (pools.Head hooks.Ingress) = refl
 count_left p (pools.Head hooks.Egress) = refl
 
+pub view_adds_up : (p : Pools) (s : State) → AreCounted p s → (pool : Pool) → count_of (free_in p) pool + count_of (left_in p) pool + live_of s pool ≡ size_of_pool pool
+view_adds_up p s all pool = let a = all pool in let f = count_free p pool in let l = count_left p pool in omega (arith, a, f, l)
+
 pub needed_is : (s : State) (n : Needs) (y : _) → n ≡ needs_of s y → (pool : Pool) → need_of n pool ≡ needed_of s y pool
 needed_is s n y is pools.Blocks = ap (λ (m : Needs). m.blocks) is
 needed_is s n y is pools.Rows = ap (λ (m : Needs). m.rows) is

@@ -23,6 +23,11 @@ use Rattle.shared_hook.specs.Applied.{AreEmpty}
 use Rattle.shared_hook.specs.Short.{need_of, IsShort}
 use Rattle.shared_hook.specs.Views.{free_in}
 
+-- a desk, of which what is free, what left and what is in use add up
+pub record IsCounted (parts : Parts) : Type 0 where
+  pub desk : IsDesk parts
+  pub counted : AreCounted parts.pools (now (commits parts.ledger))
+
 -- the lists accept the edit, which was made ready and planned, and this is what it needs
 pub record IsBegun (parts : Parts) (y : Edit) (begun : Begun) : Type 0 where
   pub done : Done

@@ -22,18 +22,14 @@ pub struct Desk {
 }
 
 impl Model for Desk {
-    ghost use Rattle.hook_edit_laws.specs.Premises.{now};
-    ghost use Rattle.desk_ledger.specs.Kept.{commits};
-    ghost use Rattle.desk_parts.specs.Desk.{IsDesk};
-    ghost use Rattle.desk_counts.specs.Counts.{AreCounted};
+    ghost use Rattle.shared_hook.specs.Begun.{IsCounted};
     ghost use Rattle.shared_hook.specs.Views.{DeskView, view_of};
 
     ghost Value = { DeskView };
 
     ghost view = { λ d. view_of d.parts };
 
-    ghost invariant = { λ d. IsDesk d.parts
-        × AreCounted d.parts.pools (now (commits d.parts.ledger)) };
+    ghost invariant = { λ d. IsCounted d.parts };
 }
 
 impl Desk {
@@ -109,7 +105,7 @@ impl Desk {
         ensures all { count_of self.now.free pool + result + live_of (now (seen_by self.now.place)) pool
             ≡ size_of_pool pool }
     {
-        self.all_retired().of(pool)
+        PoolCounts::left_in(&self.parts.pools).of(pool)
     }
 
     /// A receipt that has seen all commits, at the point of the journal's end.

@@ -8,4 +8,4 @@ use Rattle.shared_hook.proofs.desk.Desk.lists.Goals as goal
 
 -- src/desk.rt:61:5
 pub returns-clause-rest : goal.returns-clause-rest
-returns-clause-rest c = subst (λ (d : DeskView). IsAtRest hook_meaning hook_codec (seen_by d.place)) c.self.view_is c.self.invariant.whole.rest
+returns-clause-rest c = subst (λ (d : DeskView). IsAtRest hook_meaning hook_codec (seen_by d.place)) c.self.view_is c.self.invariant.desk.whole.rest

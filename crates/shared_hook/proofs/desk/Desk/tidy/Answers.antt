@@ -2,10 +2,14 @@ use Rattle.std.proofs.Common.{◌≡◌, ◌∙◌, ◌≤◌, ◌++◌, ap, sub
 use Rattle.store_history.specs.declared.history.Commit.{Commit}
 use Rattle.pin_store.specs.Calls.{seen_by}
 use Rattle.filter_state.specs.declared.edit.Edit.{Edit}
+use Rattle.hook_edit_laws.specs.Premises.{now}
+use Rattle.desk_ledger.specs.Kept.{commits}
 use Rattle.desk_tidy.specs.Tidied.{empty_at, emptying}
 use Rattle.desk_tidy.proofs.Emptied.{mapped_at}
 use Rattle.shared_hook.specs.Views.{DeskView, count_of, free_in, journal}
 use Rattle.shared_hook.proofs.Rising.{free_rises}
+use Rattle.shared_hook.proofs.Shorts.{counted_on}
+use Rattle.shared_hook.proofs.Roominess.{same_now}
 use Rattle.shared_hook.proofs.desk.Desk.tidy.Goals as goal
 
 -- src/desk.rt:169:5
@@ -24,3 +28,9 @@ returns-clause-seen c = let e = c.tidy.ensures.seen in let point = c.self.inside
 pub returns-clause-free : goal.returns-clause-free
 returns-clause-free c = λ pool. subst (λ (d : DeskView). count_of d.free pool ≤ count_of (free_in c.tidy.new.self.pools) pool) c.self.view_is
     (free_rises c.self.inside.parts.pools c.tidy.new.self.pools c.tidy.ensures.tidied pool)
+
+pub invariant_of-self : goal.invariant_of-self
+invariant_of-self c = let was = c.self.inside.parts in let after = c.tidy.new.self in let told = c.tidy.ensures in record {
+  desk = told.desk;
+  counted = counted_on was.pools after.pools (now (commits was.ledger)) (now (commits after.ledger)) told.tidied (same_now (commits was.ledger) (commits after.ledger) told.journal) c.self.invariant.counted;
+}
