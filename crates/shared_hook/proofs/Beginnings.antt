@@ -1,6 +1,5 @@
 -- More room in the lists changes nothing of a desk; and what is known of an edit that was made ready.
-use Rattle.std.proofs.Common.{◌≡◌, ◌∙◌, ℕ, ◌≤◌, ◌<◌, ◌+◌, List, Result, Ok, Err, refl, sym, ap, subst}
-use Rattle.store_history.specs.declared.history.Commit.{Commit}
+use Rattle.std.proofs.Common.{◌≡◌, Ok, Err, refl, sym, subst}
 use Rattle.filter_state.specs.declared.edit.Edit.{Edit}
 use Rattle.filter_state.specs.declared.refusal.Done.{Done}
 use Rattle.filter_state.specs.declared.refusal.Refusal.{Refusal}

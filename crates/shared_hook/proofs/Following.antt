@@ -1,5 +1,5 @@
 -- From one desk to the next: the lists get room, what left is tidied, the edit is done.
-use Rattle.std.proofs.Common.{◌≡◌, ◌∙◌, ◌⊎◌, inl, inr, ℕ, ◌+◌, ◌-◌, ◌%◌, ◌≤◌, ◌<◌, ◌^◌, List, [], ◌∷◌, ◌++◌, length, Option, Some, None, Ok, Err, Result, refl, sym, ap, subst, arith, length-append}
+use Rattle.std.proofs.Common.{◌≡◌, ◌∙◌, ◌⊎◌, inl, inr, ℕ, ◌+◌, ◌<◌, ◌^◌, List, [], ◌∷◌, ◌++◌, length, Ok, Err, Result, refl, sym, ap, subst, arith, length-append}
 use Rattle.store_history.specs.declared.history.Commit.{Commit}
 use Rattle.store_history.specs.History.{edits_of}
 use Rattle.pin_store.specs.Calls.{sheet_of, seen_by}
@@ -7,7 +7,6 @@ use Rattle.filter_state.specs.declared.edit.Edit.{Edit}
 use Rattle.filter_state.specs.declared.refusal.Done.{Done}
 use Rattle.filter_state.specs.declared.refusal.Refusal.{Refusal}
 use Rattle.filter_state.specs.States.{State}
-use Rattle.filter_state.specs.Lines.{IsLine}
 use Rattle.filter_state.specs.Steps.{Stepped, step}
 use Rattle.filter_lists.specs.Edits.{Stays}
 use Rattle.hook_lists.specs.declared.kept.Kept.{Kept}
@@ -15,26 +14,24 @@ use Rattle.hook_law.specs.Meaning.{state_at}
 use Rattle.hook_law.proofs.Growing.{state_pushed}
 use Rattle.hook_meaning.specs.Stated.{hook_meaning}
 use Rattle.hook_lists.specs.States.{state_of}
-use Rattle.hook_edit_laws.specs.Premises.{now, next, IsAccepted}
+use Rattle.hook_edit_laws.specs.Premises.{now, next}
 use Rattle.hook_edit_laws.proofs.Accepted.{sound}
-use Rattle.desk_needs.specs.declared.needs.Needs.{Needs}
 use Rattle.desk_needs.specs.declared.pool.Pool.{Pool}
-use Rattle.desk_needs.specs.Live.{live_of, size_of_pool}
-use Rattle.desk_needs.specs.Needs.{needs_of, needed_of}
+use Rattle.desk_needs.specs.Needs.{needed_of}
 use Rattle.desk_room_laws.proofs.Pools.{suffice, edit_few}
 use Rattle.desk_ledger.specs.Kept.{commits, base}
 use Rattle.desk_parts.specs.declared.parts.Parts.{Parts}
 use Rattle.desk_counts.specs.Counts.{free_of, left_of, AreCounted}
-use Rattle.desk_plans.specs.Done.{Suffices, IsDone}
+use Rattle.desk_plans.specs.Done.{IsDone}
 use Rattle.desk_plans.specs.Plans.{IsPlan, IsReadyFor}
 use Rattle.desk_plans.proofs.Staying.{plan_stays}
 use Rattle.shared_hook.specs.declared.beginning.Begun.{Begun}
 use Rattle.shared_hook.specs.declared.fault.ApplyFault.{ApplyFault}
 use Rattle.shared_hook.specs.declared.fault.ApplyFault.TheVariants.{Held, Refused}
 use Rattle.shared_hook.specs.declared.clearing.Hindrance.{Hindrance}
-use Rattle.shared_hook.specs.Begun.{IsCounted, IsBegun, HasAll, CanHave, IsCleared, IsHindered}
+use Rattle.shared_hook.specs.Begun.{IsBegun, HasAll, CanHave, IsCleared, IsHindered}
 use Rattle.shared_hook.specs.Applied.{IsCause, IsApplied, IsRefused, IsHeld, HasNeeded, stepped}
-use Rattle.shared_hook.specs.Views.{DeskView, view_of, count_of}
+use Rattle.shared_hook.specs.Views.{DeskView, view_of}
 use Rattle.shared_hook.proofs.Shorts.{count_free, count_left, needed_is}
 use Rattle.shared_hook.proofs.Roominess.{same_now}
 use Rattle.desk_parts.specs.Desk.{IsDesk}

@@ -1,16 +1,14 @@
 -- The pools of a new desk add up.
-use Rattle.std.proofs.Common.{◌≡◌, ◌∙◌, ℕ, ◌+◌, List, [], length, Bool, true, refl, sym, ap, subst, arith, if◌then◌else◌}
+use Rattle.std.proofs.Common.{◌≡◌, ◌+◌, List, [], length, Bool, true, refl, sym, ap, subst, arith, if◌then◌else◌}
 use Rattle.store_history.specs.declared.history.Commit.{Commit}
 use Rattle.tc_base.specs.declared.hook.Hook.TheVariants as hooks
 use Rattle.filter_state.specs.declared.edit.Edit.{Edit}
 use Rattle.filter_state.specs.States.{no_state}
 use Rattle.hook_edit_laws.specs.Premises.{now}
-use Rattle.desk_needs.specs.declared.pool.Pool.{Pool}
 use Rattle.desk_needs.specs.declared.pool.Pool.TheVariants as pools
-use Rattle.desk_needs.specs.Live.{live_of, size_of_pool}
 use Rattle.desk_pools.specs.declared.pools.Pools.{Pools}
 use Rattle.desk_pools.specs.Pools.{AreAllFree, IsNothingLeft}
-use Rattle.desk_counts.specs.Counts.{free_of, left_of, AreCounted}
+use Rattle.desk_counts.specs.Counts.{AreCounted}
 
 nothing : now [] ≡ no_state
 nothing = refl

@@ -1,5 +1,5 @@
 -- The counts of pools: what tidying does to them, and where nothing left.
-use Rattle.std.proofs.Common.{◌≡◌, ◌∙◌, ◌⊎◌, inl, inr, ℕ, ◌+◌, ◌≤◌, Bool, true, false, List, [], ◌++◌, length, refl, sym, ap, arith, length-append}
+use Rattle.std.proofs.Common.{◌≡◌, inl, inr, ℕ, ◌≤◌, Bool, true, false, length, refl, ap, arith, length-append}
 use Rattle.std.specs.Prelude.{if◌then◌else◌}
 use Rattle.tc_base.specs.declared.hook.Hook.TheVariants as hooks
 use Rattle.number_pools.specs.Numbers.{PoolNumbers}

@@ -1,18 +1,16 @@
 -- Room is made for an edit.
-use Rattle.std.proofs.Common.{◌≡◌, ◌∙◌, ◌⊎◌, inl, inr, ℕ, ◌+◌, ◌-◌, ◌%◌, ◌≤◌, ◌<◌, List, [], ◌++◌, length, Some, None, refl, sym, ap, subst, arith, le_refl, append-nil}
-use Rattle.std.specs.Prelude.{slice_get, slice_index_or}
+use Rattle.std.proofs.Common.{◌≡◌, ℕ, ◌-◌, ◌%◌, List, [], length, refl, sym, ap, subst, arith, le_refl, append-nil}
+use Rattle.std.specs.Prelude.{slice_index_or}
 use Rattle.store_history.specs.declared.history.Commit.{Commit}
 use Rattle.pin_store.specs.declared.note.Note.{Note}
 use Rattle.pin_store.specs.declared.note.Note.TheVariants.{Unknown, Seen}
 use Rattle.pin_store.specs.declared.scan.Scan.TheVariants.{Pinned}
-use Rattle.pin_store.specs.Calls.{sheet_of}
 use Rattle.filter_state.specs.declared.edit.Edit.{Edit}
 use Rattle.store_history.specs.History.{edits_of}
 use Rattle.hook_law.specs.Meaning.{state_at}
 use Rattle.hook_meaning.specs.Stated.{hook_meaning}
 use Rattle.hook_edit_laws.specs.Premises.{now}
 use Rattle.desk_needs.specs.declared.needs.Needs.{Needs}
-use Rattle.desk_needs.specs.declared.pool.Pool.{Pool}
 use Rattle.desk_tidy.specs.Tidied.{IsTwiceIn}
 use Rattle.desk_ledger.specs.Kept.{commits}
 use Rattle.desk_parts.specs.declared.parts.Parts.{Parts}

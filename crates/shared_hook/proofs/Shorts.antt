@@ -1,5 +1,5 @@
 -- Pools by their places, and what is free of them.
-use Rattle.std.proofs.Common.{◌≡◌, ◌∙◌, ◌⊎◌, inl, inr, ℕ, ◌+◌, ◌<◌, ◌≤◌, ◌==◌, Bool, true, false, List, [], ◌++◌, length, refl, sym, ap, subst, arith, length-append}
+use Rattle.std.proofs.Common.{◌≡◌, ◌∙◌, inl, inr, ℕ, ◌+◌, ◌<◌, ◌≤◌, ◌==◌, Bool, true, false, length, refl, sym, ap, subst, arith, length-append}
 use Rattle.std.specs.Prelude.{if◌then◌else◌}
 use Rattle.std.proofs.lemmas.Bool.Decides.{nat_tests}
 use Rattle.tc_base.specs.declared.hook.Hook.TheVariants as hooks
@@ -11,7 +11,6 @@ use Rattle.desk_needs.specs.declared.pool.Pool.TheVariants as pools
 use Rattle.desk_needs.specs.Live.{live_of, size_of_pool}
 use Rattle.desk_needs.specs.Needs.{needs_of, needed_of}
 use Rattle.desk_pools.specs.declared.pools.Pools.{Pools}
-use Rattle.desk_pools.specs.Pools.{IsNothingLeft}
 use Rattle.desk_tidy.specs.Tidied.{IsTidied, AreTidied}
 use Rattle.desk_counts.specs.Counts.{free_of, left_of, AreCounted}
 use Rattle.shared_hook.specs.declared.short.Short.{Short}

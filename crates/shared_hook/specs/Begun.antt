@@ -1,6 +1,6 @@
 -- An edit that is begun on the parts of a desk, and the room that is made for it (this project's own). `y` is
 -- the edit.
-use Rattle.std.specs.Prelude.{◌≡◌, ◌⊎◌, ℕ, ◌+◌, ◌%◌, ◌-◌, ◌≤◌, List, ◌++◌, Option, Some, None, slice_index_or}
+use Rattle.std.specs.Prelude.{◌≡◌, ◌⊎◌, ◌+◌, ◌%◌, ◌-◌, ◌≤◌, List, ◌++◌, Option, Some, None, slice_index_or}
 use Rattle.store_history.specs.declared.history.Commit.{Commit}
 use Rattle.store_history.specs.History.{edits_of}
 use Rattle.pin_store.specs.declared.note.Note.TheVariants.{Unknown, Seen}
@@ -44,7 +44,8 @@ HasAll parts needs = (pool : Pool) → need_of needs pool ≤ free_of parts.pool
 -- the pools add up, and have room for what is needed once nothing is left
 pub record CanHave (parts : Parts) (needs : Needs) : Type 0 where
   pub counted : AreCounted parts.pools (now (commits parts.ledger))
-  pub suffice : (pool : Pool) → live_of (now (commits parts.ledger)) pool + need_of needs pool ≤ size_of_pool pool
+  pub suffice : (pool : Pool) → live_of (now (commits parts.ledger)) pool + need_of needs pool
+      ≤ size_of_pool pool
 
 -- so many epochs began while what left was looked at
 abbrev pub BeginsEpochs : Parts → Parts → Type 0

@@ -1,5 +1,5 @@
 -- What contracts see of a desk and of the readers that nobody took yet (this project's own).
-use Rattle.std.specs.Prelude.{◌≡◌, ℕ, List, length, map}
+use Rattle.std.specs.Prelude.{◌≡◌, ℕ, List, length}
 use Rattle.atomic_table.specs.declared.shared.Seat.{Seat}
 use Rattle.tc_base.specs.declared.hook.Hook.TheVariants as hooks
 use Rattle.store_history.specs.History.{edits_of}

@@ -95,9 +95,9 @@ impl Desk {
     /// Applies an edit: it stands then once, at the end of the journal, and the lists are the state there.
     ///
     /// `Refused`: exactly where the plain step refuses the edit, and for its reason; or, where that accepts
-    /// it, for want of memory. `Held`: a reader that is inside keeps what the edit needs, also after tidying.
-    /// In both cases the edit stands nowhere, and may be tried again. It takes all its memory before its first
-    /// commit, and doesn't wait.
+    /// it, for want of memory. `Held`: a pool is short of what the edit needs, also after tidying, and a
+    /// reader is inside. In both cases the edit stands nowhere, and may be tried again. All memory is taken
+    /// before the first commit, and the call doesn't wait.
     pub fn try_apply(&mut self, store: &HookStore, edit: &Edit) -> Result<Done, ApplyFault>
         requires store { IsSeatOf store.now self.old.place }
         requires line { IsLine edit.now }

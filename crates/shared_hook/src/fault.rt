@@ -8,8 +8,9 @@ use filter_state::Refusal;
 pub enum ApplyFault {
     /// The plain step refuses the edit, for this reason; or memory was refused.
     Refused(Refusal),
-    /// A reader keeps what the edit needs. The pool is the first that is short, and has so many free; the pin
-    /// of the reader was loaded twice in the call, and was the same odd number.
+    /// The pool, the first that is short, has fewer free than the edit needs, also after tidying: something
+    /// had left that can't be given again. The reader was inside then: its pin was loaded twice in the call,
+    /// and was the same odd number.
     Held {
         pool: Pool,
         reader: u32,

@@ -7,10 +7,10 @@
 //! without a number around it. Up to eight `HookReader`s, each in a thread of its own, walk the store
 //! meanwhile. `make_hook` makes all of these at once, for a hook without a qdisc.
 //!
-//! `Desk::try_apply` is that call. The plain step decides whether the edit is accepted. Then all memory is taken
+//! `Desk::try_apply` applies an edit. The plain step decides whether it is accepted. Then all memory is taken
 //! and all that the edit needs of the pools is known, before the first commit is made: nothing can fail
-//! between two commits, so an edit stands whole or not at all. Beside it a desk tells its lists and its pools,
-//! gives out receipts, meets readers and tidies.
+//! between two commits, so an edit stands whole or not at all. Beside it a desk tells its lists and its
+//! pools, gives out receipts, meets readers and tidies.
 //!
 //! # Why no reader waits
 //!
@@ -29,8 +29,8 @@
 //!
 //! Blocks, rows, slots and the idle places of tables that left may be given once every reader that was
 //! inside at that time has left. `Desk::tidy` finds out, by epochs, and says which reader is in the way where
-//! one is. `try_apply` tidies where a pool has less than the edit needs. Where it has less even then, the edit
-//! is held: it stands nowhere, the answer names the pool and a reader that is in the way, and the caller may
+//! one is. `try_apply` tidies where a pool has less than the edit needs. Where it has less even then, the
+//! edit is held: it stands nowhere, the answer names the pool and a reader that is inside, and the caller may
 //! try again. What is free, what left and what the state has in use are all that a pool has, and a state and
 //! an accepted edit never need more than that: so an edit is held only where something had left.
 //!

@@ -1,13 +1,11 @@
-use Rattle.std.proofs.Common.{◌≡◌, ◌∙◌, ◌≤◌, Ok, refl, sym, ap, subst, arith}
+use Rattle.std.proofs.Common.{◌≡◌, ◌∙◌, Ok, sym, subst, arith}
 use Rattle.std.proofs.lemmas.Result.{err_from_is_err_and}
 use Rattle.filter_state.specs.Steps.{step}
 use Rattle.filter_lists.specs.Spells.{Spells}
 use Rattle.hook_lists.specs.declared.kept.Kept.{Kept}
 use Rattle.filter_state.specs.declared.edit.Edit.{Edit}
-use Rattle.filter_state.specs.States.{State}
-use Rattle.filter_state.specs.Lines.{IsLine}
-use Rattle.hook_edit_laws.specs.Premises.{now, next, IsAccepted}
-use Rattle.desk_ledger.specs.Kept.{commits, base}
+use Rattle.hook_edit_laws.specs.Premises.{now, next}
+use Rattle.desk_ledger.specs.Kept.{commits}
 use Rattle.desk_parts.specs.declared.parts.Parts.{Parts}
 use Rattle.desk_parts.specs.Desk.{IsDesk}
 use Rattle.desk_room_laws.proofs.Lines.{few_made}

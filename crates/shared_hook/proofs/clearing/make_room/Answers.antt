@@ -1,11 +1,7 @@
-use Rattle.std.proofs.Common.{◌≡◌, ◌∙◌, ℕ, ◌≤◌, refl, sym, ap, subst, arith}
-use Rattle.desk_needs.specs.declared.pool.Pool.{Pool}
-use Rattle.shared_hook.specs.Begun.{HasAll}
-use Rattle.shared_hook.specs.Short.{need_of, IsShort}
-use Rattle.shared_hook.specs.Views.{count_of, free_in}
+use Rattle.std.proofs.Common.{subst}
+use Rattle.shared_hook.specs.Short.{IsShort}
 use Rattle.shared_hook.specs.declared.counts.PoolCounts.{PoolCounts}
-use Rattle.shared_hook.proofs.Shorts.{count_free, short_lacks}
-use Rattle.shared_hook.proofs.Roominess.{cleared_same}
+use Rattle.shared_hook.proofs.Shorts.{short_lacks}
 use Rattle.shared_hook.proofs.clearing.make_room.Goals as goal
 
 pub tidy_for-requires-clause-lacks : goal.tidy_for-requires-clause-lacks

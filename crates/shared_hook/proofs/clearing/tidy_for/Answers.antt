@@ -1,18 +1,13 @@
-use Rattle.std.proofs.Common.{◌≡◌, ◌∙◌, ◌⊎◌, ℕ, ◌≤◌, List, ◌++◌, refl, sym, ap, subst, arith}
+use Rattle.std.proofs.Common.{◌∙◌, refl, sym, ap, subst, arith}
 use Rattle.pin_store.specs.declared.scan.Scan.{Scan}
-use Rattle.pin_store.specs.declared.scan.Scan.TheVariants.{Pinned}
 use Rattle.pin_store.specs.Calls.{sheet_of}
 use Rattle.store_history.specs.declared.history.Commit.{Commit}
 use Rattle.filter_state.specs.declared.edit.Edit.{Edit}
 use Rattle.hook_edit_laws.specs.Premises.{now}
-use Rattle.desk_needs.specs.declared.pool.Pool.{Pool}
 use Rattle.desk_tidy.specs.Tidied.{IsTwiceIn, empty_at, emptying}
 use Rattle.desk_tidy.proofs.Emptied.{mapped_at}
 use Rattle.desk_ledger.specs.Kept.{commits}
 use Rattle.desk_parts.specs.declared.parts.Parts.{Parts}
-use Rattle.desk_counts.specs.Counts.{free_of, left_of}
-use Rattle.shared_hook.specs.Begun.{IsCleared}
-use Rattle.shared_hook.specs.Views.{count_of, free_in, left_in}
 use Rattle.shared_hook.specs.declared.counts.PoolCounts.{PoolCounts}
 use Rattle.shared_hook.specs.Short.{IsShort}
 use Rattle.shared_hook.proofs.Rising.{free_rises, none_left}

@@ -1,4 +1,4 @@
-use Rattle.std.proofs.Common.{◌≡◌, ◌∙◌, ℕ, ap}
+use Rattle.std.proofs.Common.{◌∙◌, ℕ, ap}
 use Rattle.atomic_table.specs.declared.shared.Seat.{Seat}
 use Rattle.pin_store.specs.declared.view.View.{View}
 use Rattle.pin_store.specs.Calls.{seen_by, sheet_of}

@@ -1,6 +1,6 @@
-use Rattle.std.proofs.Common.{◌≡◌, ◌∙◌, ℕ, ◌+◌, ◌<◌, ◌≤◌, sym, ap, subst, arith}
+use Rattle.std.proofs.Common.{◌≤◌, arith}
 use Rattle.desk_needs.specs.declared.pool.Pool.{Pool}
-use Rattle.shared_hook.specs.Short.{place_of, need_of}
+use Rattle.shared_hook.specs.Short.{need_of}
 use Rattle.shared_hook.specs.Views.{count_of}
 use Rattle.shared_hook.proofs.Shorts.{place_low, one_more}
 use Rattle.shared_hook.proofs.short.short_pool.Goals as goal

@@ -1,4 +1,4 @@
-use Rattle.std.proofs.Common.{ℕ, ◌<◌, ◌≤◌}
+use Rattle.std.proofs.Common.{◌<◌, ◌≤◌}
 use Rattle.desk_needs.specs.declared.pool.Pool.{Pool}
 use Rattle.shared_hook.specs.Short.{place_of, need_of}
 use Rattle.shared_hook.specs.Views.{count_of}

@@ -1,4 +1,4 @@
-use Rattle.std.proofs.Common.{◌≡◌, ◌∙◌, ◌≤◌, ◌++◌, ap, subst}
+use Rattle.std.proofs.Common.{◌∙◌, ◌≤◌, ◌++◌, ap, subst}
 use Rattle.store_history.specs.declared.history.Commit.{Commit}
 use Rattle.pin_store.specs.Calls.{seen_by}
 use Rattle.filter_state.specs.declared.edit.Edit.{Edit}

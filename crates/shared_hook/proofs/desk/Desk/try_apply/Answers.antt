@@ -1,4 +1,4 @@
-use Rattle.std.proofs.Common.{◌≡◌, ◌+◌, ◌<◌, ◌^◌, length, refl, sym, subst}
+use Rattle.std.proofs.Common.{◌+◌, ◌<◌, ◌^◌, length, refl, sym, subst}
 use Rattle.pin_store.specs.Calls.{sheet_of, IsSeatOf}
 use Rattle.filter_lists.specs.Edits.{MayStep}
 use Rattle.shared_hook.specs.Applied.{IsApplied, IsRefused, IsHeld}
