@@ -11,12 +11,15 @@ use Rattle.hook_law.specs.Meaning.{state_at}
 use Rattle.hook_meaning.specs.Stated.{hook_meaning}
 use Rattle.hook_edit_laws.specs.Premises.{now}
 use Rattle.desk_needs.specs.declared.needs.Needs.{Needs}
-use Rattle.desk_tidy.specs.Tidied.{IsTwiceIn}
+use Rattle.desk_tidy.specs.Tidied.{IsTwiceIn, Empties, AreTidied, empty_at, emptying}
+use Rattle.desk_tidy.proofs.Emptied.{mapped_at}
 use Rattle.desk_ledger.specs.Kept.{commits}
 use Rattle.desk_parts.specs.declared.parts.Parts.{Parts}
 use Rattle.desk_parts.specs.Desk.{IsDesk}
 use Rattle.desk_counts.specs.Counts.{AreCounted}
-use Rattle.shared_hook.specs.Begun.{HasAll, IsCleared}
+use Rattle.shared_hook.specs.Begun.{BeginsEpochs, HasAll, IsCleared}
+use Rattle.shared_hook.proofs.Rising.{free_rises}
+use Rattle.shared_hook.proofs.Shorts.{count_free, counted_on}
 
 -- where nothing is short all stays as it is
 pub cleared_same : (parts : Parts) (needs : Needs) → IsDesk parts → AreCounted parts.pools (now (commits parts.ledger)) → HasAll parts needs → IsCleared parts parts needs
@@ -36,6 +39,24 @@ cleared_same parts needs desk counted all = record {
 -- the state is that of the journal
 pub same_now : (h k : List (Commit Edit)) → edits_of k ≡ edits_of h → now k ≡ now h
 same_now h k same = ap (λ (edits : List Edit). state_at hook_meaning edits (length edits)) same
+
+-- where something is short it was tidied once
+pub cleared_tidied : (was after : Parts) (needs : Needs) → IsDesk after → edits_of (commits after.ledger) ≡ edits_of (commits was.ledger)
+    → Empties was.pools (commits was.ledger) was.ledger.point (commits after.ledger) → AreTidied was.pools after.pools → BeginsEpochs was after
+    → after ≡ record was { ledger = record was.ledger { writer = after.ledger.writer }; pools = after.pools }
+    → AreCounted was.pools (now (commits was.ledger)) → (HasAll was needs → ⊥) → IsCleared was after needs
+cleared_tidied was after needs desk journal e tidied epochs rest counted lacks = record {
+  desk = desk;
+  lists = ap (λ (p : Parts). p.ledger.lists) rest;
+  point = ap {B = ℕ} (λ (p : Parts). p.ledger.point) rest;
+  journal = journal;
+  masks = ap (λ (p : Parts). p.masks) rest;
+  seen = (emptying was.ledger.point e.roots, e.seen, λ at d there. let m = mapped_at (empty_at was.ledger.point) e.roots at d there in (ap (λ (x : Commit Edit). x.edit) m.2, ap (λ (x : Commit Edit). x.named.chain) m.2));
+  free = λ pool. let f = free_rises was.pools after.pools tidied pool in let a = count_free was.pools pool in let b = count_free after.pools pool in omega (arith, f, a, b);
+  counted = counted_on was.pools after.pools (now (commits was.ledger)) (now (commits after.ledger)) tidied (same_now (commits was.ledger) (commits after.ledger) journal) counted;
+  still = λ has. absurd (lacks has);
+  tidied = λ lacks. epochs;
+}
 
 -- the reader that is in the way
 pub twice_seen : (notes : List Note) (reader pin : ℕ) → IsTwiceIn notes (Pinned reader pin) → (slice_index_or notes (reader - 1) Unknown ≡ Seen pin 2) × (pin % 2 ≡ 1)
