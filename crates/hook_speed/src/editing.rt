@@ -1,0 +1,122 @@
+//! Filters of one mask come and go.
+ghost use Rattle.std.specs.Prelude.{◌≡◌};
+ghost use Rattle.pin_store.specs.Calls.{IsSeatOf};
+
+use crate::lines::{Line, apply_all, step_all};
+use filter_lists::Lists;
+use shared_hook::make_hook;
+use std::alloc::Global;
+use std::test::Fail;
+
+// Each filter has this action, so that none is made or let go.
+const BEFORE: &[&[u8]] = &[
+    b"qdisc add dev eth0 clsact",
+    b"actions add action drop index 100",
+];
+
+// How many filters stand meanwhile: in a mask of few buckets, and in one of the most buckets, full but for
+// the filter that comes and goes.
+const FEW: u32 = 15;
+
+const MANY: u32 = 4_095;
+
+// How many filters come and go, each before the next one.
+const PAIRS: u32 = 100;
+
+// How often all of that is done in a long test; once in a short one.
+const OFTEN: u32 = 11;
+
+fn addition(alloc: Global, number: u32) -> Result<Line, Fail> {
+    let (high, low) = (number / 256, number % 256);
+    let text = format!(in alloc; "filter add dev eth0 ingress protocol ip pref 10 handle {number} \
+        flower dst_ip 10.0.{high}.{low} action gact index 100")?;
+    Line::read(alloc, text.as_bytes())
+}
+
+fn removal(alloc: Global, number: u32) -> Result<Line, Fail> {
+    let text = format!(in alloc; "filter del dev eth0 ingress protocol ip pref 10 handle {number} flower")?;
+    Line::read(alloc, text.as_bytes())
+}
+
+// The lines up to so many filters.
+fn begin(alloc: Global, filters: u32) -> Result<Vec<Line>, Fail> {
+    let mut lines = Vec::new(alloc);
+    for text in BEFORE {
+        lines.push(Line::read(alloc, text)?)?;
+    }
+    for number in 0..filters {
+        lines.push(addition(alloc, number.saturating_add(1))?)?;
+    }
+    Ok(lines)
+}
+
+// Lines in which filters come and go.
+fn pairs(alloc: Global) -> Result<Vec<Line>, Fail> {
+    let mut lines = Vec::new(alloc);
+    for count in 0..PAIRS {
+        let number = 10_000 + count;
+        lines.push(addition(alloc, number)?)?;
+        lines.push(removal(alloc, number)?)?;
+    }
+    Ok(lines)
+}
+
+fn edit_lists(alloc: Global, filters: u32, rounds: u32) -> Result<(), Fail> {
+    let pairs = pairs(alloc)?;
+    let mut lists = Lists::new(alloc);
+    step_all(&mut lists, &begin(alloc, filters)?)?;
+    for _ in 0..rounds {
+        step_all(&mut lists, &pairs)?;
+    }
+    Ok(())
+}
+
+fn edit_hook(alloc: Global, filters: u32, rounds: u32) -> Result<(), Fail> {
+    let pairs = pairs(alloc)?;
+    let (store, mut desk, _) = make_hook(alloc)?;
+    apply_all(&mut desk, &store, &begin(alloc, filters)?)?;
+    for _ in 0..rounds {
+        apply_all(&mut desk, &store, &pairs)?;
+    }
+    Ok(())
+}
+
+#[test]
+fn lists_of_few_once(rt: HostRuntime) -> Result<(), Fail> {
+    edit_lists(rt.alloc(), FEW, 1)
+}
+
+#[test]
+fn lists_of_few_often(rt: HostRuntime) -> Result<(), Fail> {
+    edit_lists(rt.alloc(), FEW, OFTEN)
+}
+
+#[test]
+fn lists_of_many_once(rt: HostRuntime) -> Result<(), Fail> {
+    edit_lists(rt.alloc(), MANY, 1)
+}
+
+#[test]
+fn lists_of_many_often(rt: HostRuntime) -> Result<(), Fail> {
+    edit_lists(rt.alloc(), MANY, OFTEN)
+}
+
+#[test]
+fn hook_of_few_once(rt: HostRuntime) -> Result<(), Fail> {
+    edit_hook(rt.alloc(), FEW, 1)
+}
+
+#[test]
+fn hook_of_few_often(rt: HostRuntime) -> Result<(), Fail> {
+    edit_hook(rt.alloc(), FEW, OFTEN)
+}
+
+#[test]
+fn hook_of_many_once(rt: HostRuntime) -> Result<(), Fail> {
+    edit_hook(rt.alloc(), MANY, 1)
+}
+
+#[test]
+fn hook_of_many_often(rt: HostRuntime) -> Result<(), Fail> {
+    edit_hook(rt.alloc(), MANY, OFTEN)
+}
