@@ -28,13 +28,17 @@ const OFTEN: u32 = 11;
 
 fn addition(alloc: Global, number: u32) -> Result<Line, Fail> {
     let (high, low) = (number / 256, number % 256);
-    let text = format!(in alloc; "filter add dev eth0 ingress protocol ip pref 10 handle {number} \
-        flower dst_ip 10.0.{high}.{low} action gact index 100")?;
+    let text = format!(in alloc;
+        "filter add dev eth0 ingress protocol ip pref 10 handle {number} \
+        flower dst_ip 10.0.{high}.{low} action gact index 100"
+    )?;
     Line::read(alloc, text.as_bytes())
 }
 
 fn removal(alloc: Global, number: u32) -> Result<Line, Fail> {
-    let text = format!(in alloc; "filter del dev eth0 ingress protocol ip pref 10 handle {number} flower")?;
+    let text = format!(in alloc;
+        "filter del dev eth0 ingress protocol ip pref 10 handle {number} flower"
+    )?;
     Line::read(alloc, text.as_bytes())
 }
 

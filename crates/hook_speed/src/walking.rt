@@ -78,7 +78,13 @@ fn visit_lists(alloc: Global, count: u32) -> Result<(), Fail> {
     step_all(&mut lists, &rules(alloc)?)?;
     let mut walk = Walk::with_room(alloc)?;
     for number in 0..count {
-        walk_still(&mut walk, &lists, 0, Hook::Ingress, frame_at(&frames, number));
+        walk_still(
+            &mut walk,
+            &lists,
+            0,
+            Hook::Ingress,
+            frame_at(&frames, number),
+        );
     }
     Ok(())
 }

@@ -15,13 +15,13 @@ returns-then-is_some-2-clause-action g c = let e = c.load_root-word.ensures in l
     (sym c.is_some.ensures ∙ c.if-is_some.true) (lent_some c.at.result _ c.at.ensures (sym c.is_some-then-is_some.ensures ∙ c.if-is_some-2.true)) e.lawful.stamps
 
 pub returns-clause-kept : goal.returns-clause-kept
-returns-clause-kept g c = let e = c.load_root-word.ensures in let h1 = seen_by c.load_root-word.new.self.place in let h = seen_by c.load_first-words.new.reader.place in
-    let same : h ≡ h1 = c.load_first-words.ensures.same.seen in
-    read_now action_of_words (seen_by c.args.reader.now.place) h c.args.root c.load_root-word.result.stamp c.args.actions.now c.keep.new.self c.action_of.result
+returns-clause-kept g c = let e = c.load_root-word.ensures in let h1 = seen_by c.load_root-word.new.self.place in let h = seen_by c.read_action.new.reader.place in
+    let same : h ≡ h1 = c.read_action.ensures.same.seen in
+    read_now action_of_words (seen_by c.args.reader.now.place) h c.args.root c.load_root-word.result.stamp c.args.actions.now c.read_action.new.actions (read_first action_of_words (root_of h1 c.args.root).chain)
     (subst (IsPrefix (seen_by c.args.reader.now.place)) (sym same) e.longer) c.requires.kept (e.stamp ∙ ap (λ (s : List (Commit Edit)). (root_of s c.args.root).stamp) (sym same))
-    (c.action_of.ensures (root_of h1 c.args.root).chain c.load_first-words.ensures.words ∙ ap (λ (s : List (Commit Edit)). read_first action_of_words (root_of s c.args.root).chain) (sym same)) c.keep.ensures.places
+    (ap (λ (s : List (Commit Edit)). read_first action_of_words (root_of s c.args.root).chain) (sym same)) c.read_action.ensures.places
 
 pub returns-clause-action : goal.returns-clause-action
-returns-clause-action g c = let h1 = seen_by c.load_root-word.new.self.place in let h = seen_by c.load_first-words.new.reader.place in
-    let same : h ≡ h1 = c.load_first-words.ensures.same.seen in
-    c.keep.ensures.there ∙ (c.action_of.ensures (root_of h1 c.args.root).chain c.load_first-words.ensures.words ∙ ap (λ (s : List (Commit Edit)). read_first action_of_words (root_of s c.args.root).chain) (sym same))
+returns-clause-action g c = let h1 = seen_by c.load_root-word.new.self.place in let h = seen_by c.read_action.new.reader.place in
+    let same : h ≡ h1 = c.read_action.ensures.same.seen in
+    c.read_action.ensures.there ∙ ap (λ (s : List (Commit Edit)). read_first action_of_words (root_of s c.args.root).chain) (sym same)
