@@ -2,8 +2,8 @@
 //!
 //! Each test does one workload once, or some tens of times over. `.ci/hook-speed` runs the built tests under
 //! callgrind, one at a time, and takes the difference of two tests that only differ in how often they work:
-//! what making a hook and reading lines costs drops out. So these tests say little when they pass, and each
-//! edit and each walk in them is one whose answer is checked.
+//! what making a hook and reading lines costs drops out. So these tests say little when they pass: that each
+//! edit in them was accepted.
 //!
 //! `editing` adds filters of one mask and takes them out again, by `Lists::step` and by `Desk::try_apply`,
 //! in a mask with few filters and in a full one. `walking` takes the frames of a small gateway through its
