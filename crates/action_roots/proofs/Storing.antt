@@ -18,8 +18,8 @@ use Rattle.block_codec.specs.Blocks.{both, block, plus_one}
 use Rattle.block_codec.specs.Parameters.{control_word, vlan_words, flag_of, number_of, skbedit_words, params_words, AreStorable, FitsOp, FitParams}
 use Rattle.block_codec.specs.Actions.{action_words, IsStorableAction, IsActionBlock}
 use Rattle.block_codec.proofs.Standing.{length_block}
-use Rattle.block_reading.specs.Read.{link_in, action_of_words}
-use Rattle.block_reading.proofs.Acting.{action_only}
+use Rattle.block_codec.specs.OfReadings.Read.{link_in, action_of_words}
+use Rattle.block_codec.proofs.OfReadings.Acting.{action_only}
 
 -- ---- parameters that a line can give
 small_tpid : (n : ℕ) → IsTpid n → n < 2 ^ 16

@@ -5,7 +5,7 @@ ghost use Rattle.act_kinds.specs.Ranges.{AreParams};
 ghost use Rattle.block_codec.specs.declared.action.StoredAction.{StoredAction};
 ghost use Rattle.block_codec.specs.Parameters.{AreStorable, FitParams};
 ghost use Rattle.block_codec.specs.Actions.{IsStorableAction};
-ghost use Rattle.block_reading.specs.Read.{action_of_words};
+ghost use Rattle.block_codec.specs.OfReadings.Read.{action_of_words};
 ghost use Rattle.action_roots.specs.Records.{action_block};
 
 /// The block of an action reads as the action.

@@ -5,14 +5,14 @@ ghost use mathlib.Core.List.{IsPrefix};
 ghost use Rattle.store_history.specs.History.{root_of};
 ghost use Rattle.store_history.specs.Reads.{read_first};
 ghost use Rattle.pin_store.specs.Calls.{seen_by, floor_start, loads_of, IsInside, IsSeatOf, IsSameReader};
-ghost use Rattle.block_reading.specs.Read.{action_of_words};
+ghost use Rattle.block_codec.specs.OfReadings.Read.{action_of_words};
 ghost use Rattle.block_chain.specs.Ways.{block_words};
 ghost use Rattle.hook_law.specs.Places.{action_root};
 
 use block_chain::Walk;
 use block_codec::StoredAction;
 use block_codec::places::ACTION_ROOTS;
-use block_reading::action_in;
+use block_codec::readings::action_in;
 use pin_store::{Reader, Steps, Store};
 use std::sync::ledger::Ledger;
 use store_history::Law;

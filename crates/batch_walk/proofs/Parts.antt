@@ -12,12 +12,13 @@ use Rattle.batch_run.specs.declared.made_action.MadeAction.{MadeAction}
 use Rattle.batch_run.specs.declared.stop.Stop.{Stop}
 use Rattle.batch_run.specs.Runs.{Ran}
 use Rattle.batch_show.specs.Shown.{stop_shown}
-use Rattle.capture_walk.specs.declared.counts.Count.{Count}
+use Rattle.walk_ends.specs.declared.counts.Count.{Count}
 use Rattle.capture_walk.specs.declared.ends.PacketEnd.{PacketEnd}
 use Rattle.capture_walk.specs.Captures.{outcomes_of, end_of, output_of, counts_from, counts_of, executed_in}
 use Rattle.batch_walk.specs.declared.walk.WalkText.{WalkText}
 use Rattle.batch_walk.specs.declared.walk.BatchWalk.{BatchWalk}
-use Rattle.batch_walk.specs.Texts.{joined, packet_lines, closing_lines, HasCount}
+use Rattle.walk_texts.specs.Texts.{joined}
+use Rattle.batch_walk.specs.Texts.{packet_lines, closing_lines, HasCount}
 use Rattle.batch_walk.specs.Walked.{summary_of, closing_after, text_after, walk_text, closing_text, told_text, IsWalked}
 
 counts_from-length : (serial actions : ℕ) (executed : List Execution) → length (counts_from serial actions executed) ≡ actions

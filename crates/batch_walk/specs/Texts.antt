@@ -1,40 +1,10 @@
 -- The lines of a walk. They are this project's own.
-use Rattle.std.specs.Prelude.{ℕ, ◌+◌, ◌-◌, ◌≤◌, ◌==◌, ◌&&◌, List, [], ◌∷◌, ◌++◌, get_or, map, if◌then◌else◌}
-use Rattle.std.specs.Prelude.{codes, decimal}
-use Rattle.std.specs.List.{flat_map}
-use Rattle.frame_edit.specs.declared.meta.Meta.{Meta}
-use Rattle.line_texts.specs.Texts.{class_text}
-use Rattle.tc_batch.specs.KindNames.{kind_text}
-use Rattle.walk_rules.specs.declared.verdict.Verdict.{Verdict}
-use Rattle.walk_rules.specs.declared.verdict.Verdict.TheVariants as verdicts
+use Rattle.std.specs.Prelude.{ℕ, ◌+◌, ◌-◌, ◌≤◌, List, [], ◌∷◌, ◌++◌, get_or, map, codes}
 use Rattle.batch_run.specs.declared.made_action.MadeAction.{MadeAction}
-use Rattle.capture_walk.specs.declared.counts.Count.{Count}
+use Rattle.walk_ends.specs.declared.counts.Count.{Count}
+use Rattle.walk_texts.specs.declared.summary.Summary.{Summary}
+use Rattle.walk_texts.specs.Texts.{counted, end_text, counter_line, summary_line}
 use Rattle.capture_walk.specs.declared.ends.PacketEnd.{PacketEnd}
-use Rattle.batch_walk.specs.declared.closing.Summary.{Summary}
-
--- lines, one after the other
-abbrev pub joined : List (List ℕ) → List ℕ
-joined lines = flat_map (λ (line : List ℕ). line) lines
-
--- a label, and a number in decimal behind it
-unfoldable pub counted : List ℕ → ℕ → List ℕ
-counted label number = label ++ decimal number
-
--- ---- a packet
-abbrev pub verdict_text : Verdict → List ℕ
-verdict_text verdicts.Pass = codes " pass length "
-verdict_text verdicts.Drop = codes " drop length "
-
--- all three, where one isn't 0; the priority as a class (tc-skbedit(8))
-abbrev pub meta_text : Meta → List ℕ
-meta_text meta =
-    if meta.priority == 0 && (meta.mark == 0 && meta.queue == 0) then []
-    else codes " priority " ++ class_text meta.priority ++ counted (codes " mark ") meta.mark
-    ++ counted (codes " queue ") meta.queue
-
--- how a packet ended: ` V length L`, and the metadata
-unfoldable pub end_text : Verdict → ℕ → Meta → List ℕ
-end_text verdict length meta = counted (verdict_text verdict) length ++ meta_text meta
 
 -- `packet N`, and how it ended
 abbrev pub packet_line : ℕ → PacketEnd → List ℕ
@@ -45,19 +15,6 @@ packet_line number end = counted (codes "packet ") number ++ end_text end.verdic
 abbrev pub packet_lines : ℕ → List PacketEnd → List (List ℕ)
 packet_lines number [] = []
 packet_lines number (end ∷ ends) = packet_line number end ∷ packet_lines (number + 1) ends
-
--- ---- an action
--- `counter serial S KIND index I`
-unfoldable pub action_text : MadeAction → List ℕ
-action_text made = counted (codes "counter serial ") made.serial ++ codes " " ++ kind_text made.kind
-    ++ counted (codes " index ") made.index
-
--- ` packets P bytes B`
-unfoldable pub count_text : Count → List ℕ
-count_text count = counted (codes " packets ") count.packets ++ counted (codes " bytes ") count.bytes
-
-abbrev pub counter_line : MadeAction → Count → List ℕ
-counter_line made count = action_text made ++ count_text count ++ codes "\n"
 
 abbrev pub nothing_counted : Count
 nothing_counted = record { packets = 0; bytes = 0 }
@@ -70,21 +27,6 @@ HasCount counts made = (1 ≤ made.serial) × (made.serial ≤ counts)
 abbrev pub counter_lines : List MadeAction → List Count → List (List ℕ)
 counter_lines made counts =
     map (λ (m : MadeAction). counter_line m (get_or counts (m.serial - 1) nothing_counted)) made
-
--- ---- the end
--- `summary edits E refused R`
-unfoldable pub edits_text : Summary → List ℕ
-edits_text summary = counted (codes "summary edits ") summary.edits
-    ++ counted (codes " refused ") summary.refused
-
--- ` packets P passed Q dropped D`
-unfoldable pub verdicts_text : Summary → List ℕ
-verdicts_text summary =
-    counted (codes " packets ") (summary.passed + summary.dropped)
-    ++ counted (codes " passed ") summary.passed ++ counted (codes " dropped ") summary.dropped
-
-abbrev pub summary_line : Summary → List ℕ
-summary_line summary = edits_text summary ++ verdicts_text summary ++ codes "\n"
 
 -- the lines behind the packets' lines
 abbrev pub closing_lines : List MadeAction → List Count → Summary → List (List ℕ)

@@ -1,26 +1,22 @@
 -- What `walk` writes for a batch and the packets of a capture (this project's own).
-use Rattle.std.specs.Prelude.{◌≡◌, ℕ, ◌-◌, Bool, true, false, List, length, map, count_by, ◌++◌, is_some}
+use Rattle.std.specs.Prelude.{◌≡◌, ℕ, ◌-◌, Bool, List, length, map, count_by, ◌++◌, is_some}
 use Rattle.std.specs.Prelude.{if◌then◌else◌}
 use Rattle.tc_base.specs.declared.hook.Hook.{Hook}
 use Rattle.tc_base.specs.Pieces.{joined as joined_pieces}
 use Rattle.pcap_io.specs.declared.capture.Packet.{Packet}
 use Rattle.pcap_io.specs.declared.capture.Capture.{Capture}
 use Rattle.pcap_io.specs.Written.{capture_bytes}
-use Rattle.walk_rules.specs.declared.verdict.Verdict.{Verdict}
-use Rattle.walk_rules.specs.declared.verdict.Verdict.TheVariants as verdicts
 use Rattle.walk_rules.specs.Walks.{Outcome}
 use Rattle.batch_run.specs.Runs.{Ran}
 use Rattle.batch_show.specs.Shown.{stop_shown}
+use Rattle.walk_ends.specs.Passing.{is_pass}
+use Rattle.walk_texts.specs.declared.summary.Summary.{Summary}
+use Rattle.walk_texts.specs.Texts.{joined}
 use Rattle.capture_walk.specs.declared.ends.PacketEnd.{PacketEnd}
 use Rattle.capture_walk.specs.Captures.{outcomes_of, end_of, output_of, counts_of, executed_in}
-use Rattle.batch_walk.specs.declared.closing.Summary.{Summary}
 use Rattle.batch_walk.specs.declared.walk.BatchWalk.{BatchWalk}
 use Rattle.batch_walk.specs.declared.walk.WalkText.{WalkText}
-use Rattle.batch_walk.specs.Texts.{joined, packet_lines, closing_lines}
-
-abbrev pub is_pass : Verdict → Bool
-is_pass verdicts.Pass = true
-is_pass verdicts.Drop = false
+use Rattle.batch_walk.specs.Texts.{packet_lines, closing_lines}
 
 abbrev pub passed_count : List PacketEnd → ℕ
 passed_count ends = count_by (λ (end : PacketEnd). is_pass end.verdict) ends

@@ -6,19 +6,13 @@
 //! that was ever made, the summary, `end`. Reading the files, their limits, and putting and writing are the
 //! caller's.
 //!
-//! The packets' lines, of which there may be a million, aren't kept. `push_count` and `push_end` put the parts
-//! of one at the end of a text that the caller holds, so that all are made in one buffer as they are written.
-//! The other calls that begin with `push` put lines that the report of a run has too.
+//! The packets' lines, of which there may be a million, aren't kept: the caller makes each of the parts in
+//! `walk_texts` as it writes it.
 //!
 //! One thread calls this, and it keeps nothing between calls. Not promised: that memory suffices.
 #![tactic(auto)]
 
 mod closing;
-mod packets;
-mod pieces;
 mod walk;
 
-pub use closing::{Summary, push_counter, push_summary};
-pub use packets::push_end;
-pub use pieces::push_count;
 pub use walk::{BatchWalk, WalkText, walk_batch};

@@ -6,19 +6,22 @@ ghost use Rattle.std.specs.List.{All};
 ghost use Rattle.batch_run.specs.declared.limit.TheConstants.{COMMANDS_MAX};
 ghost use Rattle.batch_run.specs.Commands.{commands_in};
 ghost use Rattle.batch_run.specs.Runs.{Ran, IsRun};
-ghost use Rattle.capture_walk.specs.declared.limits.TheConstants.{PACKETS_MAX};
+ghost use Rattle.walk_ends.specs.declared.limits.TheConstants.{PACKETS_MAX};
 ghost use Rattle.batch_show.specs.Shown.{stop_shown};
-ghost use Rattle.batch_walk.specs.Texts.{joined, closing_lines, HasCount};
+ghost use Rattle.walk_texts.specs.Texts.{joined};
+ghost use Rattle.batch_walk.specs.Texts.{closing_lines, HasCount};
 ghost use Rattle.batch_walk.specs.Walked.{passed_count, summary_of, IsWalked};
 
-use crate::closing::{Summary, closing_text};
+use crate::closing::closing_text;
 use batch_run::{BatchRun, run_batch};
 use batch_show::push_stop;
-use capture_walk::{Count, Ends, WalkedCapture, walk_capture};
+use capture_walk::{Ends, WalkedCapture, walk_capture};
 use pcap_io::Capture;
 use std::alloc::Global;
 use tc_base::{Hook, NoMemory, Pieces};
+use walk_ends::Count;
 use walk_rules::Verdict;
+use walk_texts::Summary;
 
 /// What `walk` writes. The packets' lines stand between the two texts, and are made as they are written.
 #[derive(Drop)]

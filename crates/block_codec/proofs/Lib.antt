@@ -5,3 +5,4 @@ pub mod Tabling
 pub mod Masking
 pub mod Giving
 pub mod Acting
+pub mod OfReadings

@@ -8,3 +8,4 @@ pub mod Actions
 pub mod Reading
 pub mod ReadingParameters
 pub mod Shapes
+pub mod OfReadings

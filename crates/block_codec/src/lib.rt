@@ -25,6 +25,7 @@ mod mask_slots;
 mod names;
 mod parameters;
 pub mod places;
+pub mod readings;
 mod row_numbers;
 mod table;
 

@@ -5,8 +5,8 @@ use Rattle.std.proofs.lemmas.List.{take_more, map-append, get_or-drop}
 use Rattle.block_codec.specs.declared.filter.StoredFilter.{StoredFilter}
 use Rattle.block_codec.specs.Names.{action_in}
 use Rattle.block_codec.specs.Reading.{filter_read}
-use Rattle.block_reading.specs.Read.{is_filter, filter_in}
-use Rattle.block_reading.proofs.Testing.{filter_has}
+use Rattle.block_codec.specs.OfReadings.Read.{is_filter, filter_in}
+use Rattle.block_codec.proofs.OfReadings.Testing.{filter_has}
 use Rattle.block_codec.proofs.Standing.{part_at, part_is}
 
 -- the key of a block that agrees with another in each word

@@ -4,7 +4,7 @@ ghost use Rattle.store_history.specs.History.{root_of};
 ghost use Rattle.store_history.specs.Reads.{read_all};
 ghost use Rattle.pin_store.specs.Calls.{seen_by, loads_of, IsInside, IsSeatOf, IsSameButLoads};
 ghost use Rattle.block_codec.specs.declared.filter.StoredFilter.{StoredFilter};
-ghost use Rattle.block_reading.specs.Read.{filter_in};
+ghost use Rattle.block_codec.specs.OfReadings.Read.{filter_in};
 ghost use Rattle.block_chain.specs.Ways.{block_words, IsBefore};
 ghost use Rattle.mask_table.specs.Buckets.{IsAnswer};
 

@@ -7,7 +7,7 @@
 //!
 //! # Why no block is tested
 //!
-//! `filter_in` of `block_reading` says of any forty words whether they are those of a filter. A search
+//! `filter_in` of `block_codec` says of any forty words whether they are those of a filter. A search
 //! doesn't ask that: its clause speaks of chains in which every block reads as a filter, and the law of the
 //! store says that those of buckets are such chains. In any other chain it answers something, and ends too.
 //!

@@ -6,7 +6,7 @@ use Rattle.std.proofs.lemmas.List.Sums.{sum_by-append, sum_by-cons, count_by-le-
 use Rattle.filter_state.specs.Sound.{Each}
 use Rattle.walk_rules.specs.Steps.{Execution}
 use Rattle.walk_steps.specs.Told.{execution, IsShortRun}
-use Rattle.capture_walk.specs.declared.counts.Count.{Count}
+use Rattle.walk_ends.specs.declared.counts.Count.{Count}
 use Rattle.capture_walk.specs.Captures.{count_at, counts_from, counts_of, no_counts, together, each_added, AreFew}
 use Rattle.capture_walk.specs.Room.{HasRoom, HasRoomForRun}
 

@@ -14,10 +14,11 @@ use Rattle.filter_state.specs.States.{State}
 use Rattle.walk_rules.specs.Steps.{Execution}
 use Rattle.walk_rules.specs.Walks.{Outcome}
 use Rattle.walk_rules.specs.Plain.{plain_walk}
-use Rattle.capture_walk.specs.declared.counts.Count.{Count}
+use Rattle.walk_ends.specs.declared.counts.Count.{Count}
 use Rattle.capture_walk.specs.declared.ends.PacketEnd.{PacketEnd}
 use Rattle.capture_walk.specs.declared.walking.Leaving.{Leaving}
-use Rattle.capture_walk.specs.Captures.{outcomes_of, end_of, passed_one, passed, regrown, walked_packet, executed_in, counts_of, each_added}
+use Rattle.walk_ends.specs.Passing.{regrown}
+use Rattle.capture_walk.specs.Captures.{outcomes_of, end_of, passed_one, passed, walked_packet, executed_in, counts_of, each_added}
 use Rattle.capture_walk.specs.Adding.{IsAdded}
 use Rattle.capture_walk.proofs.Counting.{counts-append}
 

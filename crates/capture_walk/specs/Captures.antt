@@ -1,6 +1,6 @@
 -- What the walks of a capture leave: each packet by the plain walk of one state (this project's own).
 use Rattle.walk_rules.specs.declared.limits.TheConstants.{VISITS_MAX}
-use Rattle.std.specs.Prelude.{ℕ, zero, suc, ◌+◌, ◌-◌, ◌*◌, ◌≤◌, ◌==◌, min, List, [], ◌∷◌, length, map, sum_by}
+use Rattle.std.specs.Prelude.{ℕ, zero, suc, ◌+◌, ◌*◌, ◌≤◌, ◌==◌, List, [], ◌∷◌, length, map, sum_by}
 use Rattle.std.specs.Prelude.{count_by, if◌then◌else◌}
 use Rattle.std.specs.List.{flat_map}
 use Rattle.tc_base.specs.declared.hook.Hook.{Hook}
@@ -8,12 +8,11 @@ use Rattle.pcap_io.specs.declared.capture.Packet.{Packet}
 use Rattle.pcap_io.specs.declared.capture.Capture.{Capture}
 use Rattle.filter_state.specs.States.{State}
 use Rattle.filter_state.specs.Sound.{Each}
-use Rattle.walk_rules.specs.declared.verdict.Verdict.{Verdict}
-use Rattle.walk_rules.specs.declared.verdict.Verdict.TheVariants as verdicts
 use Rattle.walk_rules.specs.Steps.{Execution}
 use Rattle.walk_rules.specs.Walks.{Outcome}
 use Rattle.walk_rules.specs.Plain.{plain_walk}
-use Rattle.capture_walk.specs.declared.counts.Count.{Count}
+use Rattle.walk_ends.specs.declared.counts.Count.{Count}
+use Rattle.walk_ends.specs.Passing.{regrown, passed_by}
 use Rattle.capture_walk.specs.declared.ends.PacketEnd.{PacketEnd}
 
 -- the walk of each packet, on its own
@@ -28,10 +27,6 @@ end_of outcome = record {
 }
 
 -- ---- the packets that pass
--- an original length, and a frame's growth, held between 0 and 2^32 - 1
-abbrev pub regrown : ℕ → ℕ → ℕ → ℕ
-regrown original before after = min (original + after - before) 4294967295
-
 -- a packet as its walk left it
 abbrev pub walked_packet : Packet → Outcome → Packet
 walked_packet packet outcome = record {
@@ -40,10 +35,6 @@ walked_packet packet outcome = record {
   original = regrown packet.original (length packet.bytes) (length outcome.frame.bytes);
   bytes = outcome.frame.bytes;
 }
-
-abbrev pub passed_by : Verdict → Packet → List Packet
-passed_by verdicts.Pass packet = packet ∷ []
-passed_by verdicts.Drop packet = []
 
 abbrev pub passed_one : Packet → Outcome → List Packet
 passed_one packet outcome = passed_by outcome.verdict (walked_packet packet outcome)

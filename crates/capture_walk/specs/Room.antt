@@ -1,6 +1,6 @@
 -- Counts to which more can be added without a sum of 2^64 (this project's own).
 use Rattle.std.specs.Prelude.{◌^◌, ◌≤◌}
-use Rattle.capture_walk.specs.declared.counts.Count.{Count}
+use Rattle.walk_ends.specs.declared.counts.Count.{Count}
 
 -- for one execution more
 abbrev pub HasRoom : Count → Type 0

@@ -2,33 +2,21 @@
 ghost use Rattle.std.specs.Prelude.{◌≡◌, [], ◌∷◌, map, IfOk};
 ghost use Rattle.filter_state.specs.Sound.{Each};
 ghost use Rattle.walk_steps.specs.Told.{execution, IsShortRun};
-ghost use Rattle.capture_walk.specs.Captures.{no_counts, each_added};
+ghost use Rattle.capture_walk.specs.Captures.{no_counts, each_added, together};
 ghost use Rattle.capture_walk.specs.Room.{HasRoom, HasRoomForRun};
 
 use std::alloc::Global;
 use tc_base::NoMemory;
+use walk_ends::Count;
 
-/// How often an action ran, and the lengths of the frames on which it ran, together in bytes.
-#[derive(Clone, Copy, Debug, PartialEq, Eq)]
-pub struct Count {
-    pub packets: u64,
-    pub bytes: u64,
-}
-
-impl Count {
-    ghost use Rattle.std.specs.Prelude.{◌≡◌};
-    ghost use Rattle.capture_walk.specs.Captures.{together};
-    ghost use Rattle.capture_walk.specs.Room.{HasRoom};
-
-    // The same count with one execution more, on a frame of that length.
-    fn with_one(self, length: u32) -> Count
-        requires { HasRoom self }
-        ensures { result ≡ together self (record { packets = 1; bytes = length }) }
-    {
-        Count {
-            packets: self.packets + 1,
-            bytes: self.bytes + u64::from(length),
-        }
+// A count with one execution more, on a frame of that length.
+fn with_one(count: Count, length: u32) -> Count
+    requires { HasRoom count }
+    ensures { result ≡ together count (record { packets = 1; bytes = length }) }
+{
+    Count {
+        packets: count.packets + 1,
+        bytes: count.bytes + u64::from(length),
     }
 }
 
@@ -63,6 +51,6 @@ fn add_one(counts: &mut [Count], serial: u32, length: u32)
         return;
     };
     if place < counts.len() {
-        counts[place] = counts[place].with_one(length);
+        counts[place] = with_one(counts[place], length);
     }
 }

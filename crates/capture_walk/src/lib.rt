@@ -20,12 +20,9 @@ mod end_iter;
 mod end_list;
 mod end_words;
 mod ends;
-mod limits;
 mod walking;
 
-pub use counts::Count;
 pub use end_iter::EndIter;
 pub use end_list::Ends;
 pub use ends::PacketEnd;
-pub use limits::PACKETS_MAX;
 pub use walking::{WalkedCapture, walk_capture};

@@ -9,11 +9,12 @@ ghost use Rattle.pcap_io.specs.Written.{packet_bytes, capture_bytes};
 ghost use Rattle.filter_state.specs.States.{State};
 ghost use Rattle.filter_lists.specs.Spells.{Spells};
 ghost use Rattle.plain_walk.specs.Walked.{walked_from};
-ghost use Rattle.capture_walk.specs.declared.limits.TheConstants.{PACKETS_MAX};
+ghost use Rattle.walk_ends.specs.declared.limits.TheConstants.{PACKETS_MAX};
 ghost use Rattle.capture_walk.specs.Captures.{outcomes_of, end_of, output_of, counts_of, executed_in};
-ghost use Rattle.capture_walk.specs.Captures.{passed_one, regrown};
+ghost use Rattle.walk_ends.specs.Passing.{regrown};
+ghost use Rattle.capture_walk.specs.Captures.{passed_one};
 
-use crate::counts::{Count, add_executed, no_counts};
+use crate::counts::{add_executed, no_counts};
 use crate::end_list::Ends;
 use crate::ends::PacketEnd;
 use filter_lists::Lists;
@@ -21,6 +22,7 @@ use pcap_io::{Capture, Excerpt, PacketView};
 use plain_walk::PlainWalk;
 use std::alloc::Global;
 use tc_base::{Hook, NoMemory, Pieces};
+use walk_ends::Count;
 use walk_rules::Verdict;
 
 /// What the walks of a capture leave.

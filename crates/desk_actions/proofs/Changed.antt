@@ -16,10 +16,10 @@ use Rattle.filter_state.specs.declared.refusal.Done.TheVariants as dones
 use Rattle.filter_state.specs.States.{Action, State}
 use Rattle.filter_state.specs.Actions.{is_named, kind_eq}
 use Rattle.act_kinds.specs.Params.{kind_of}
-use Rattle.edit_effect_laws.proofs.Accepted.{same_step}
+use Rattle.hook_meaning.proofs.OfEffects.Accepted.{same_step}
 use Rattle.filter_state.specs.Tables.{first_where}
 use Rattle.filter_state.specs.Steps.{step, make_given, change_given}
-use Rattle.block_reading.specs.Read.{action_of_words}
+use Rattle.block_codec.specs.OfReadings.Read.{action_of_words}
 use Rattle.hook_law.specs.Places.{action_root}
 use Rattle.hook_law.specs.Records.{ActionRecord}
 use Rattle.hook_law.specs.Meaning.{point_of, IsLive}
@@ -32,9 +32,9 @@ use Rattle.hook_law.proofs.Acting.{change_keeps, change_back}
 use Rattle.hook_law.proofs.Resting.{change_rests}
 use Rattle.hook_meaning.specs.Stated.{ActionTerms, hook_meaning}
 use Rattle.hook_meaning.specs.Blocks.{action_record, hook_codec}
-use Rattle.hook_edit_laws.specs.Premises.{now, next, IsAccepted, SetsAction}
-use Rattle.hook_edit_laws.proofs.Accepted.{leads, lawful, next_sound}
-use Rattle.hook_edit_laws.proofs.Made.{changed_after}
+use Rattle.hook_store_law.specs.OfEdits.Premises.{now, next, IsAccepted, SetsAction}
+use Rattle.hook_store_law.proofs.OfEdits.Accepted.{leads, lawful, next_sound}
+use Rattle.hook_store_law.proofs.OfEdits.Made.{changed_after}
 use Rattle.action_roots.specs.Records.{action_block, action_commit}
 use Rattle.action_roots.proofs.Storing.{action_reads}
 use Rattle.desk_actions.specs.Places.{Placed, slot_of, block_of, IsAlone, AreHere, put_at}

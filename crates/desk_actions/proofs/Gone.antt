@@ -26,12 +26,12 @@ use Rattle.hook_law.proofs.Standing.{slot_longer, slot_push, present_end}
 use Rattle.hook_law.proofs.Marking.{mark_back}
 use Rattle.hook_meaning.specs.Stated.{hook_meaning, action_stated, action_at}
 use Rattle.hook_meaning.specs.Blocks.{hook_codec}
-use Rattle.edit_effect_laws.specs.Parts.{params_at}
-use Rattle.edit_effect_laws.proofs.Accepted.{not_unless, same_step}
-use Rattle.edit_effect_laws.proofs.Shared.{deleted_action}
-use Rattle.hook_edit_laws.specs.Premises.{now, next, IsAccepted, IsUnseen}
-use Rattle.hook_edit_laws.proofs.Accepted.{leads, sound}
-use Rattle.hook_edit_laws.proofs.Marking.{marks}
+use Rattle.hook_meaning.specs.OfEffects.Parts.{params_at}
+use Rattle.hook_meaning.proofs.OfEffects.Accepted.{not_unless, same_step}
+use Rattle.hook_meaning.proofs.OfEffects.Shared.{deleted_action}
+use Rattle.hook_store_law.specs.OfEdits.Premises.{now, next, IsAccepted, IsUnseen}
+use Rattle.hook_store_law.proofs.OfEdits.Accepted.{leads, sound}
+use Rattle.hook_store_law.proofs.OfEdits.Marking.{marks}
 use Rattle.root_pool_laws.specs.Blocks.{IsBlockOf, HasBlock, IsLeft}
 use Rattle.root_pool_laws.proofs.Blocks.{has_push}
 use Rattle.root_pool_laws.proofs.Apart.{in_left, in_right}
@@ -40,7 +40,7 @@ use Rattle.desk_pools.specs.Pools.{roots_of, gone_roots, IsLeftAt, ArePools}
 use Rattle.desk_pools.specs.Steps.{IsInPool}
 use Rattle.desk_pools.proofs.RootsOf.{roots_have}
 use Rattle.desk_pools.proofs.Steps.{pools_commit, standing_block}
-use Rattle.desk_ledger.specs.Ledger.{mark_at}
+use Rattle.desk_actions.specs.OfLedgers.Ledger.{mark_at}
 use Rattle.desk_actions.specs.Places.{Placed, slot_of, block_of, IsAlone, AreHere}
 use Rattle.desk_actions.proofs.Turning.{alone_has, standing_slot}
 

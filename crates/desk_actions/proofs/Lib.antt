@@ -6,3 +6,4 @@ pub mod Turning
 pub mod Names
 pub mod Gone
 pub mod Counted
+pub mod OfLedgers

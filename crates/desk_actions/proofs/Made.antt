@@ -23,7 +23,7 @@ use Rattle.filter_state.proofs.Pairs.{found}
 use Rattle.block_codec.specs.declared.action.StoredAction.{StoredAction}
 use Rattle.block_codec.specs.Parameters.{FitParams}
 use Rattle.block_codec.specs.Actions.{IsStorableAction}
-use Rattle.block_reading.specs.Read.{action_of_words}
+use Rattle.block_codec.specs.OfReadings.Read.{action_of_words}
 use Rattle.hook_law.specs.Places.{action_root}
 use Rattle.hook_law.specs.Records.{ActionRecord}
 use Rattle.hook_law.specs.Meaning.{point_of, IsLive}
@@ -38,10 +38,10 @@ use Rattle.hook_law.proofs.Resting.{make_rests}
 use Rattle.hook_meaning.specs.Stated.{ActionTerms, hook_meaning, action_stated, action_at}
 use Rattle.hook_meaning.specs.Blocks.{action_record, hook_codec}
 use Rattle.hook_meaning.proofs.Reading.{some_of}
-use Rattle.edit_effect_laws.proofs.Accepted.{not_unless, same_step}
-use Rattle.hook_edit_laws.specs.Premises.{now, next, IsAccepted, SetsAction}
-use Rattle.hook_edit_laws.proofs.Accepted.{lawful, next_sound}
-use Rattle.hook_edit_laws.proofs.Made.{made_after}
+use Rattle.hook_meaning.proofs.OfEffects.Accepted.{not_unless, same_step}
+use Rattle.hook_store_law.specs.OfEdits.Premises.{now, next, IsAccepted, SetsAction}
+use Rattle.hook_store_law.proofs.OfEdits.Accepted.{lawful, next_sound}
+use Rattle.hook_store_law.proofs.OfEdits.Made.{made_after}
 use Rattle.action_roots.specs.Records.{action_block, action_commit}
 use Rattle.action_roots.proofs.Storing.{params_stored, action_reads}
 use Rattle.desk_actions.specs.Places.{Placed, slot_of, block_of, IsAlone, AreHere, put_at}

@@ -21,7 +21,7 @@ use Rattle.hook_law.specs.Keeping.{Keeps, IsAtRest}
 use Rattle.hook_meaning.specs.Stated.{hook_meaning}
 use Rattle.hook_meaning.specs.Blocks.{hook_codec}
 use Rattle.hook_store_law.specs.Kept.{KeepsHook}
-use Rattle.hook_edit_laws.specs.Premises.{now, next, IsAccepted}
+use Rattle.hook_store_law.specs.OfEdits.Premises.{now, next, IsAccepted}
 use Rattle.root_pool_laws.specs.Blocks.{HasBlock}
 use Rattle.root_pool_laws.proofs.Apart.{in_left, in_right}
 use Rattle.action_roots.specs.Records.{action_block, action_commit}
@@ -29,8 +29,8 @@ use Rattle.desk_pools.specs.declared.pools.Pools.{Pools}
 use Rattle.desk_pools.specs.Pools.{IsFreeAt, ArePools}
 use Rattle.desk_pools.specs.Steps.{IsInPool, IsTaken, NothingComes, LeavesPools}
 use Rattle.desk_pools.proofs.Steps.{pools_commit}
-use Rattle.desk_ledger.specs.Ledger.{IsLedger}
-use Rattle.desk_ledger.proofs.Going.{IsDone, done_is, next_keeps, ledger_next}
+use Rattle.desk_actions.specs.OfLedgers.Ledger.{IsLedger}
+use Rattle.desk_actions.proofs.OfLedgers.Going.{IsDone, done_is, next_keeps, ledger_next}
 use Rattle.desk_actions.specs.Places.{Placed, AreHere, put_at}
 use Rattle.desk_actions.specs.Kinds.{IsMaking}
 use Rattle.desk_actions.proofs.Made.{CanStore, stored_as, making_made, as_edit, stores, make_law, make_rest, make_here, make_back}

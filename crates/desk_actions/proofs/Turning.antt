@@ -27,7 +27,7 @@ use Rattle.hook_law.proofs.Standing.{unused_end}
 use Rattle.hook_meaning.specs.Stated.{hook_meaning}
 use Rattle.hook_meaning.specs.Blocks.{hook_codec}
 use Rattle.hook_store_law.specs.Kept.{KeepsHook}
-use Rattle.hook_edit_laws.specs.Premises.{now, next, IsAccepted}
+use Rattle.hook_store_law.specs.OfEdits.Premises.{now, next, IsAccepted}
 use Rattle.root_pool_laws.specs.Blocks.{HasBlock, IsLeft}
 use Rattle.root_pool_laws.proofs.Blocks.{unnamed_end}
 use Rattle.action_roots.specs.Records.{action_block, action_commit}
@@ -35,8 +35,8 @@ use Rattle.desk_pools.specs.declared.pools.Pools.{Pools}
 use Rattle.desk_pools.specs.Pools.{gone_roots, ArePools}
 use Rattle.desk_pools.specs.Steps.{IsInPool, IsTaken}
 use Rattle.desk_pools.proofs.Steps.{pools_commit, standing_block}
-use Rattle.desk_ledger.specs.Ledger.{IsLedger}
-use Rattle.desk_ledger.proofs.Going.{IsDone, done_is, next_keeps, ledger_next}
+use Rattle.desk_actions.specs.OfLedgers.Ledger.{IsLedger}
+use Rattle.desk_actions.proofs.OfLedgers.Going.{IsDone, done_is, next_keeps, ledger_next}
 use Rattle.desk_actions.specs.Places.{Placed, slot_of, block_of, IsAlone, AreHere, put_at}
 use Rattle.desk_actions.specs.Kinds.{IsChanging}
 use Rattle.desk_actions.proofs.Made.{CanStore, stored_as}

@@ -12,11 +12,14 @@
 //! The thread that has the store's writer calls. An edit was made ready before, and that the pools have what
 //! it needs is the caller's to see to; so no call refuses anything, takes memory or waits.
 //!
+//! `ledgers` has the plain lists and the store's writer, kept together, on which all edits of a desk rest.
+//!
 //! Not promised: that what left is free again, which is `desk_tidy`'s.
 #![tactic(auto)]
 
 mod changing;
 mod deleting;
+pub mod ledgers;
 mod making;
 mod naming;
 mod places;

@@ -7,9 +7,9 @@ use Rattle.filter_state.specs.declared.refusal.Done.{Done}
 use Rattle.filter_state.specs.declared.refusal.Done.TheVariants as dones
 use Rattle.filter_state.specs.States.{Row, State}
 use Rattle.filter_state.specs.Steps.{step, pref_for}
-use Rattle.edit_effect_laws.proofs.Replacing.{replaces}
-use Rattle.desk_ways.proofs.Needed as told
-use Rattle.hook_edit_laws.specs.Premises.{IsAddOf, named_row}
+use Rattle.hook_meaning.proofs.OfEffects.Replacing.{replaces}
+use Rattle.desk_parts.proofs.OfWays.Needed as told
+use Rattle.hook_store_law.specs.OfEdits.Premises.{IsAddOf, named_row}
 
 -- the filter has this pref, and some handle and actions
 pub record IsFilterAt (done : Done) (pref : ℕ) : Type 0 where

@@ -9,7 +9,7 @@ use Rattle.pin_store.specs.Layout.{block_words}
 use Rattle.filter_state.specs.declared.edit.Edit.{Edit}
 use Rattle.filter_state.specs.States.{State}
 use Rattle.filter_state.specs.Sound.{Sound}
-use Rattle.mask_mirror.specs.Kept.{Names}
+use Rattle.mask_table.specs.OfMirrors.Kept.{Names}
 use Rattle.mask_table.specs.Buckets.{mask_root}
 use Rattle.mask_writer.specs.Masks.{Masks}
 use Rattle.hook_law.specs.Places as places
@@ -19,8 +19,8 @@ use Rattle.hook_law.proofs.Standing.{slot_longer}
 use Rattle.hook_meaning.specs.Stated.{hook_meaning, filters_at}
 use Rattle.hook_meaning.specs.Blocks.{hook_codec}
 use Rattle.hook_store_law.specs.Kept.{IsKeptAt}
-use Rattle.hook_edit_laws.specs.Premises.{now, next}
-use Rattle.desk_line_actions.specs.Put.{ArePut}
+use Rattle.hook_store_law.specs.OfEdits.Premises.{now, next}
+use Rattle.desk_parts.specs.OfLineActions.Put.{ArePut}
 use Rattle.desk_masks.specs.declared.hook_tables.HookTables.{HookTables}
 use Rattle.desk_masks.specs.Masks.{HasMasks}
 use Rattle.desk_masks.specs.Tables.{HasTables}

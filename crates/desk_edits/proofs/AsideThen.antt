@@ -2,7 +2,7 @@
 use Rattle.std.proofs.Common.{◌∙◌, zero, suc, List, [], ◌∷◌, ◌++◌, ap, append_assoc}
 use Rattle.store_history.specs.declared.history.Commit.{Commit}
 use Rattle.filter_state.specs.declared.edit.Edit.{Edit}
-use Rattle.desk_line_actions.specs.Put.{HaveNoSlots}
+use Rattle.desk_parts.specs.OfLineActions.Put.{HaveNoSlots}
 use Rattle.desk_edits.specs.Ahead.{GoesOnAside}
 
 both_none : (xs ys : List (Commit Edit)) → HaveNoSlots xs → HaveNoSlots ys → HaveNoSlots (xs ++ ys)

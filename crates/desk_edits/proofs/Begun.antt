@@ -18,13 +18,13 @@ use Rattle.filter_state.specs.States.{State}
 use Rattle.filter_state.specs.Sound.{Sound}
 use Rattle.block_codec.specs.declared.mask.StoredMask.{StoredMask}
 use Rattle.block_codec.specs.declared.table.StoredTable.{StoredTable}
-use Rattle.block_reading.specs.Read.{mask_of_words}
+use Rattle.block_codec.specs.OfReadings.Read.{mask_of_words}
 use Rattle.filter_state.specs.Order.{of_mask}
-use Rattle.edit_effect_laws.specs.Parts.{Stands, filter_of}
+use Rattle.hook_meaning.specs.OfEffects.Parts.{Stands, filter_of}
 use Rattle.std.proofs.lemmas.List.{length-map}
 use Rattle.mask_table.specs.Buckets.{bucket_root}
-use Rattle.mask_mirror.specs.declared.mirror.KeptMask.{KeptMask}
-use Rattle.mask_mirror.specs.Forgetting.{blocks_of, bucket_blocks}
+use Rattle.mask_table.specs.declared.mirrors.mirror.KeptMask.{KeptMask}
+use Rattle.mask_table.specs.OfMirrors.Forgetting.{blocks_of, bucket_blocks}
 use Rattle.mask_writer.specs.Masks.{Masks}
 use Rattle.mask_writer.specs.Standing.{StandsAt}
 use Rattle.mask_writer.proofs.Standing.{record_read, mask_storable}
@@ -38,13 +38,13 @@ use Rattle.hook_meaning.specs.Stated.{hook_meaning, tables_at, filters_at, filte
 use Rattle.hook_meaning.specs.Blocks.{mask_record, hook_codec}
 use Rattle.hook_meaning.proofs.Reading.{first_maps}
 use Rattle.hook_store_law.specs.Kept.{KeepsHook}
-use Rattle.hook_edit_laws.specs.Premises.{now, next}
-use Rattle.hook_edit_laws.proofs.Accepted.{sound, next_sound}
-use Rattle.head_chain_laws.specs.Chains.{stated_of, IsNamedIn}
-use Rattle.head_chain_laws.proofs.HeadChains.{small_first, names_in as names_of_chain}
-use Rattle.head_commit_laws.specs.Listed.{HasSerial}
-use Rattle.head_commit_laws.proofs.Places.{one_place, root_has, state_has, has_named}
-use Rattle.head_commit_laws.proofs.Standing.{listed, standing}
+use Rattle.hook_store_law.specs.OfEdits.Premises.{now, next}
+use Rattle.hook_store_law.proofs.OfEdits.Accepted.{sound, next_sound}
+use Rattle.desk_masks.specs.OfHeadChains.Chains.{stated_of, IsNamedIn}
+use Rattle.desk_masks.proofs.OfHeadChains.HeadChains.{small_first, names_in as names_of_chain}
+use Rattle.desk_heads.specs.OfHeadCommits.Listed.{HasSerial}
+use Rattle.desk_heads.proofs.OfHeadCommits.Places.{one_place, root_has, state_has, has_named}
+use Rattle.desk_heads.proofs.OfHeadCommits.Standing.{listed, standing}
 use Rattle.number_pools.specs.Numbers.{PoolNumbers}
 use Rattle.desk_pools.specs.declared.pools.Pools.{Pools}
 use Rattle.desk_pools.specs.Pools.{ArePools}
@@ -52,9 +52,9 @@ use Rattle.desk_pools.specs.Steps.{IsInPool, turned}
 use Rattle.desk_masks.specs.declared.hook_tables.HookTables.{HookTables}
 use Rattle.desk_masks.specs.Masks.{HasMasks, HasMask}
 use Rattle.desk_masks.specs.Tables.{HasTables}
-use Rattle.desk_finding.proofs.Standing.{stored_stated}
-use Rattle.filter_commit_laws.proofs.Locating.{own_serial}
-use Rattle.desk_resize.proofs.Counting.{count_blocks}
+use Rattle.desk_parts.proofs.OfFinding.Standing.{stored_stated}
+use Rattle.desk_masks.proofs.OfFilterCommits.Locating.{own_serial}
+use Rattle.desk_masks.proofs.OfResizes.Counting.{count_blocks}
 use Rattle.desk_heads.specs.Closes.{ClosesMasks, HoldsMasks, IsGone}
 use Rattle.desk_heads.proofs.Closed.{close_gives}
 use Rattle.desk_heads.proofs.TablesGiven.{old_at}

@@ -5,9 +5,9 @@ use Rattle.filter_state.specs.declared.edit.Edit.{Edit}
 use Rattle.hook_lists.specs.declared.kept.Kept.{Kept}
 use Rattle.hook_law.specs.Standing.{IsIn}
 use Rattle.desk_pools.specs.declared.pools.Pools.{Pools}
-use Rattle.desk_ledger.specs.Kept.{commits, base}
+use Rattle.desk_actions.specs.OfLedgers.Kept.{commits, base}
 use Rattle.desk_actions.specs.Places.{Placed}
-use Rattle.desk_line_actions.specs.Dropped.{MayGo, AreDropped}
+use Rattle.desk_parts.specs.OfLineActions.Dropped.{MayGo, AreDropped}
 use Rattle.desk_parts.specs.declared.parts.Parts.{Parts}
 use Rattle.desk_parts.specs.Desk.{IsDesk}
 

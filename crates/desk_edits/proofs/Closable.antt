@@ -10,22 +10,22 @@ use Rattle.filter_state.specs.declared.edit.Edit.TheVariants as edits
 use Rattle.filter_state.specs.declared.refusal.Done.{Done}
 use Rattle.filter_state.specs.States.{State}
 use Rattle.block_codec.specs.declared.table.StoredTable.{StoredTable}
-use Rattle.edit_effect_laws.specs.Parts.{Stands}
-use Rattle.mask_mirror.specs.declared.mirror.KeptMask.{KeptMask}
+use Rattle.hook_meaning.specs.OfEffects.Parts.{Stands}
+use Rattle.mask_table.specs.declared.mirrors.mirror.KeptMask.{KeptMask}
 use Rattle.mask_writer.specs.Masks.{Masks}
 use Rattle.miniq_pair.specs.Pairs.{swap_commit}
 use Rattle.hook_law.specs.Standing.{IsIn, IsMaskAt}
 use Rattle.hook_meaning.specs.Stated.{filters_at}
 use Rattle.hook_meaning.specs.Blocks.{hook_codec}
-use Rattle.hook_edit_laws.specs.Premises.{now, next, IsAccepted, LeavesOtherHook}
-use Rattle.hook_edit_laws.proofs.Heading.{mask_gone_after, table_gone_after}
-use Rattle.hook_edit_laws.proofs.OneMask.{loses_after}
-use Rattle.head_commit_laws.proofs.Standing.{stands_filters}
+use Rattle.hook_store_law.specs.OfEdits.Premises.{now, next, IsAccepted, LeavesOtherHook}
+use Rattle.hook_store_law.proofs.OfEdits.Heading.{mask_gone_after, table_gone_after}
+use Rattle.hook_store_law.proofs.OfEdits.OneMask.{loses_after}
+use Rattle.desk_heads.proofs.OfHeadCommits.Standing.{stands_filters}
 use Rattle.desk_pools.specs.declared.pools.Pools.{Pools}
 use Rattle.desk_pools.specs.Pools.{ArePools}
 use Rattle.desk_pools.specs.Steps.{turned}
-use Rattle.desk_ledger.specs.declared.ledger.Ledger.{Ledger}
-use Rattle.desk_ledger.specs.Kept.{commits, base}
+use Rattle.desk_actions.specs.declared.ledgers.ledger.Ledger.{Ledger}
+use Rattle.desk_actions.specs.OfLedgers.Kept.{commits, base}
 use Rattle.desk_masks.specs.declared.hook_tables.HookTables.{HookTables}
 use Rattle.desk_masks.specs.Masks.{HasMasks}
 use Rattle.desk_parts.specs.declared.parts.Parts.{Parts}
@@ -35,7 +35,7 @@ use Rattle.desk_heads.specs.Closes.{ClosesMasks, HoldsMasks, IsGone}
 use Rattle.desk_heads.proofs.Held.{held_whole}
 use Rattle.desk_needs.specs.Live.{count_of}
 use Rattle.desk_edits.specs.Swaps.{MaySwap, IsSwapped}
-use Rattle.desk_ways.specs.Ways.{IsAlone, TakesMasks, Closes}
+use Rattle.desk_parts.specs.OfWays.Ways.{IsAlone, TakesMasks, Closes}
 use Rattle.desk_edits.specs.Goes.{AreGone}
 use Rattle.desk_edits.specs.Parting.{is_named, names_in, gone_of, HaveLeft, IsParting, MayAllPart}
 use Rattle.desk_edits.proofs.Desked.{accepted, now_is_next}

@@ -10,9 +10,9 @@ use Rattle.store_history.proofs.Histories.{named_after-append}
 use Rattle.filter_state.specs.declared.edit.Edit.{Edit}
 use Rattle.block_codec.specs.declared.mask.StoredMask.{StoredMask}
 use Rattle.block_codec.specs.declared.table.StoredTable.{StoredTable}
-use Rattle.mask_mirror.specs.Linked.{Placed, bucket_commit, mask_commit, raise_commits}
+use Rattle.mask_table.specs.OfMirrors.Linked.{Placed, bucket_commit, mask_commit, raise_commits}
 use Rattle.miniq_pair.specs.Pairs.{swap_commit}
-use Rattle.desk_line_actions.specs.Put.{IsNoSlot, HaveNoSlots}
+use Rattle.desk_parts.specs.OfLineActions.Put.{IsNoSlot, HaveNoSlots}
 
 -- a commit to no slot of actions, with this stamp
 pub record IsAsideAt (stamp : ℕ) (c : Commit Edit) : Type 0 where

@@ -16,16 +16,16 @@ use Rattle.hook_law.proofs.Growing.{state_pushed}
 use Rattle.hook_law.proofs.Standing.{present_end}
 use Rattle.hook_meaning.specs.Stated.{hook_meaning}
 use Rattle.hook_meaning.specs.Blocks.{hook_codec}
-use Rattle.hook_edit_laws.specs.Premises.{now, next, IsAccepted}
+use Rattle.hook_store_law.specs.OfEdits.Premises.{now, next, IsAccepted}
 use Rattle.desk_pools.specs.declared.pools.Pools.{Pools}
 use Rattle.desk_pools.specs.declared.pools.IdlePlace.{IdlePlace}
 use Rattle.desk_pools.specs.Pools.{ArePools}
 use Rattle.desk_pools.specs.Steps.{IsInPool, turned}
 use Rattle.number_pools.specs.Numbers.{PoolNumbers}
-use Rattle.desk_ledger.specs.declared.ledger.Ledger.{Ledger}
-use Rattle.desk_ledger.specs.Kept.{commits, base, IsWhole}
+use Rattle.desk_actions.specs.declared.ledgers.ledger.Ledger.{Ledger}
+use Rattle.desk_actions.specs.OfLedgers.Kept.{commits, base, IsWhole}
 use Rattle.desk_actions.specs.Places.{slot_of, AreHere, AreHereFor}
-use Rattle.desk_line_actions.proofs.Lasting.{here_goes}
+use Rattle.desk_parts.proofs.OfLineActions.Lasting.{here_goes}
 use Rattle.desk_masks.specs.declared.hook_tables.HookTables.{HookTables}
 use Rattle.desk_masks.specs.Masks.{HasMasks}
 use Rattle.desk_parts.specs.declared.parts.Parts.{Parts}

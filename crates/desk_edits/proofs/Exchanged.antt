@@ -12,12 +12,12 @@ use Rattle.block_codec.specs.declared.filter.StoredFilter.{StoredFilter}
 use Rattle.hook_law.specs.Standing.{IsMaskAt}
 use Rattle.hook_meaning.specs.Stated.{filters_at}
 use Rattle.hook_meaning.specs.Blocks.{hook_codec}
-use Rattle.hook_edit_laws.specs.Premises.{now, next, IsAccepted, Swaps, named_row, filter_of_line}
-use Rattle.hook_edit_laws.proofs.OneMask.{swaps_after}
-use Rattle.desk_ledger.specs.Kept.{commits, base}
-use Rattle.filter_commit_laws.specs.Edits.{IsOfLine, ExchangesFilter}
-use Rattle.desk_filter_names.specs.Named.{CanBeNamed}
-use Rattle.desk_filter_names.proofs.Answering.{stands_last}
+use Rattle.hook_store_law.specs.OfEdits.Premises.{now, next, IsAccepted, Swaps, named_row, filter_of_line}
+use Rattle.hook_store_law.proofs.OfEdits.OneMask.{swaps_after}
+use Rattle.desk_actions.specs.OfLedgers.Kept.{commits, base}
+use Rattle.desk_masks.specs.OfFilterCommits.Edits.{IsOfLine, ExchangesFilter}
+use Rattle.desk_parts.specs.OfFilterNames.Named.{CanBeNamed}
+use Rattle.desk_parts.proofs.OfFilterNames.Answering.{stands_last}
 use Rattle.desk_parts.specs.declared.parts.Parts.{Parts}
 use Rattle.desk_edits.specs.Ahead.{IsAhead}
 use Rattle.desk_edits.proofs.Taken.{accepted_as, can_be_named}

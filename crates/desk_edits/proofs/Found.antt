@@ -7,26 +7,26 @@ use Rattle.filter_state.specs.declared.edit.Edit.{Edit}
 use Rattle.filter_state.specs.declared.refusal.Done.{Done}
 use Rattle.filter_state.specs.States.{Row, State}
 use Rattle.flow_mask.specs.Sizes.{size_of}
-use Rattle.edit_effect_laws.specs.Parts.{filters_of}
-use Rattle.mask_mirror.specs.declared.mirror.KeptMask.{KeptMask}
+use Rattle.hook_meaning.specs.OfEffects.Parts.{filters_of}
+use Rattle.mask_table.specs.declared.mirrors.mirror.KeptMask.{KeptMask}
 use Rattle.mask_writer.specs.Masks.{Masks}
 use Rattle.mask_writer.specs.Standing.{StandsAt}
 use Rattle.hook_law.specs.Meaning.{state_at}
 use Rattle.hook_law.specs.Standing.{IsMaskAt}
 use Rattle.hook_meaning.specs.Stated.{hook_meaning, filter_stated, filters_at}
 use Rattle.hook_meaning.specs.Blocks.{hook_codec}
-use Rattle.hook_edit_laws.specs.Premises.{now, next}
+use Rattle.hook_store_law.specs.OfEdits.Premises.{now, next}
 use Rattle.desk_needs.specs.Live.{count_of}
 use Rattle.desk_need_laws.proofs.Counted.{counted}
-use Rattle.filter_commit_laws.specs.Edits.{HasLater}
-use Rattle.filter_commit_laws.proofs.Locating.{own_serial}
-use Rattle.desk_ledger.specs.Kept.{commits}
-use Rattle.desk_resize.specs.Refit.{count_now}
+use Rattle.desk_masks.specs.OfFilterCommits.Edits.{HasLater}
+use Rattle.desk_masks.proofs.OfFilterCommits.Locating.{own_serial}
+use Rattle.desk_actions.specs.OfLedgers.Kept.{commits}
+use Rattle.desk_masks.specs.OfResizes.Refit.{count_now}
 use Rattle.desk_parts.specs.declared.parts.Parts.{Parts}
 use Rattle.desk_parts.specs.Desk.{hook_shape, cells, IsDesk}
 use Rattle.desk_edits.specs.Ahead.{IsAhead, GoesOnStill}
 use Rattle.desk_edits.proofs.Settled.{size_now}
-use Rattle.desk_ways.specs.Ways.{HasBehind}
+use Rattle.desk_parts.specs.OfWays.Ways.{HasBehind}
 
 pub same_state : (h k : List (Commit Edit)) → edits_of k ≡ edits_of h → now k ≡ now h
 same_state h k same = ap (λ (edits : List Edit). state_at hook_meaning edits (length edits)) same

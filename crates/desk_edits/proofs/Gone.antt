@@ -8,7 +8,7 @@ use Rattle.desk_needs.specs.declared.needs.Needs.{Needs}
 use Rattle.desk_pools.specs.declared.pools.Pools.{Pools}
 use Rattle.desk_actions.specs.Effects.{IsCounted}
 use Rattle.desk_actions.specs.Places.{Placed, slot_of, block_of}
-use Rattle.desk_line_actions.specs.Dropped.{AreDropped}
+use Rattle.desk_parts.specs.OfLineActions.Dropped.{AreDropped}
 use Rattle.desk_edits.specs.Spent.{LeftWithActions}
 
 -- numbers that left last, one for each action

@@ -5,7 +5,7 @@ use Rattle.tc_base.specs.declared.hook.Hook.TheVariants as hooks
 use Rattle.desk_pools.specs.declared.pools.Pools.{Pools}
 use Rattle.desk_pools.specs.Steps.{turned}
 use Rattle.desk_heads.specs.Handed.{idle_of}
-use Rattle.desk_ledger.specs.Kept.{commits, base}
+use Rattle.desk_actions.specs.OfLedgers.Kept.{commits, base}
 use Rattle.desk_parts.specs.declared.parts.Parts.{Parts}
 
 pub masks_led : (old new : Parts) → new ≡ record old { ledger = new.ledger; pools = new.pools; actions = new.actions } → new.masks ≡ old.masks

@@ -19,19 +19,19 @@ use Rattle.hook_law.specs.Numbered.{PutsActions}
 use Rattle.hook_meaning.specs.Stated.{hook_meaning}
 use Rattle.hook_meaning.specs.Blocks.{hook_codec}
 use Rattle.hook_store_law.specs.Kept.{KeepsHook}
-use Rattle.hook_edit_laws.specs.Premises.{now, next, IsAccepted}
-use Rattle.hook_edit_laws.proofs.Accepted.{leads, sound}
+use Rattle.hook_store_law.specs.OfEdits.Premises.{now, next, IsAccepted}
+use Rattle.hook_store_law.proofs.OfEdits.Accepted.{leads, sound}
 use Rattle.desk_pools.specs.declared.pools.Pools.{Pools}
 use Rattle.desk_pools.specs.Pools.{ArePools}
 use Rattle.desk_pools.specs.Steps.{IsInPool}
-use Rattle.desk_ledger.specs.declared.ledger.Ledger.{Ledger}
-use Rattle.desk_ledger.specs.Ledger.{IsLedger}
-use Rattle.desk_ledger.specs.Kept.{commits, base}
-use Rattle.desk_ledger.proofs.Going.{IsDone, done_is}
+use Rattle.desk_actions.specs.declared.ledgers.ledger.Ledger.{Ledger}
+use Rattle.desk_actions.specs.OfLedgers.Ledger.{IsLedger}
+use Rattle.desk_actions.specs.OfLedgers.Kept.{commits, base}
+use Rattle.desk_actions.proofs.OfLedgers.Going.{IsDone, done_is}
 use Rattle.desk_actions.specs.Places.{Placed, slot_of, AreHereFor}
 use Rattle.desk_actions.specs.Effects.{KeepsBlocks}
-use Rattle.desk_line_actions.specs.Put.{IsOfLine, ArePut, IsPlaced, IsNoSlot}
-use Rattle.desk_line_actions.proofs.Living.{made_rises}
+use Rattle.desk_parts.specs.OfLineActions.Put.{IsOfLine, ArePut, IsPlaced, IsNoSlot}
+use Rattle.desk_parts.proofs.OfLineActions.Living.{made_rises}
 use Rattle.desk_masks.specs.declared.hook_tables.HookTables.{HookTables}
 use Rattle.desk_masks.specs.Masks.{HasMasks}
 use Rattle.desk_masks.specs.Tables.{HasTables}

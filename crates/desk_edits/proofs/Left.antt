@@ -12,7 +12,7 @@ use Rattle.desk_pools.specs.Pools.{gone_roots, ArePools}
 use Rattle.desk_pools.specs.Steps.{IsInPool, MayLeave}
 use Rattle.desk_pools.proofs.Several.{have_room}
 use Rattle.desk_actions.specs.Effects.{IsCounted}
-use Rattle.filter_commit_laws.specs.Blocks.{AreOut}
+use Rattle.desk_masks.specs.OfFilterCommits.Blocks.{AreOut}
 
 pub may_leave : (pools : Pools) (k : List (Commit Edit)) (left told : List ℕ) → AreOut k left → ((block : ℕ) → IsIn block left → IsInPool block pools.blocks → ⊥) → told ≡ left
     → MayLeave 16384 (IsLeft (gone_roots pools) k) pools.blocks told

@@ -27,3 +27,4 @@ pub mod Gone
 pub mod Kept
 pub mod Made
 pub mod Staying
+pub mod OfMoves

@@ -7,9 +7,9 @@ use Rattle.filter_state.specs.declared.edit.FilterLine.{FilterLine}
 use Rattle.filter_state.specs.declared.refusal.Done.{Done}
 use Rattle.filter_state.specs.States.{State}
 use Rattle.filter_state.specs.Steps.{step}
-use Rattle.hook_edit_laws.specs.Premises.{now, next, IsAddOf}
-use Rattle.desk_line_actions.specs.Put.{IsOfLine}
-use Rattle.desk_line_actions.proofs.Living.{made_rises}
+use Rattle.hook_store_law.specs.OfEdits.Premises.{now, next, IsAddOf}
+use Rattle.desk_parts.specs.OfLineActions.Put.{IsOfLine}
+use Rattle.desk_parts.proofs.OfLineActions.Living.{made_rises}
 use Rattle.desk_edits.specs.Spent.{made_by}
 
 pub of_line : (s : State) (line : FilterLine) (y : Edit) → IsAddOf s line y → IsOfLine y

@@ -4,7 +4,7 @@ use Rattle.std.specs.List.{IsDistinct, list_any}
 use Rattle.visit_room.specs.declared.names.MaskName.{MaskName}
 use Rattle.block_codec.specs.declared.table.StoredTable.{StoredTable}
 use Rattle.hook_law.specs.Standing.{IsIn}
-use Rattle.head_chain_laws.specs.Chains.{IsNamedIn}
+use Rattle.desk_masks.specs.OfHeadChains.Chains.{IsNamedIn}
 use Rattle.root_pool_laws.proofs.Apart.{in_left, in_right}
 use Rattle.desk_heads.proofs.Distinct.{distinct_more}
 use Rattle.desk_edits.specs.Parting.{has_name, is_named, names_in, gone_of}

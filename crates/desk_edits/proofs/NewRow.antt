@@ -10,11 +10,11 @@ use Rattle.filter_state.specs.Steps.{filter_add}
 use Rattle.filter_state.specs.Tables.{first_where, hook_eq, in_table, has_mask, mask_row, mask_or_next}
 use Rattle.state_laws.proofs.Tests.{bytes_eq_from}
 use Rattle.row_lookup_laws.proofs.Found.{hook_self}
-use Rattle.edit_effect_laws.proofs.Accepted.{same_filter}
-use Rattle.edit_effect_laws.proofs.Adding.{new_row, handle_in, added_state, adds}
-use Rattle.hook_edit_laws.specs.Premises.{now, next, IsAccepted, IsAddOf}
-use Rattle.hook_edit_laws.proofs.Accepted.{at_next}
-use Rattle.hook_edit_laws.proofs.OneMask.{adds_line}
+use Rattle.hook_meaning.proofs.OfEffects.Accepted.{same_filter}
+use Rattle.hook_meaning.proofs.OfEffects.Adding.{new_row, handle_in, added_state, adds}
+use Rattle.hook_store_law.specs.OfEdits.Premises.{now, next, IsAccepted, IsAddOf}
+use Rattle.hook_store_law.proofs.OfEdits.Accepted.{at_next}
+use Rattle.hook_store_law.proofs.OfEdits.OneMask.{adds_line}
 
 -- the first that passes, where the last one alone does
 last_passes : {A : Type 0} (test : A → Bool) (xs : List A) (x : A) → first_where test xs ≡ None → test x ≡ true → first_where test (xs ++ x ∷ []) ≡ Some x

@@ -14,28 +14,28 @@ use Rattle.filter_state.specs.declared.refusal.Done.TheVariants as dones
 use Rattle.filter_state.specs.Tables.{mask_row}
 use Rattle.block_codec.specs.declared.filter.StoredFilter.{StoredFilter}
 use Rattle.block_codec.specs.declared.mask.StoredMask.{StoredMask}
-use Rattle.mask_mirror.specs.Given.{AreGiven}
+use Rattle.mask_table.specs.OfMirrors.Given.{AreGiven}
 use Rattle.mask_order.specs.Fitting.{FitsBlock}
 use Rattle.mask_table.specs.Buckets.{mask_root, bucket_root}
-use Rattle.edit_effect_laws.specs.Parts.{words_of, Stands}
+use Rattle.hook_meaning.specs.OfEffects.Parts.{words_of, Stands}
 use Rattle.hook_law.specs.Records.{StatedFilter}
 use Rattle.hook_law.specs.Meaning.{point_of}
 use Rattle.hook_law.specs.Standing.{IsUnused}
 use Rattle.hook_meaning.specs.Stated.{hook_meaning, filters_at}
 use Rattle.hook_meaning.specs.Blocks.{hook_codec}
 use Rattle.hook_meaning.specs.Told.{with_slots}
-use Rattle.hook_edit_laws.specs.Premises.{now, next, IsAccepted, IsAddOf, filter_of_line, IsMask, LeavesOtherHook}
-use Rattle.hook_edit_laws.proofs.Accepted.{next_sound}
-use Rattle.hook_edit_laws.proofs.Heading.{new_mask_after}
-use Rattle.head_commit_laws.specs.Raised.{stored_next, IsSpareRoot, CanRaise}
+use Rattle.hook_store_law.specs.OfEdits.Premises.{now, next, IsAccepted, IsAddOf, filter_of_line, IsMask, LeavesOtherHook}
+use Rattle.hook_store_law.proofs.OfEdits.Accepted.{next_sound}
+use Rattle.hook_store_law.proofs.OfEdits.Heading.{new_mask_after}
+use Rattle.desk_heads.specs.OfHeadCommits.Raised.{stored_next, IsSpareRoot, CanRaise}
 use Rattle.desk_pools.specs.declared.pools.Pools.{Pools}
-use Rattle.desk_ledger.specs.Kept.{commits, base}
+use Rattle.desk_actions.specs.OfLedgers.Kept.{commits, base}
 use Rattle.desk_masks.proofs.Slotting.{stored_own}
 use Rattle.desk_parts.specs.declared.parts.Parts.{Parts}
-use Rattle.desk_line_actions.specs.Put.{IsNoSlot}
+use Rattle.desk_parts.specs.OfLineActions.Put.{IsNoSlot}
 use Rattle.desk_edits.specs.Ahead.{IsAhead}
-use Rattle.filter_commit_laws.specs.Edits.{IsOfLine}
-use Rattle.desk_filter_names.specs.Named.{CanBeNamed}
+use Rattle.desk_masks.specs.OfFilterCommits.Edits.{IsOfLine}
+use Rattle.desk_parts.specs.OfFilterNames.Named.{CanBeNamed}
 use Rattle.desk_heads.specs.Opens.{OpensMask}
 use Rattle.desk_heads.specs.Handed.{AreHanded}
 use Rattle.desk_edits.specs.Taken.{IsMaskRoom}

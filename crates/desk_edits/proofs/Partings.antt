@@ -7,7 +7,7 @@ use Rattle.store_history.specs.declared.history.Commit.{Commit}
 use Rattle.pin_store.specs.declared.shape.Shape.{Shape}
 use Rattle.filter_state.specs.declared.edit.Edit.{Edit}
 use Rattle.block_codec.specs.declared.table.StoredTable.{StoredTable}
-use Rattle.mask_mirror.specs.declared.mirror.KeptMask.{KeptMask}
+use Rattle.mask_table.specs.declared.mirrors.mirror.KeptMask.{KeptMask}
 use Rattle.mask_writer.specs.Masks.{Masks}
 use Rattle.hook_law.specs.Standing.{IsIn, IsMaskAt}
 use Rattle.hook_meaning.specs.Blocks.{hook_codec}

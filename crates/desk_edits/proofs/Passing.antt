@@ -11,16 +11,16 @@ use Rattle.hook_law.specs.Meaning.{point_of, state_at, IsLive}
 use Rattle.hook_law.specs.Standing.{IsIn}
 use Rattle.hook_meaning.specs.Stated.{hook_meaning}
 use Rattle.hook_meaning.proofs.States.{state_is, sound_after}
-use Rattle.hook_edit_laws.specs.Premises.{now}
+use Rattle.hook_store_law.specs.OfEdits.Premises.{now}
 use Rattle.number_pools.specs.Numbers.{PoolNumbers}
 use Rattle.desk_pools.specs.Steps.{IsInPool}
-use Rattle.desk_ledger.specs.Kept.{commits, base}
+use Rattle.desk_actions.specs.OfLedgers.Kept.{commits, base}
 use Rattle.desk_actions.specs.Places.{Placed, slot_of, AreHereFor}
-use Rattle.desk_line_actions.specs.Dropped.{MayGo}
-use Rattle.desk_line_actions.specs.Gone.{serials_gone}
-use Rattle.desk_line_actions.specs.Put.{IsPlaced}
-use Rattle.desk_line_actions.proofs.Held.{gone_were_live}
-use Rattle.desk_line_actions.proofs.Lasting.{place_goes, here_goes}
+use Rattle.desk_parts.specs.OfLineActions.Dropped.{MayGo}
+use Rattle.desk_parts.specs.OfLineActions.Gone.{serials_gone}
+use Rattle.desk_parts.specs.OfLineActions.Put.{IsPlaced}
+use Rattle.desk_parts.proofs.OfLineActions.Held.{gone_were_live}
+use Rattle.desk_parts.proofs.OfLineActions.Lasting.{place_goes, here_goes}
 use Rattle.desk_parts.specs.declared.parts.Parts.{Parts}
 use Rattle.desk_parts.specs.Desk.{IsDesk}
 use Rattle.desk_edits.specs.Ahead.{IsAhead, GoesOnAside, GoesOnStill}

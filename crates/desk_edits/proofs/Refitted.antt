@@ -20,23 +20,23 @@ use Rattle.hook_law.proofs.Lists.{root_of_none}
 use Rattle.hook_meaning.specs.Stated.{hook_meaning}
 use Rattle.hook_meaning.specs.Blocks.{hook_codec}
 use Rattle.hook_store_law.specs.Kept.{IsKeptAt}
-use Rattle.hook_edit_laws.specs.Premises.{now}
+use Rattle.hook_store_law.specs.OfEdits.Premises.{now}
 use Rattle.desk_pools.specs.declared.pools.IdlePlace.{IdlePlace}
 use Rattle.desk_pools.specs.declared.pools.Pools.{Pools}
 use Rattle.desk_pools.specs.Pools.{IsFreeAt, ArePools}
 use Rattle.desk_pools.specs.Steps.{AreTaken}
-use Rattle.desk_ledger.specs.declared.ledger.Ledger.{Ledger}
-use Rattle.desk_ledger.specs.Kept.{commits, base}
+use Rattle.desk_actions.specs.declared.ledgers.ledger.Ledger.{Ledger}
+use Rattle.desk_actions.specs.OfLedgers.Kept.{commits, base}
 use Rattle.desk_actions.specs.Places.{AreHere, AreHereFor}
-use Rattle.desk_line_actions.specs.Put.{HaveNoSlots}
-use Rattle.desk_line_actions.proofs.Lasting.{here_goes}
+use Rattle.desk_parts.specs.OfLineActions.Put.{HaveNoSlots}
+use Rattle.desk_parts.proofs.OfLineActions.Lasting.{here_goes}
 use Rattle.desk_masks.specs.declared.hook_tables.HookTables.{HookTables}
 use Rattle.desk_masks.specs.Masks.{HasMasks}
 use Rattle.desk_masks.specs.Tables.{HasTables}
 use Rattle.desk_masks.proofs.Going.{tables_go}
 use Rattle.desk_parts.specs.declared.parts.Parts.{Parts}
 use Rattle.desk_parts.specs.Desk.{shape_of, hook_shape, cells, AreSized, IsDesk}
-use Rattle.desk_resize.specs.Refit.{count_now, IsOfRefit, GoesOn, MayRefit, AreOutOf}
+use Rattle.desk_masks.specs.OfResizes.Refit.{count_now, IsOfRefit, GoesOn, MayRefit, AreOutOf}
 use Rattle.desk_edits.specs.Ahead.{IsUnsettled, GoesOnAside}
 
 -- ---- before

@@ -7,14 +7,14 @@ use Rattle.filter_state.specs.declared.refusal.Done.{Done}
 use Rattle.hook_lists.specs.declared.kept.Kept.{Kept}
 use Rattle.hook_law.specs.Meaning.{IsLive}
 use Rattle.hook_meaning.specs.Stated.{hook_meaning}
-use Rattle.hook_edit_laws.specs.Premises.{now, next, IsAccepted, IsOfFilters, NoneComes}
-use Rattle.hook_edit_laws.proofs.OfFilters.{deletion_makes_none}
+use Rattle.hook_store_law.specs.OfEdits.Premises.{now, next, IsAccepted, IsOfFilters, NoneComes}
+use Rattle.hook_store_law.proofs.OfEdits.OfFilters.{deletion_makes_none}
 use Rattle.desk_pools.specs.Steps.{IsInPool}
-use Rattle.desk_ledger.specs.Kept.{commits, base}
+use Rattle.desk_actions.specs.OfLedgers.Kept.{commits, base}
 use Rattle.desk_actions.specs.Places.{slot_of, AreHereFor}
-use Rattle.desk_line_actions.specs.Put.{IsOfLine, IsPlaced}
-use Rattle.desk_line_actions.proofs.Balance.{edit_rises}
-use Rattle.desk_line_actions.proofs.Lasting.{live_place}
+use Rattle.desk_parts.specs.OfLineActions.Put.{IsOfLine, IsPlaced}
+use Rattle.desk_parts.proofs.OfLineActions.Balance.{edit_rises}
+use Rattle.desk_parts.proofs.OfLineActions.Lasting.{live_place}
 use Rattle.desk_parts.specs.declared.parts.Parts.{Parts}
 use Rattle.desk_parts.specs.Desk.{IsDesk}
 use Rattle.desk_edits.specs.Ahead.{IsAhead}

@@ -12,7 +12,7 @@ use Rattle.filter_state.specs.States.{State}
 use Rattle.filter_lists.specs.Spells.{Spells}
 use Rattle.block_codec.specs.declared.mask.StoredMask.{StoredMask}
 use Rattle.mask_table.specs.Buckets.{bucket_root}
-use Rattle.mask_mirror.specs.declared.mirror.KeptMask.{KeptMask}
+use Rattle.mask_table.specs.declared.mirrors.mirror.KeptMask.{KeptMask}
 use Rattle.mask_writer.specs.Masks.{Masks}
 use Rattle.mask_writer.specs.Standing.{StandsAt, BucketOf}
 use Rattle.hook_law.specs.Places as places
@@ -24,22 +24,22 @@ use Rattle.hook_law.proofs.Standing.{mask_back, unused_end}
 use Rattle.hook_meaning.specs.Stated.{hook_meaning}
 use Rattle.hook_meaning.specs.Blocks.{mask_record, hook_codec}
 use Rattle.hook_store_law.specs.Kept.{KeepsHook}
-use Rattle.hook_edit_laws.specs.Premises.{now, next}
+use Rattle.hook_store_law.specs.OfEdits.Premises.{now, next}
 use Rattle.desk_pools.specs.declared.pools.Pools.{Pools}
 use Rattle.desk_pools.specs.Pools.{ArePools}
 use Rattle.desk_pools.specs.Steps.{IsInPool}
-use Rattle.desk_ledger.specs.declared.ledger.Ledger.{Ledger}
-use Rattle.desk_ledger.specs.Kept.{commits, base}
+use Rattle.desk_actions.specs.declared.ledgers.ledger.Ledger.{Ledger}
+use Rattle.desk_actions.specs.OfLedgers.Kept.{commits, base}
 use Rattle.desk_actions.specs.Places.{AreHere, AreHereFor}
-use Rattle.desk_line_actions.specs.Put.{HaveNoSlots}
-use Rattle.desk_line_actions.proofs.Lasting.{here_goes}
+use Rattle.desk_parts.specs.OfLineActions.Put.{HaveNoSlots}
+use Rattle.desk_parts.proofs.OfLineActions.Lasting.{here_goes}
 use Rattle.desk_masks.specs.declared.hook_tables.HookTables.{HookTables}
 use Rattle.desk_masks.specs.Masks.{HasMasks}
 use Rattle.desk_masks.specs.Tables.{HasTables}
 use Rattle.desk_masks.proofs.Going.{tables_go, bucket_stands}
 use Rattle.desk_parts.specs.declared.parts.Parts.{Parts}
 use Rattle.desk_parts.specs.Desk.{shape_of, hook_shape, cells, AreSized}
-use Rattle.desk_resize.proofs.Lists.{list_early}
+use Rattle.desk_masks.proofs.OfResizes.Lists.{list_early}
 use Rattle.desk_edits.specs.Ahead.{HasParts, IsAhead, IsUnsettled, GoesOnAside}
 
 -- what an edit makes of the parts of a desk that it changes: one commit came, with the edit, to the root of a

@@ -7,8 +7,8 @@ use Rattle.store_history.specs.History.{root_of}
 use Rattle.store_history.specs.Reads.{read_first}
 use Rattle.filter_state.specs.declared.edit.Edit.{Edit}
 use Rattle.flow_mask.specs.Sizes.{size_of}
-use Rattle.block_reading.specs.Read.{mask_of_words}
-use Rattle.mask_mirror.specs.declared.mirror.KeptMask.{KeptMask}
+use Rattle.block_codec.specs.OfReadings.Read.{mask_of_words}
+use Rattle.mask_table.specs.declared.mirrors.mirror.KeptMask.{KeptMask}
 use Rattle.mask_writer.specs.Masks.{Masks}
 use Rattle.mask_writer.specs.Standing.{masks_of, StandsAt}
 use Rattle.mask_writer.proofs.Standing.{record_read}
@@ -21,12 +21,12 @@ use Rattle.hook_law.proofs.Standing.{present_end}
 use Rattle.hook_meaning.specs.Stated.{hook_meaning, filters_at}
 use Rattle.hook_meaning.specs.Blocks.{mask_record, hook_codec}
 use Rattle.hook_meaning.proofs.Reading.{first_maps}
-use Rattle.hook_edit_laws.specs.Premises.{now}
-use Rattle.desk_ledger.specs.Kept.{commits, base}
+use Rattle.hook_store_law.specs.OfEdits.Premises.{now}
+use Rattle.desk_actions.specs.OfLedgers.Kept.{commits, base}
 use Rattle.desk_masks.specs.Masks.{HasMasks}
 use Rattle.desk_parts.specs.declared.parts.Parts.{Parts}
 use Rattle.desk_parts.specs.Desk.{hook_shape, cells, IsDesk}
-use Rattle.filter_commit_laws.proofs.Locating.{own_serial}
+use Rattle.desk_masks.proofs.OfFilterCommits.Locating.{own_serial}
 use Rattle.desk_edits.specs.Ahead.{IsUnsettled}
 
 same_record : (one two : MaskRecord) → Some one ≡ Some two → one ≡ two

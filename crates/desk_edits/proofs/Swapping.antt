@@ -7,7 +7,7 @@ use Rattle.store_history.specs.History.{root_of, edits_of}
 use Rattle.pin_store.specs.Sheets.{IsSameButCells}
 use Rattle.pin_store.specs.Calls.{sheet_of, IsUnnamed}
 use Rattle.filter_state.specs.declared.edit.Edit.{Edit}
-use Rattle.mask_mirror.proofs.Keeping.{same_base}
+use Rattle.mask_table.proofs.OfMirrors.Keeping.{same_base}
 use Rattle.miniq_pair.specs.Pairs.{first_block_of, other_place}
 use Rattle.hook_law.specs.Keeping.{IsAtRest}
 use Rattle.hook_meaning.specs.Stated.{hook_meaning}
@@ -16,8 +16,8 @@ use Rattle.hook_store_law.specs.Kept.{KeepsHook, IsKeptAt}
 use Rattle.desk_pools.specs.declared.pools.Pools.{Pools}
 use Rattle.desk_pools.specs.Pools.{IsIdle, ArePools}
 use Rattle.desk_pools.specs.Steps.{turned}
-use Rattle.desk_ledger.specs.declared.ledger.Ledger.{Ledger}
-use Rattle.desk_ledger.specs.Kept.{commits, base}
+use Rattle.desk_actions.specs.declared.ledgers.ledger.Ledger.{Ledger}
+use Rattle.desk_actions.specs.OfLedgers.Kept.{commits, base}
 use Rattle.desk_masks.specs.declared.hook_tables.HookTables.{HookTables}
 use Rattle.desk_masks.specs.Tables.{HasTables}
 use Rattle.desk_parts.specs.Desk.{shape_of}

@@ -6,22 +6,22 @@ use Rattle.filter_state.specs.declared.edit.Edit.{Edit}
 use Rattle.filter_state.specs.declared.edit.FilterLine.{FilterLine}
 use Rattle.filter_state.specs.declared.refusal.Done.{Done}
 use Rattle.filter_state.specs.States.{State}
-use Rattle.mask_mirror.specs.Given.{AreGiven}
+use Rattle.mask_table.specs.OfMirrors.Given.{AreGiven}
 use Rattle.hook_law.specs.Records.{StatedFilter}
 use Rattle.hook_law.specs.Standing.{IsIn}
 use Rattle.hook_law.proofs.Standing.{present_end}
 use Rattle.hook_meaning.specs.Stated.{hook_meaning, filters_at}
 use Rattle.hook_meaning.specs.Blocks.{hook_codec}
-use Rattle.hook_edit_laws.specs.Premises.{now, next, IsAccepted, Loses, filter_of_line}
-use Rattle.hook_edit_laws.proofs.Accepted.{next_sound}
+use Rattle.hook_store_law.specs.OfEdits.Premises.{now, next, IsAccepted, Loses, filter_of_line}
+use Rattle.hook_store_law.proofs.OfEdits.Accepted.{next_sound}
 use Rattle.desk_pools.specs.declared.pools.Pools.{Pools}
 use Rattle.desk_pools.specs.Pools.{ArePools}
 use Rattle.desk_pools.specs.Steps as steps
 use Rattle.desk_pools.specs.Steps.{IsInPool}
-use Rattle.desk_ledger.specs.Kept.{commits, base}
+use Rattle.desk_actions.specs.OfLedgers.Kept.{commits, base}
 use Rattle.desk_actions.specs.Places.{slot_of}
-use Rattle.filter_commit_laws.specs.Blocks.{AreTaken}
-use Rattle.desk_filter_names.specs.Named.{CanBeNamed}
+use Rattle.desk_masks.specs.OfFilterCommits.Blocks.{AreTaken}
+use Rattle.desk_parts.specs.OfFilterNames.Named.{CanBeNamed}
 use Rattle.desk_parts.specs.declared.parts.Parts.{Parts}
 use Rattle.desk_parts.specs.Desk.{AreSized}
 use Rattle.desk_edits.specs.Ahead.{IsAhead}

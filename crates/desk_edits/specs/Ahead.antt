@@ -19,12 +19,12 @@ use Rattle.hook_law.specs.Numbered.{PutsActions}
 use Rattle.hook_meaning.specs.Stated.{hook_meaning}
 use Rattle.hook_meaning.specs.Blocks.{hook_codec}
 use Rattle.hook_store_law.specs.Kept.{KeepsHook}
-use Rattle.hook_edit_laws.specs.Premises.{now, next}
+use Rattle.hook_store_law.specs.OfEdits.Premises.{now, next}
 use Rattle.desk_pools.specs.Pools.{ArePools}
 use Rattle.desk_pools.specs.Steps.{IsInPool}
-use Rattle.desk_ledger.specs.Kept.{commits, base}
+use Rattle.desk_actions.specs.OfLedgers.Kept.{commits, base}
 use Rattle.desk_actions.specs.Places.{slot_of, AreHere, AreHereFor}
-use Rattle.desk_line_actions.specs.Put.{IsPlaced, IsNoSlot, HaveNoSlots}
+use Rattle.desk_parts.specs.OfLineActions.Put.{IsPlaced, IsNoSlot, HaveNoSlots}
 use Rattle.desk_masks.specs.Masks.{HasMasks}
 use Rattle.desk_masks.specs.Tables.{HasTables}
 use Rattle.desk_parts.specs.declared.parts.Parts.{Parts}

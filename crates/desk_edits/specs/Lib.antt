@@ -5,3 +5,4 @@ pub mod Lines
 pub mod Parting
 pub mod Goes
 pub mod Spent
+pub mod OfMoves

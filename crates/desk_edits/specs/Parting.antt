@@ -12,8 +12,8 @@ use Rattle.visit_room.specs.declared.names.MaskName.{MaskName}
 use Rattle.filter_state.specs.declared.edit.Edit.{Edit}
 use Rattle.block_codec.specs.declared.table.StoredTable.{StoredTable}
 use Rattle.block_codec.specs.declared.places.TheConstants.{MASK_SLOTS, ROW_BUCKETS}
-use Rattle.mask_mirror.specs.declared.mirror.KeptMask.{KeptMask}
-use Rattle.mask_mirror.specs.Forgetting.{bucket_blocks}
+use Rattle.mask_table.specs.declared.mirrors.mirror.KeptMask.{KeptMask}
+use Rattle.mask_table.specs.OfMirrors.Forgetting.{bucket_blocks}
 use Rattle.mask_writer.specs.Masks.{Masks}
 use Rattle.mask_writer.specs.Standing.{StandsAt}
 use Rattle.hook_law.specs.Standing.{IsIn, IsMaskAt}

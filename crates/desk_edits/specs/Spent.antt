@@ -6,14 +6,14 @@ use Rattle.filter_state.specs.declared.edit.Edit.{Edit}
 use Rattle.hook_law.specs.Meaning.{IsLive}
 use Rattle.hook_law.specs.Standing.{IsIn}
 use Rattle.hook_meaning.specs.Stated.{hook_meaning}
-use Rattle.hook_edit_laws.specs.Premises.{now, next}
+use Rattle.hook_store_law.specs.OfEdits.Premises.{now, next}
 use Rattle.desk_needs.specs.declared.needs.Needs.{Needs}
 use Rattle.desk_needs.specs.Needs.{made}
 use Rattle.desk_pools.specs.declared.pools.Pools.{Pools}
 use Rattle.desk_actions.specs.Effects.{IsCounted}
 use Rattle.desk_edits.specs.declared.room.Room.{Room}
-use Rattle.desk_ways.specs.declared.way.Way.{Way}
-use Rattle.desk_ways.specs.Ways.{needs_by}
+use Rattle.desk_parts.specs.declared.ways.way.Way.{Way}
+use Rattle.desk_parts.specs.OfWays.Ways.{needs_by}
 
 -- how many actions the edit makes, after these commits
 abbrev pub made_by : List (Commit Edit) → Edit → ℕ

@@ -13,12 +13,12 @@ use Rattle.hook_law.specs.Keeping.{IsAtRest}
 use Rattle.hook_meaning.specs.Stated.{hook_meaning}
 use Rattle.hook_meaning.specs.Blocks.{hook_codec}
 use Rattle.hook_store_law.specs.Kept.{IsKeptAt}
-use Rattle.hook_edit_laws.specs.Premises.{next}
+use Rattle.hook_store_law.specs.OfEdits.Premises.{next}
 use Rattle.desk_pools.specs.declared.pools.Pools.{Pools}
 use Rattle.desk_pools.specs.Pools.{ArePools}
 use Rattle.desk_pools.specs.Steps.{turned}
-use Rattle.desk_ledger.specs.declared.ledger.Ledger.{Ledger}
-use Rattle.desk_ledger.specs.Kept.{commits, base}
+use Rattle.desk_actions.specs.declared.ledgers.ledger.Ledger.{Ledger}
+use Rattle.desk_actions.specs.OfLedgers.Kept.{commits, base}
 use Rattle.desk_masks.specs.declared.hook_tables.HookTables.{HookTables}
 use Rattle.desk_masks.specs.Tables.{HasTables}
 use Rattle.desk_parts.specs.declared.parts.Parts.{Parts}

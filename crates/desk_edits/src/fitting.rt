@@ -4,13 +4,13 @@ ghost use Rattle.store_history.specs.History.{edits_of};
 ghost use Rattle.pin_store.specs.Sheets.{IsSameButCells};
 ghost use Rattle.pin_store.specs.Calls.{sheet_of, IsSeatOf};
 ghost use Rattle.flow_mask.specs.Sizes.{size_of};
-ghost use Rattle.mask_mirror.specs.declared.mirror.KeptMask.{KeptMask};
+ghost use Rattle.mask_table.specs.declared.mirrors.mirror.KeptMask.{KeptMask};
 ghost use Rattle.mask_writer.specs.Standing.{StandsAt};
 ghost use Rattle.desk_need_laws.specs.Told.{blocks_anew, rows_anew};
-ghost use Rattle.desk_ledger.specs.Kept.{commits};
+ghost use Rattle.desk_actions.specs.OfLedgers.Kept.{commits};
 ghost use Rattle.desk_actions.specs.Effects.{IsCounted};
 ghost use Rattle.desk_parts.specs.Desk.{IsDesk};
-ghost use Rattle.desk_resize.specs.Refit.{count_now};
+ghost use Rattle.desk_masks.specs.OfResizes.Refit.{count_now};
 ghost use Rattle.desk_edits.specs.Ahead.{IsUnsettled, GoesOnAside};
 ghost use Rattle.desk_edits.specs.Spent.{HasRoom};
 

@@ -5,12 +5,12 @@ ghost use Rattle.pin_store.specs.Sheets.{IsSameButCells};
 ghost use Rattle.pin_store.specs.Calls.{sheet_of, IsSeatOf};
 ghost use Rattle.filter_state.specs.Lines.{IsLine};
 ghost use Rattle.filter_state.specs.Steps.{step};
-ghost use Rattle.hook_edit_laws.specs.Premises.{now, next};
-ghost use Rattle.desk_ledger.specs.Kept.{commits};
-ghost use Rattle.desk_line_actions.specs.Gone.{NamesGone};
+ghost use Rattle.hook_store_law.specs.OfEdits.Premises.{now, next};
+ghost use Rattle.desk_actions.specs.OfLedgers.Kept.{commits};
+ghost use Rattle.desk_parts.specs.OfLineActions.Gone.{NamesGone};
 ghost use Rattle.desk_parts.specs.Desk.{IsDesk};
-ghost use Rattle.desk_ways.specs.declared.way.Way.TheVariants as ways;
-ghost use Rattle.desk_ways.specs.Ways.{InPlace};
+ghost use Rattle.desk_parts.specs.declared.ways.way.Way.TheVariants as ways;
+ghost use Rattle.desk_parts.specs.OfWays.Ways.{InPlace};
 ghost use Rattle.desk_edits.specs.Spent.{needed, HaveFree, HasRoom, LeftWithActions};
 
 use crate::exchanging::exchange_in_mask;

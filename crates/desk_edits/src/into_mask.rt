@@ -6,13 +6,13 @@ ghost use Rattle.pin_store.specs.Calls.{sheet_of, IsSeatOf};
 ghost use Rattle.filter_state.specs.declared.limits.TheConstants.{FILTERS_MAX};
 ghost use Rattle.filter_state.specs.Lines.{IsLine};
 ghost use Rattle.filter_state.specs.Steps.{step};
-ghost use Rattle.hook_edit_laws.specs.Premises.{now, next};
+ghost use Rattle.hook_store_law.specs.OfEdits.Premises.{now, next};
 ghost use Rattle.desk_need_laws.specs.Told.{blocks_anew, rows_anew};
-ghost use Rattle.desk_ledger.specs.Kept.{commits};
+ghost use Rattle.desk_actions.specs.OfLedgers.Kept.{commits};
 ghost use Rattle.desk_actions.specs.Effects.{IsCounted};
 ghost use Rattle.desk_parts.specs.Desk.{IsDesk};
-ghost use Rattle.desk_ways.specs.declared.way.Way.TheVariants as ways;
-ghost use Rattle.desk_ways.specs.Ways.{IntoMask};
+ghost use Rattle.desk_parts.specs.declared.ways.way.Way.TheVariants as ways;
+ghost use Rattle.desk_parts.specs.OfWays.Ways.{IntoMask};
 ghost use Rattle.desk_edits.specs.Spent.{made_by, needed, HaveFree, HasRoom};
 
 use crate::adding::add_to_mask;

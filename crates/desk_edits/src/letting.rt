@@ -1,11 +1,11 @@
 //! The last part of each edit of filters: actions go.
 ghost use Rattle.std.specs.Prelude.{◌≡◌, ℕ};
-ghost use Rattle.desk_ledger.specs.Kept.{commits, base};
-ghost use Rattle.desk_line_actions.specs.Dropped.{MayGo, AreDropped};
+ghost use Rattle.desk_actions.specs.OfLedgers.Kept.{commits, base};
+ghost use Rattle.desk_parts.specs.OfLineActions.Dropped.{MayGo, AreDropped};
 ghost use Rattle.desk_parts.specs.Desk.{IsDesk};
 
-use desk_line_actions::drop_dead_actions;
 use desk_parts::Parts;
+use desk_parts::line_actions::drop_dead_actions;
 
 /// Lets the actions go of these serials that are live no more, once the edit's commits are made: their slots
 /// and blocks leave, each once. A serial may be named more than once, or be of an action that others hold.

@@ -24,11 +24,11 @@
 //! Whole edits are made of these parts: one filter of a mask that stands comes, gives way to another or goes
 //! (`put_into_mask`, `exchange_in_place`, `take_out_of_mask`), a filter comes with a mask of its own
 //! (`put_with_mask`), or masks go with all their filters (`take_masks`). Each asks for a desk, for the way
-//! that `desk_ways` found on it and for what `needs_by` tells of that way, and leaves a desk again, one edit
-//! further. What was found holds of the desk before the edit, and each commit asks for it as things are then.
-//! Between the two come only commits that carry no edit and change no head, so every mask is still at its
-//! slot, with as many filters (`proofs/Found.antt`). As much is taken as is needed, and what leaves is told
-//! (`specs/Spent.antt`).
+//! that `ways` of `desk_parts` found on it and for what `needs_by` tells of that way, and leaves a desk
+//! again, one edit further. What was found holds of the desk before the edit, and each commit asks for it as
+//! things are then. Between the two come only commits that carry no edit and change no head, so every mask is
+//! still at its slot, with as many filters (`proofs/Found.antt`). As much is taken as is needed, and what
+//! leaves is told (`specs/Spent.antt`).
 //!
 //! The numbers that a commit takes come out of the pools inside its call, so that what is known of free ones
 //! holds of the very commits that it finds; those that it sets free leave. Memory may be refused only before
@@ -38,13 +38,13 @@
 //! The thread that has the store's writer calls, with an edit that was made ready before. A call refuses
 //! nothing, takes no memory and doesn't wait.
 //!
-//! Not here: a filter that moves to another mask or key, which `desk_move_edits` does. It takes numbers for
-//! the masks that it lays anew by `take_for_mask`, and parts with each at its old slot by `part_with`.
+//! A filter that moves to another mask or key is done by `moves`. It takes numbers for the masks that it lays
+//! anew by `take_for_mask`, and parts with each at its old slot by `part_with`.
 //!
 //! Not promised: that the pools have what is taken, that the idle place of a hook is free, or that `later`
 //! filters are counted right. All are the caller's to see to, by tidying or else, and by `later_in_bucket` of
-//! `desk_filters`; and so it is to tell which kind of edit it is, as `way_of` of `desk_ways` does. Such a
-//! caller, for any kind of edit, is `desk_plans`.
+//! `filters` of `desk_masks`; and so it is to tell which kind of edit it is, as `way_of` of `ways` of
+//! `desk_parts` does. Such a caller, for any kind of edit, is `shared_hook`.
 #![tactic(auto)]
 
 mod adding;
@@ -57,6 +57,7 @@ mod laws;
 mod leading;
 mod leaving;
 mod letting;
+pub mod moves;
 mod opening;
 mod out_of_mask;
 mod removing;

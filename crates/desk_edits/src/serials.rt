@@ -5,7 +5,7 @@ ghost use Rattle.filter_state.specs.Tables.{mask_row};
 ghost use Rattle.filter_lists.specs.Spells.{Spells};
 ghost use Rattle.desk_edits.specs.Lines.{IsLineMask};
 
-use desk_finding::table_at;
+use desk_parts::finding::table_at;
 use filter_lists::{Done, FilterLine, Lists};
 use hook_lists::mask_at;
 

@@ -8,7 +8,7 @@ use Rattle.pin_store.specs.declared.shape.Shape.{Shape}
 use Rattle.pin_store.specs.Calls.{IsUnnamed}
 use Rattle.filter_state.specs.declared.edit.Edit.{Edit}
 use Rattle.block_codec.specs.declared.table.StoredTable.{StoredTable}
-use Rattle.edit_effect_laws.specs.Parts.{Stands}
+use Rattle.hook_meaning.specs.OfEffects.Parts.{Stands}
 use Rattle.mask_writer.specs.Masks.{Masks}
 use Rattle.miniq_pair.specs.Pairs.{first_block_of, swap_commit}
 use Rattle.hook_law.specs.Meaning.{point_of}
@@ -17,9 +17,9 @@ use Rattle.hook_law.specs.Keeping.{IsAtRest}
 use Rattle.hook_meaning.specs.Stated.{hook_meaning}
 use Rattle.hook_meaning.specs.Blocks.{hook_codec}
 use Rattle.hook_store_law.specs.Kept.{KeepsHook}
-use Rattle.hook_edit_laws.specs.Premises.{next}
-use Rattle.head_commit_laws.specs.Built.{IsBuilt, IsConcerned, IsGiven}
-use Rattle.head_commit_laws.proofs.Giving.{head_lawful, head_rest}
+use Rattle.hook_store_law.specs.OfEdits.Premises.{next}
+use Rattle.desk_heads.specs.OfHeadCommits.Built.{IsBuilt, IsConcerned, IsGiven}
+use Rattle.desk_heads.proofs.OfHeadCommits.Giving.{head_lawful, head_rest}
 use Rattle.desk_pools.specs.declared.pools.Pools.{Pools}
 use Rattle.desk_pools.specs.Pools.{ArePools}
 use Rattle.desk_pools.specs.Steps.{turned}

@@ -11,9 +11,9 @@ use Rattle.pin_store.specs.Calls.{IsUnnamed}
 use Rattle.filter_state.specs.declared.edit.Edit.{Edit}
 use Rattle.filter_state.specs.Order.{of_mask}
 use Rattle.block_codec.specs.declared.table.StoredTable.{StoredTable}
-use Rattle.edit_effect_laws.specs.Parts.{Stands}
+use Rattle.hook_meaning.specs.OfEffects.Parts.{Stands}
 use Rattle.mask_table.specs.Buckets.{bucket_root}
-use Rattle.mask_mirror.specs.declared.mirror.KeptMask.{KeptMask}
+use Rattle.mask_table.specs.declared.mirrors.mirror.KeptMask.{KeptMask}
 use Rattle.mask_writer.specs.Masks.{Masks}
 use Rattle.mask_writer.specs.Standing.{StandsAt, Holds, BucketOf}
 use Rattle.mask_writer.proofs.Standing.{held_later}
@@ -27,11 +27,11 @@ use Rattle.hook_law.proofs.Standing.{present_end}
 use Rattle.hook_meaning.specs.Stated.{hook_meaning}
 use Rattle.hook_meaning.specs.Blocks.{mask_record, hook_codec}
 use Rattle.hook_store_law.specs.Kept.{KeepsHook}
-use Rattle.hook_edit_laws.specs.Premises.{next}
-use Rattle.mask_resize_laws.specs.Resized.{stored_now}
+use Rattle.hook_store_law.specs.OfEdits.Premises.{next}
+use Rattle.desk_masks.specs.OfMaskResizes.Resized.{stored_now}
 use Rattle.root_pool_laws.proofs.Apart.{in_left, in_right}
-use Rattle.head_commit_laws.specs.Built.{IsBuilt, IsConcerned, IsGiven}
-use Rattle.head_commit_laws.proofs.Giving.{sort_after, keeps_slot, edits_after, stored_still, comes, fresh_named}
+use Rattle.desk_heads.specs.OfHeadCommits.Built.{IsBuilt, IsConcerned, IsGiven}
+use Rattle.desk_heads.proofs.OfHeadCommits.Giving.{sort_after, keeps_slot, edits_after, stored_still, comes, fresh_named}
 use Rattle.desk_masks.specs.Masks.{HasMasks}
 use Rattle.desk_masks.proofs.Going.{bucket_stands}
 use Rattle.desk_pools.specs.declared.pools.Pools.{Pools}

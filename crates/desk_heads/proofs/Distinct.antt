@@ -7,14 +7,14 @@ use Rattle.store_history.specs.declared.history.Named.{Named}
 use Rattle.pin_store.specs.declared.shape.Shape.{Shape}
 use Rattle.pin_store.specs.Layout.{block_words, block_in}
 use Rattle.block_codec.specs.Filters.{IsFilterBlock}
-use Rattle.mask_mirror.specs.Linked.{Placed}
-use Rattle.mask_mirror.specs.Forgetting.{blocks_of}
-use Rattle.mask_mirror.proofs.Chains.{one_behind, filter_link}
+use Rattle.mask_table.specs.OfMirrors.Linked.{Placed}
+use Rattle.mask_table.specs.OfMirrors.Forgetting.{blocks_of}
+use Rattle.mask_table.proofs.OfMirrors.Chains.{one_behind, filter_link}
 use Rattle.mask_writer.specs.Standing.{AreFiled, first_in}
 use Rattle.hook_law.specs.Standing.{IsIn, AreDistinct}
 use Rattle.root_pool_laws.specs.Blocks.{IsBlockOf}
 use Rattle.root_pool_laws.proofs.Apart.{in_append, distinct_append}
-use Rattle.mask_resize_laws.proofs.Resizing.{mapped_at}
+use Rattle.desk_masks.proofs.OfMaskResizes.Resizing.{mapped_at}
 
 -- ---- lists
 pub distinct_more : (x : ℕ) (xs : List ℕ) → (IsIn x xs → ⊥) → IsDistinct eqb xs → IsDistinct eqb (x ∷ xs)

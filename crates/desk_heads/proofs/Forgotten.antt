@@ -11,10 +11,10 @@ use Rattle.filter_state.specs.declared.edit.Edit.{Edit}
 use Rattle.block_codec.specs.declared.filter.StoredFilter.{StoredFilter}
 use Rattle.block_codec.specs.declared.mask.StoredMask.{StoredMask}
 use Rattle.mask_table.specs.Buckets.{bucket_root}
-use Rattle.mask_mirror.specs.declared.mirror.KeptMask.{KeptMask}
-use Rattle.mask_mirror.specs.Linked.{Placed}
-use Rattle.mask_mirror.specs.Forgetting.{bucket_blocks}
-use Rattle.mask_mirror.proofs.Forgetting.{link_blocks}
+use Rattle.mask_table.specs.declared.mirrors.mirror.KeptMask.{KeptMask}
+use Rattle.mask_table.specs.OfMirrors.Linked.{Placed}
+use Rattle.mask_table.specs.OfMirrors.Forgetting.{bucket_blocks}
+use Rattle.mask_table.proofs.OfMirrors.Forgetting.{link_blocks}
 use Rattle.mask_writer.specs.Masks.{Masks}
 use Rattle.mask_writer.specs.Standing.{masks_of, chain_at, StandsAt, Holds, BucketOf, AreNamed}
 use Rattle.mask_writer.proofs.Standing.{chain_named, mask_storable}
@@ -26,7 +26,7 @@ use Rattle.root_pool_laws.specs.Blocks.{HasBlock}
 use Rattle.root_pool_laws.specs.Pools.{IsEmptyRoot}
 use Rattle.root_pool_laws.proofs.Apart.{in_append, in_left, in_right}
 use Rattle.root_pool_laws.proofs.Blocks.{unnamed_end}
-use Rattle.mask_resize_laws.proofs.Resizing.{mapped_at, range_at}
+use Rattle.desk_masks.proofs.OfMaskResizes.Resizing.{mapped_at, range_at}
 use Rattle.desk_pools.specs.declared.pools.Pools.{Pools}
 use Rattle.desk_pools.specs.Pools.{roots_of, gone_roots, IsLeftAt, ArePools}
 use Rattle.desk_pools.specs.Steps.{IsInPool}

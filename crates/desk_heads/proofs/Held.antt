@@ -7,7 +7,7 @@ use Rattle.store_history.specs.History.{root_of}
 use Rattle.pin_store.specs.declared.shape.Shape.{Shape}
 use Rattle.filter_state.specs.declared.edit.Edit.{Edit}
 use Rattle.mask_table.specs.Buckets.{mask_root}
-use Rattle.mask_mirror.specs.declared.mirror.KeptMask.{KeptMask}
+use Rattle.mask_table.specs.declared.mirrors.mirror.KeptMask.{KeptMask}
 use Rattle.mask_writer.specs.Masks.{Masks}
 use Rattle.mask_writer.specs.Standing.{masks_of, StandsAt, BucketOf, AreNamed}
 use Rattle.mask_writer.proofs.Standing.{mask_storable}

@@ -8,10 +8,10 @@ use Rattle.pin_store.specs.Layout.{block_words}
 use Rattle.block_codec.specs.Filters.{IsFilterBlock}
 use Rattle.block_codec.specs.Masks.{IsMaskBlock}
 use Rattle.mask_table.specs.Buckets.{mask_root, bucket_root}
-use Rattle.mask_mirror.specs.declared.mirror.KeptMask.{KeptMask}
-use Rattle.mask_mirror.specs.Kept.{Names, KeepsMask}
-use Rattle.mask_mirror.specs.Linked.{Placed}
-use Rattle.mask_mirror.proofs.Chains.{links_same, block_there}
+use Rattle.mask_table.specs.declared.mirrors.mirror.KeptMask.{KeptMask}
+use Rattle.mask_table.specs.OfMirrors.Kept.{Names, KeepsMask}
+use Rattle.mask_table.specs.OfMirrors.Linked.{Placed}
+use Rattle.mask_table.proofs.OfMirrors.Chains.{links_same, block_there}
 use Rattle.mask_writer.specs.Masks.{Masks}
 use Rattle.mask_writer.specs.Standing.{AreFiled, first_in, NamesChain, AreNamed, StandsAt, chain_at}
 use Rattle.mask_writer.proofs.Standing.{chain_named}

@@ -14,3 +14,5 @@ pub mod CloseSteps
 pub mod Distinct
 pub mod Forgotten
 pub mod Held
+pub mod OfHeadCommits
+pub mod OfMoves

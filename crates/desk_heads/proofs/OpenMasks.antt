@@ -17,9 +17,9 @@ use Rattle.filter_state.specs.States.{State}
 use Rattle.block_codec.specs.declared.filter.StoredFilter.{StoredFilter}
 use Rattle.block_codec.specs.declared.mask.StoredMask.{StoredMask}
 use Rattle.block_codec.specs.declared.table.StoredTable.{StoredTable}
-use Rattle.edit_effect_laws.specs.Parts.{Stands}
+use Rattle.hook_meaning.specs.OfEffects.Parts.{Stands}
 use Rattle.mask_table.specs.Buckets.{bucket_root}
-use Rattle.mask_mirror.specs.declared.mirror.KeptMask.{KeptMask}
+use Rattle.mask_table.specs.declared.mirrors.mirror.KeptMask.{KeptMask}
 use Rattle.mask_writer.specs.Masks.{Masks}
 use Rattle.mask_writer.specs.Standing.{masks_of, StandsAt, IsEmptyAt, Holds, BucketOf, AreNamed, AreFree}
 use Rattle.mask_writer.proofs.Standing.{slots_count, held_later, mask_storable}
@@ -35,20 +35,20 @@ use Rattle.hook_meaning.specs.Stated.{TableNames, hook_meaning, tables_at, filte
 use Rattle.hook_meaning.specs.Blocks.{mask_record, hook_codec}
 use Rattle.hook_meaning.specs.Told.{with_slots}
 use Rattle.hook_store_law.specs.Kept.{KeepsHook}
-use Rattle.hook_edit_laws.specs.Premises.{now, next}
-use Rattle.hook_edit_laws.proofs.Accepted.{sound}
-use Rattle.mask_resize_laws.specs.Resized.{stored_now}
-use Rattle.head_chain_laws.specs.Chains.{IsNamedIn}
-use Rattle.head_commit_laws.specs.Listed.{HasSerial}
-use Rattle.head_commit_laws.specs.Raised.{stored_next, IsReady}
-use Rattle.head_commit_laws.proofs.Raising.{raise_mask, raise_back}
-use Rattle.head_commit_laws.proofs.Places.{root_has, has_named}
-use Rattle.head_commit_laws.proofs.Standing.{standing, stands_on}
-use Rattle.head_commit_laws.proofs.Giving.{head_law, sort_after, named_after, keeps_slot, now_after, edits_after, stored_later}
+use Rattle.hook_store_law.specs.OfEdits.Premises.{now, next}
+use Rattle.hook_store_law.proofs.OfEdits.Accepted.{sound}
+use Rattle.desk_masks.specs.OfMaskResizes.Resized.{stored_now}
+use Rattle.desk_masks.specs.OfHeadChains.Chains.{IsNamedIn}
+use Rattle.desk_heads.specs.OfHeadCommits.Listed.{HasSerial}
+use Rattle.desk_heads.specs.OfHeadCommits.Raised.{stored_next, IsReady}
+use Rattle.desk_heads.proofs.OfHeadCommits.Raising.{raise_mask, raise_back}
+use Rattle.desk_heads.proofs.OfHeadCommits.Places.{root_has, has_named}
+use Rattle.desk_heads.proofs.OfHeadCommits.Standing.{standing, stands_on}
+use Rattle.desk_heads.proofs.OfHeadCommits.Giving.{head_law, sort_after, named_after, keeps_slot, now_after, edits_after, stored_later}
 use Rattle.desk_masks.specs.Masks.{HasMask, HasMasks}
 use Rattle.desk_masks.proofs.Going.{bucket_stands}
-use Rattle.head_commit_laws.specs.Built.{IsBuilt}
-use Rattle.head_commit_laws.specs.Built.{IsConcerned, IsGiven}
+use Rattle.desk_heads.specs.OfHeadCommits.Built.{IsBuilt}
+use Rattle.desk_heads.specs.OfHeadCommits.Built.{IsConcerned, IsGiven}
 use Rattle.desk_heads.specs.Opens.{OpensMask}
 use Rattle.desk_heads.proofs.Holding.{SamePool, named_on}
 use Rattle.desk_heads.proofs.Opened.{blk, law_commits, after, after_keeps, after_ready, after_next, after_edits, built, built_is, it_is_built, it_is_here}

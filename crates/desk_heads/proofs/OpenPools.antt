@@ -10,7 +10,7 @@ use Rattle.filter_state.specs.States.{State}
 use Rattle.block_codec.specs.declared.filter.StoredFilter.{StoredFilter}
 use Rattle.block_codec.specs.declared.mask.StoredMask.{StoredMask}
 use Rattle.block_codec.specs.declared.table.StoredTable.{StoredTable}
-use Rattle.mask_mirror.specs.Given.{AreGiven}
+use Rattle.mask_table.specs.OfMirrors.Given.{AreGiven}
 use Rattle.miniq_pair.specs.Pairs.{first_block_of, swap_commit}
 use Rattle.hook_law.specs.Places.{mask_root, action_root, bucket_root, row_of}
 use Rattle.hook_law.specs.Records.{MaskRecord}
@@ -22,15 +22,15 @@ use Rattle.hook_law.proofs.Standing.{present_end, unused_end, slot_longer}
 use Rattle.hook_meaning.specs.Stated.{hook_meaning}
 use Rattle.hook_meaning.specs.Blocks.{hook_codec}
 use Rattle.hook_store_law.specs.Kept.{KeepsHook}
-use Rattle.hook_edit_laws.specs.Premises.{now, next}
-use Rattle.head_commit_laws.specs.Raised.{stored_next, IsReady}
-use Rattle.head_commit_laws.proofs.Giving.{comes, fresh_named, now_after}
+use Rattle.hook_store_law.specs.OfEdits.Premises.{now, next}
+use Rattle.desk_heads.specs.OfHeadCommits.Raised.{stored_next, IsReady}
+use Rattle.desk_heads.proofs.OfHeadCommits.Giving.{comes, fresh_named, now_after}
 use Rattle.desk_pools.specs.declared.pools.Pools.{Pools}
 use Rattle.desk_pools.specs.Pools.{ArePools}
 use Rattle.desk_pools.specs.Steps.{IsInPool, NothingComes, turned}
 use Rattle.root_pool_laws.proofs.Apart.{in_left, in_right}
-use Rattle.head_commit_laws.specs.Built.{IsBuilt}
-use Rattle.head_commit_laws.specs.Built.{IsConcerned, IsGiven}
+use Rattle.desk_heads.specs.OfHeadCommits.Built.{IsBuilt}
+use Rattle.desk_heads.specs.OfHeadCommits.Built.{IsConcerned, IsGiven}
 use Rattle.desk_heads.specs.Opens.{OpensMask}
 use Rattle.desk_heads.specs.Handed.{idle_of, AreHanded, AreActionsHanded}
 use Rattle.desk_heads.proofs.Opened.{blk, law_commits, after, after_keeps, after_ready, after_now, after_next, built, built_is, record_is}

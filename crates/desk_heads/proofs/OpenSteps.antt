@@ -12,8 +12,8 @@ use Rattle.filter_lists.specs.Spells.{Spells}
 use Rattle.block_codec.specs.declared.filter.StoredFilter.{StoredFilter}
 use Rattle.block_codec.specs.declared.mask.StoredMask.{StoredMask}
 use Rattle.block_codec.specs.declared.table.StoredTable.{StoredTable}
-use Rattle.mask_mirror.specs.Given.{AreGiven}
-use Rattle.mask_mirror.specs.Linked.{placed, raise_commits}
+use Rattle.mask_table.specs.OfMirrors.Given.{AreGiven}
+use Rattle.mask_table.specs.OfMirrors.Linked.{placed, raise_commits}
 use Rattle.mask_writer.specs.Masks.{Masks}
 use Rattle.mask_writer.specs.Standing.{masks_of, Holds, AreNamed}
 use Rattle.miniq_pair.specs.Pairs.{first_block_of, swap_commit}
@@ -22,10 +22,10 @@ use Rattle.hook_law.specs.Keeping.{IsAtRest}
 use Rattle.hook_meaning.specs.Stated.{hook_meaning}
 use Rattle.hook_meaning.specs.Blocks.{hook_codec}
 use Rattle.hook_store_law.specs.Kept.{KeepsHook}
-use Rattle.hook_edit_laws.specs.Premises.{next}
-use Rattle.head_commit_laws.specs.Built.{IsBuilt, IsConcerned, IsGiven}
-use Rattle.head_commit_laws.proofs.Raising.{raise_heads}
-use Rattle.head_commit_laws.proofs.Giving.{head_lawful, head_rest}
+use Rattle.hook_store_law.specs.OfEdits.Premises.{next}
+use Rattle.desk_heads.specs.OfHeadCommits.Built.{IsBuilt, IsConcerned, IsGiven}
+use Rattle.desk_heads.proofs.OfHeadCommits.Raising.{raise_heads}
+use Rattle.desk_heads.proofs.OfHeadCommits.Giving.{head_lawful, head_rest}
 use Rattle.desk_pools.specs.declared.pools.Pools.{Pools}
 use Rattle.desk_pools.specs.Pools.{ArePools}
 use Rattle.desk_pools.specs.Steps.{turned}

@@ -15,8 +15,8 @@ use Rattle.filter_state.specs.declared.edit.Edit.{Edit}
 use Rattle.filter_state.specs.States.{State}
 use Rattle.block_codec.specs.declared.filter.StoredFilter.{StoredFilter}
 use Rattle.block_codec.specs.declared.mask.StoredMask.{StoredMask}
-use Rattle.edit_effect_laws.specs.Parts.{Stands}
-use Rattle.mask_mirror.specs.Linked.{placed, raise_commits}
+use Rattle.hook_meaning.specs.OfEffects.Parts.{Stands}
+use Rattle.mask_table.specs.OfMirrors.Linked.{placed, raise_commits}
 use Rattle.miniq_pair.specs.Heads.{hook_number}
 use Rattle.hook_law.specs.Places.{mask_root}
 use Rattle.hook_law.specs.Records.{MaskRecord, StatedTable}
@@ -26,16 +26,16 @@ use Rattle.hook_meaning.specs.Stated.{TableNames, hook_meaning, tables_at, filte
 use Rattle.hook_meaning.specs.Blocks.{mask_record, hook_codec}
 use Rattle.hook_meaning.specs.Told.{with_slots}
 use Rattle.hook_store_law.specs.Kept.{KeepsHook}
-use Rattle.hook_edit_laws.specs.Premises.{now, next, LeavesOtherHook}
-use Rattle.hook_edit_laws.proofs.Accepted.{sound}
-use Rattle.head_commit_laws.specs.Listed.{HasSerial}
-use Rattle.head_commit_laws.specs.Raised.{stored_next, IsReady}
-use Rattle.head_commit_laws.specs.Given.{AreFresh}
-use Rattle.head_commit_laws.proofs.Raising.{raise_lawful, raise_keeps, raise_prepares, raise_record, raise_ready, raise_rest, raise_now, raise_next, raise_edits}
-use Rattle.head_commit_laws.proofs.Standing.{listed, standing, filters_stand}
-use Rattle.head_commit_laws.specs.Built.{IsBuilt}
+use Rattle.hook_store_law.specs.OfEdits.Premises.{now, next, LeavesOtherHook}
+use Rattle.hook_store_law.proofs.OfEdits.Accepted.{sound}
+use Rattle.desk_heads.specs.OfHeadCommits.Listed.{HasSerial}
+use Rattle.desk_heads.specs.OfHeadCommits.Raised.{stored_next, IsReady}
+use Rattle.desk_heads.specs.OfHeadCommits.Given.{AreFresh}
+use Rattle.desk_heads.proofs.OfHeadCommits.Raising.{raise_lawful, raise_keeps, raise_prepares, raise_record, raise_ready, raise_rest, raise_now, raise_next, raise_edits}
+use Rattle.desk_heads.proofs.OfHeadCommits.Standing.{listed, standing, filters_stand}
+use Rattle.desk_heads.specs.OfHeadCommits.Built.{IsBuilt}
 use Rattle.desk_heads.specs.Gives.{GivesTables}
-use Rattle.head_commit_laws.specs.Built.{IsConcerned}
+use Rattle.desk_heads.specs.OfHeadCommits.Built.{IsConcerned}
 use Rattle.desk_heads.specs.Opens.{OpensMask}
 
 module _ (h : List (Commit Edit)) (b : ℕ) (y : Edit) (hook : Hook) (slot : ℕ) (mask : StoredMask) (filter : StoredFilter) (given : List ℕ) (keeps : KeepsHook h b) (o : OpensMask h b y hook slot mask filter given) where

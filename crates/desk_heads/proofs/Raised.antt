@@ -7,14 +7,14 @@ use Rattle.pin_store.specs.Calls.{IsUnnamed}
 use Rattle.filter_state.specs.declared.edit.Edit.{Edit}
 use Rattle.block_codec.specs.declared.filter.StoredFilter.{StoredFilter}
 use Rattle.block_codec.specs.declared.mask.StoredMask.{StoredMask}
-use Rattle.mask_mirror.specs.Given.{AreGiven}
-use Rattle.mask_mirror.specs.Linked.{placed, mask_commit, raise_commits}
+use Rattle.mask_table.specs.OfMirrors.Given.{AreGiven}
+use Rattle.mask_table.specs.OfMirrors.Linked.{placed, mask_commit, raise_commits}
 use Rattle.hook_law.specs.Meaning.{point_of}
 use Rattle.hook_law.specs.Standing.{IsIn}
-use Rattle.mask_resize_laws.proofs.Resizing.{rows_distinct}
+use Rattle.desk_masks.proofs.OfMaskResizes.Resizing.{rows_distinct}
 use Rattle.hook_store_law.specs.Kept.{KeepsHook}
-use Rattle.head_commit_laws.specs.Raised.{stored_next, IsReady, CanRaise}
-use Rattle.head_commit_laws.proofs.Raising.{IsOne, commit_at, raise_spares}
+use Rattle.desk_heads.specs.OfHeadCommits.Raised.{stored_next, IsReady, CanRaise}
+use Rattle.desk_heads.proofs.OfHeadCommits.Raising.{IsOne, commit_at, raise_spares}
 use Rattle.desk_pools.specs.declared.pools.Pools.{Pools}
 use Rattle.desk_pools.specs.Pools.{ArePools}
 use Rattle.desk_pools.specs.Steps.{IsInPool}

@@ -15,8 +15,8 @@ use Rattle.walk_rules.proofs.KeptHeads.{rows_on, on_have}
 use Rattle.miniq_pair.specs.Heads.{hook_number}
 use Rattle.hook_law.specs.Records.{StatedTable}
 use Rattle.hook_meaning.specs.Stated.{TableNames, table_stated, tables_at}
-use Rattle.mask_resize_laws.proofs.Resizing.{mapped_at}
-use Rattle.head_commit_laws.proofs.Places.{get_item, of_hook}
+use Rattle.desk_masks.proofs.OfMaskResizes.Resizing.{mapped_at}
+use Rattle.desk_heads.proofs.OfHeadCommits.Places.{get_item, of_hook}
 
 abbrev pub AreInRange : ℕ → ℕ → Proto → Type 0
 AreInRange chain pref protocol = IsChain chain × IsPref pref × IsProtocol protocol

@@ -26,8 +26,8 @@ use Rattle.root_pool_laws.proofs.Apart.{in_left, in_right}
 use Rattle.root_pool_laws.proofs.Blocks.{has_push, free_stays, left_stays, one_root_stays}
 use Rattle.root_pool_laws.proofs.Giving.{pool_as}
 use Rattle.root_pool_laws.proofs.Roots.{empty_stays, unused_stays}
-use Rattle.mask_resize_laws.proofs.Resizing.{mapped_at}
-use Rattle.head_commit_laws.proofs.Places.{map_at}
+use Rattle.desk_masks.proofs.OfMaskResizes.Resizing.{mapped_at}
+use Rattle.desk_heads.proofs.OfHeadCommits.Places.{map_at}
 use Rattle.number_pools.specs.Numbers.{PoolNumbers}
 use Rattle.desk_pools.specs.declared.pools.IdlePlace.{IdlePlace}
 use Rattle.desk_pools.specs.declared.pools.Pools.{Pools}

@@ -11,7 +11,7 @@ use Rattle.filter_state.specs.declared.edit.Edit.{Edit}
 use Rattle.block_codec.specs.declared.table.StoredTable.{StoredTable}
 use Rattle.miniq_pair.specs.Heads.{hook_number, head_root}
 use Rattle.miniq_pair.specs.Pairs.{first_block_of, table_links, swap_commit}
-use Rattle.head_chain_laws.specs.Chains.{FitsTable}
+use Rattle.desk_masks.specs.OfHeadChains.Chains.{FitsTable}
 use Rattle.desk_masks.specs.declared.hook_tables.HookTables.{HookTables}
 use Rattle.desk_masks.specs.Tables.{HasTables}
 

@@ -39,20 +39,20 @@ use Rattle.hook_meaning.specs.Stated.{TableNames, hook_meaning, table_stated, ta
 use Rattle.hook_meaning.specs.Blocks.{hook_codec}
 use Rattle.hook_meaning.proofs.Counting.{few_heads}
 use Rattle.hook_store_law.specs.Kept.{KeepsHook}
-use Rattle.hook_edit_laws.specs.Premises.{now, next}
-use Rattle.hook_edit_laws.proofs.Accepted.{next_sound}
-use Rattle.head_chain_laws.specs.Chains.{stated_of, FitsTable, IsNamedIn}
-use Rattle.head_chain_laws.proofs.HeadChains.{names_in, in_names}
-use Rattle.head_commit_laws.specs.Listed.{HasSerial}
-use Rattle.head_commit_laws.proofs.Places.{of_hook, map_at, one_place, root_has, has_root, state_has}
-use Rattle.head_commit_laws.proofs.Giving.{head_lawful}
-use Rattle.head_commit_laws.proofs.Standing.{listed, standing, stands_on}
+use Rattle.hook_store_law.specs.OfEdits.Premises.{now, next}
+use Rattle.hook_store_law.proofs.OfEdits.Accepted.{next_sound}
+use Rattle.desk_masks.specs.OfHeadChains.Chains.{stated_of, FitsTable, IsNamedIn}
+use Rattle.desk_masks.proofs.OfHeadChains.HeadChains.{names_in, in_names}
+use Rattle.desk_heads.specs.OfHeadCommits.Listed.{HasSerial}
+use Rattle.desk_heads.proofs.OfHeadCommits.Places.{of_hook, map_at, one_place, root_has, has_root, state_has}
+use Rattle.desk_heads.proofs.OfHeadCommits.Giving.{head_lawful}
+use Rattle.desk_heads.proofs.OfHeadCommits.Standing.{listed, standing, stands_on}
 use Rattle.desk_masks.specs.declared.hook_tables.HookTables.{HookTables}
 use Rattle.desk_masks.specs.Tables.{HasTables}
 use Rattle.desk_heads.specs.Slots.{HasSlotIn, AreInSlots, FitsNumbers}
-use Rattle.head_commit_laws.specs.Built.{IsBuilt}
+use Rattle.desk_heads.specs.OfHeadCommits.Built.{IsBuilt}
 use Rattle.desk_heads.specs.Gives.{GivesTables}
-use Rattle.head_commit_laws.specs.Built.{IsConcerned, IsGiven}
+use Rattle.desk_heads.specs.OfHeadCommits.Built.{IsConcerned, IsGiven}
 use Rattle.desk_heads.proofs.Ranges.{AreInRange, table_range}
 
 -- ---- lists

@@ -21,10 +21,10 @@ use Rattle.head_laws.specs.Heads.{head_of, serials_of}
 use Rattle.hook_law.specs.Records.{Slotted, StatedTable}
 use Rattle.hook_meaning.specs.Blocks.{mask_slotted}
 use Rattle.hook_meaning.specs.Stated.{TableNames, table_stated}
-use Rattle.head_chain_laws.specs.Chains.{stated_of, IsNamedIn}
-use Rattle.head_commit_laws.specs.Built.{IsBuilt}
-use Rattle.head_commit_laws.specs.Listed.{HasSerial}
-use Rattle.head_commit_laws.proofs.Places.{map_at}
+use Rattle.desk_masks.specs.OfHeadChains.Chains.{stated_of, IsNamedIn}
+use Rattle.desk_heads.specs.OfHeadCommits.Built.{IsBuilt}
+use Rattle.desk_heads.specs.OfHeadCommits.Listed.{HasSerial}
+use Rattle.desk_heads.proofs.OfHeadCommits.Places.{map_at}
 use Rattle.desk_heads.specs.Slots.{HasSlotIn, AreInSlots}
 
 -- ---- one more at the end

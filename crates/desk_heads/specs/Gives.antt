@@ -10,11 +10,11 @@ use Rattle.miniq_pair.specs.Heads.{hook_number}
 use Rattle.hook_law.specs.Keeping.{IsAtRest}
 use Rattle.hook_meaning.specs.Stated.{hook_meaning, tables_at}
 use Rattle.hook_meaning.specs.Blocks.{hook_codec}
-use Rattle.hook_edit_laws.specs.Premises.{now, next, LeavesOtherHook}
-use Rattle.head_commit_laws.specs.Listed.{HasSerial}
-use Rattle.head_commit_laws.specs.Raised.{IsReady}
-use Rattle.head_commit_laws.specs.Given.{AreFresh}
-use Rattle.head_commit_laws.specs.Built.{IsBuilt, IsConcerned}
+use Rattle.hook_store_law.specs.OfEdits.Premises.{now, next, LeavesOtherHook}
+use Rattle.desk_heads.specs.OfHeadCommits.Listed.{HasSerial}
+use Rattle.desk_heads.specs.OfHeadCommits.Raised.{IsReady}
+use Rattle.desk_heads.specs.OfHeadCommits.Given.{AreFresh}
+use Rattle.desk_heads.specs.OfHeadCommits.Built.{IsBuilt, IsConcerned}
 
 -- the edit changes the tables of the hook, and what changes beside these is built
 pub record GivesTables (h : List (Commit Edit)) (b : ℕ) (y : Edit) (hook : Hook)

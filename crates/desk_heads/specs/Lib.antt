@@ -4,3 +4,5 @@ pub mod Opens
 pub mod Handed
 pub mod Closes
 pub mod Leaving
+pub mod OfHeadCommits
+pub mod OfMoves

@@ -6,12 +6,12 @@ use Rattle.store_history.specs.declared.history.Commit.{Commit}
 use Rattle.filter_state.specs.declared.edit.Edit.{Edit}
 use Rattle.block_codec.specs.declared.filter.StoredFilter.{StoredFilter}
 use Rattle.block_codec.specs.declared.mask.StoredMask.{StoredMask}
-use Rattle.edit_effect_laws.specs.Parts.{Stands}
+use Rattle.hook_meaning.specs.OfEffects.Parts.{Stands}
 use Rattle.hook_law.specs.Keeping.{IsAtRest}
 use Rattle.hook_meaning.specs.Stated.{hook_meaning}
 use Rattle.hook_meaning.specs.Blocks.{hook_codec}
-use Rattle.hook_edit_laws.specs.Premises.{now, next, LeavesOtherHook}
-use Rattle.head_commit_laws.specs.Raised.{stored_next, IsReady, CanRaise}
+use Rattle.hook_store_law.specs.OfEdits.Premises.{now, next, LeavesOtherHook}
+use Rattle.desk_heads.specs.OfHeadCommits.Raised.{stored_next, IsReady, CanRaise}
 
 -- the edit makes the mask, in a table of the hook, with this filter alone, and changes no other mask
 pub record OpensMask (h : List (Commit Edit)) (b : ℕ) (y : Edit) (hook : Hook) (slot : ℕ) (mask : StoredMask)

@@ -3,8 +3,8 @@ use Rattle.std.specs.Prelude.{◌≡◌, ℕ, ◌^◌, ◌<◌, ◌≤◌, ◌�
 use Rattle.visit_room.specs.declared.limits.TheConstants.{HEAD_MASKS}
 use Rattle.visit_room.specs.declared.names.MaskName.{MaskName}
 use Rattle.block_codec.specs.declared.table.StoredTable.{StoredTable}
-use Rattle.head_chain_laws.specs.Chains.{IsNamedIn}
-use Rattle.head_commit_laws.specs.Built.{IsBuilt}
+use Rattle.desk_masks.specs.OfHeadChains.Chains.{IsNamedIn}
+use Rattle.desk_heads.specs.OfHeadCommits.Built.{IsBuilt}
 
 -- a mask that was built for the edit has the slot where it was built, and another one that of the old tables
 abbrev pub HasSlotIn : List StoredTable → List MaskName → ℕ → ℕ → Type 0

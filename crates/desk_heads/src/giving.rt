@@ -15,9 +15,9 @@ ghost use Rattle.hook_law.specs.Keeping.{IsAtRest};
 ghost use Rattle.hook_meaning.specs.Stated.{hook_meaning};
 ghost use Rattle.hook_meaning.specs.Blocks.{hook_codec};
 ghost use Rattle.hook_store_law.specs.Kept.{KeepsHook};
-ghost use Rattle.hook_edit_laws.specs.Premises.{next};
+ghost use Rattle.hook_store_law.specs.OfEdits.Premises.{next};
 ghost use Rattle.desk_masks.specs.Tables.{HasTables};
-ghost use Rattle.head_commit_laws.specs.Built.{IsGiven};
+ghost use Rattle.desk_heads.specs.OfHeadCommits.Built.{IsGiven};
 ghost use Rattle.desk_heads.specs.Gives.{GivesTables};
 
 use crate::telling::tell_tables;

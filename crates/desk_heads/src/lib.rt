@@ -25,6 +25,9 @@
 //! taken once, and the tables that were kept are the room for the next ones. So no call refuses anything, and
 //! none waits.
 //!
+//! `head_commits` has the laws: masks that are prepared, and then the tables that name them, keep the hook's
+//! law, commit by commit.
+//!
 //! Not promised: that anything of what is needed is free, nor that actions of the edit's line have been put;
 //! both are the caller's to see to.
 #![tactic(auto)]
@@ -32,6 +35,8 @@
 mod closing;
 mod forgetting;
 mod giving;
+pub mod head_commits;
+pub mod moves;
 mod opening;
 mod slots;
 mod telling;

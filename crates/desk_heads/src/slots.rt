@@ -2,9 +2,9 @@
 ghost use Rattle.std.specs.Prelude.{◌≡◌, ◌<◌, ◌≤◌, ◌⊎◌, ℕ, IfSome, IfNone, length};
 ghost use Rattle.visit_room.specs.declared.names.MaskName.{MaskName};
 ghost use Rattle.block_codec.specs.declared.places.TheConstants.{TABLES};
-ghost use Rattle.head_chain_laws.specs.Chains.{IsNamedIn};
+ghost use Rattle.desk_masks.specs.OfHeadChains.Chains.{IsNamedIn};
 ghost use Rattle.desk_heads.specs.Slots.{HasSlotIn};
-ghost use Rattle.head_commit_laws.specs.Built.{IsBuilt};
+ghost use Rattle.desk_heads.specs.OfHeadCommits.Built.{IsBuilt};
 
 use block_codec::StoredTable;
 use visit_room::MaskName;

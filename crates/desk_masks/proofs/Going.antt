@@ -12,17 +12,17 @@ use Rattle.pin_store.specs.declared.shape.Shape.{Shape}
 use Rattle.pin_store.specs.Layout.{block_words}
 use Rattle.filter_state.specs.declared.edit.Edit.{Edit}
 use Rattle.filter_state.specs.Sound.{Sound}
-use Rattle.mask_mirror.specs.declared.mirror.KeptMask.{KeptMask}
-use Rattle.mask_mirror.specs.Kept.{Names}
+use Rattle.mask_table.specs.declared.mirrors.mirror.KeptMask.{KeptMask}
+use Rattle.mask_table.specs.OfMirrors.Kept.{Names}
 use Rattle.store_history.specs.Reads.{read_first}
-use Rattle.block_reading.specs.Read.{mask_of_words}
+use Rattle.block_codec.specs.OfReadings.Read.{mask_of_words}
 use Rattle.mask_table.specs.Buckets.{mask_root}
 use Rattle.mask_table.proofs.Limits.{IsWithin, within}
 use Rattle.mask_writer.specs.Masks.{Masks}
 use Rattle.mask_writer.specs.Standing.{StandsAt, BucketOf, Holds}
 use Rattle.mask_writer.proofs.Standing.{held_later, record_read}
 use Rattle.miniq_pair.specs.Heads.{head_root}
-use Rattle.mask_resize_laws.specs.Resized.{stored_now}
+use Rattle.desk_masks.specs.OfMaskResizes.Resized.{stored_now}
 use Rattle.hook_law.specs.Places as places
 use Rattle.hook_law.specs.Meaning.{point_of, now_of}
 use Rattle.hook_law.specs.Standing.{Head, Mask, Bucket, IsSlotOf, Stands, region_of}

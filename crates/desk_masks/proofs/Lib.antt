@@ -3,3 +3,7 @@ pub mod Staying
 pub mod Going
 pub mod Spending
 pub mod Blocks
+pub mod OfFilterCommits
+pub mod OfHeadChains
+pub mod OfMaskResizes
+pub mod OfResizes

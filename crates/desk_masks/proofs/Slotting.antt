@@ -17,7 +17,7 @@ use Rattle.hook_law.proofs.Standing.{present_end}
 use Rattle.hook_meaning.specs.Stated.{hook_meaning, filters_at}
 use Rattle.hook_meaning.specs.Blocks.{action_slotted, filter_record, hook_codec}
 use Rattle.hook_meaning.specs.Told.{action_name, with_slots}
-use Rattle.mask_resize_laws.proofs.Living.{AllLive, all_live}
+use Rattle.desk_masks.proofs.OfMaskResizes.Living.{AllLive, all_live}
 
 -- ---- filters of which each action has one slot after some commits and after others
 slots_same : (g h : List (Commit Edit)) (s : State) (actions : List ℕ) → ((a : ℕ) → IsLive hook_meaning s a → slot_of hook_codec h a ≡ slot_of hook_codec g a)

@@ -10,7 +10,7 @@ use Rattle.pin_store.specs.Calls.{IsUnnamed}
 use Rattle.filter_state.specs.declared.edit.Edit.{Edit}
 use Rattle.block_codec.specs.declared.filter.StoredFilter.{StoredFilter}
 use Rattle.mask_table.specs.Buckets.{bucket_for}
-use Rattle.mask_mirror.specs.Linked.{Placed, placed, placed_in, linked}
+use Rattle.mask_table.specs.OfMirrors.Linked.{Placed, placed, placed_in, linked}
 use Rattle.hook_law.specs.Standing.{IsIn}
 use Rattle.hook_law.specs.Keeping.{Keeps}
 use Rattle.hook_law.specs.Unnumbered.{Spares, SparesAll}
@@ -20,7 +20,7 @@ use Rattle.hook_meaning.specs.Blocks.{hook_codec}
 use Rattle.root_pool_laws.specs.Blocks.{Spends}
 use Rattle.root_pool_laws.proofs.Apart.{in_append}
 use Rattle.root_pool_laws.proofs.Blocks.{free_stays}
-use Rattle.mask_resize_laws.proofs.Resizing.{mapped_at, rows_distinct}
+use Rattle.desk_masks.proofs.OfMaskResizes.Resizing.{mapped_at, rows_distinct}
 use Rattle.desk_pools.specs.declared.pools.Pools.{Pools}
 use Rattle.desk_pools.specs.Pools.{ArePools}
 use Rattle.desk_pools.specs.Steps.{IsInPool}

@@ -7,9 +7,9 @@ use Rattle.pin_store.specs.Layout.{block_words, links_of}
 use Rattle.block_codec.specs.Filters.{IsFilterBlock}
 use Rattle.block_codec.specs.Masks.{IsMaskBlock}
 use Rattle.mask_table.specs.Buckets.{mask_root, bucket_root}
-use Rattle.mask_mirror.specs.declared.mirror.KeptMask.{KeptMask}
-use Rattle.mask_mirror.specs.Kept.{Names, KeepsMask}
-use Rattle.mask_mirror.specs.Linked.{Placed}
+use Rattle.mask_table.specs.declared.mirrors.mirror.KeptMask.{KeptMask}
+use Rattle.mask_table.specs.OfMirrors.Kept.{Names, KeepsMask}
+use Rattle.mask_table.specs.OfMirrors.Linked.{Placed}
 use Rattle.mask_writer.specs.Masks.{Masks}
 use Rattle.mask_writer.specs.Standing.{chain_at, first_in, StandsAt, BucketOf, AreFiled, NamesChain, AreNamed}
 

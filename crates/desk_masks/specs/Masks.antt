@@ -5,10 +5,10 @@ use Rattle.store_history.specs.declared.history.Commit.{Commit}
 use Rattle.store_history.specs.History.{root_of}
 use Rattle.pin_store.specs.declared.shape.Shape.{Shape}
 use Rattle.filter_state.specs.declared.edit.Edit.{Edit}
-use Rattle.mask_mirror.specs.declared.mirror.KeptMask.{KeptMask}
+use Rattle.mask_table.specs.declared.mirrors.mirror.KeptMask.{KeptMask}
 use Rattle.mask_writer.specs.Masks.{Masks}
 use Rattle.mask_writer.specs.Standing.{StandsAt, Holds, AreNamed}
-use Rattle.mask_resize_laws.specs.Resized.{stored_now}
+use Rattle.desk_masks.specs.OfMaskResizes.Resized.{stored_now}
 use Rattle.hook_law.specs.Meaning.{point_of}
 use Rattle.hook_law.specs.Standing.{IsMaskAt}
 use Rattle.hook_meaning.specs.Blocks.{hook_codec}

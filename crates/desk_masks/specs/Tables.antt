@@ -8,7 +8,7 @@ use Rattle.filter_state.specs.declared.edit.Edit.{Edit}
 use Rattle.block_codec.specs.declared.places.TheConstants.{TABLES}
 use Rattle.miniq_pair.specs.Heads.{head_root}
 use Rattle.miniq_pair.specs.Pairs.{first_block_of, table_links}
-use Rattle.head_chain_laws.specs.Chains.{FitsTable}
+use Rattle.desk_masks.specs.OfHeadChains.Chains.{FitsTable}
 use Rattle.desk_masks.specs.declared.hook_tables.HookTables.{HookTables}
 
 -- THE TABLES: the hook's root names these tables, in the blocks of the active place, and each fits a block

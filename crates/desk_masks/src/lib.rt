@@ -10,9 +10,19 @@
 //! Definitions, and laws about them: there is nothing here to call at run time, so any thread may do anything
 //! with it.
 //!
+//! Beside these facts stand the laws that keep them and the calls that rest on those: what a head's chain
+//! reads as (`head_chains`), the one commit of an edit in a mask that stands (`filter_commits`) and the calls
+//! that make it (`filters`), and a mask that gets another number of buckets (`mask_resizes`, and `resizes`,
+//! which lays it anew).
+//!
 //! Not promised: that any edit keeps these facts. The crates that commit show it.
 #![tactic(auto)]
 
+pub mod filter_commits;
+pub mod filters;
+pub mod head_chains;
 mod hook_tables;
+pub mod mask_resizes;
+pub mod resizes;
 
 pub use hook_tables::HookTables;

@@ -10,14 +10,14 @@ use Rattle.filter_state.specs.States.{Row, State}
 use Rattle.filter_state.specs.Sound.{Sound}
 use Rattle.filter_state.specs.Tables.{filter_row}
 use Rattle.filter_state.specs.Order.{of_mask}
-use Rattle.edit_effect_laws.specs.Parts.{filter_of, filters_of}
-use Rattle.edit_effect_laws.proofs.Kept.{kept_of_mapped}
+use Rattle.hook_meaning.specs.OfEffects.Parts.{filter_of, filters_of}
+use Rattle.hook_meaning.proofs.OfEffects.Kept.{kept_of_mapped}
 use Rattle.hook_law.specs.Records.{StatedFilter}
 use Rattle.hook_law.specs.Chains.{bucket_of}
 use Rattle.hook_meaning.specs.Stated.{filter_stated, filters_at}
-use Rattle.hook_edit_laws.specs.Premises.{HaveOthers}
-use Rattle.hook_edit_laws.proofs.OneHandle.{only_filter}
-use Rattle.filter_commit_laws.specs.Edits.{HasLater}
+use Rattle.hook_store_law.specs.OfEdits.Premises.{HaveOthers}
+use Rattle.hook_store_law.proofs.OfEdits.OneHandle.{only_filter}
+use Rattle.desk_masks.specs.OfFilterCommits.Edits.{HasLater}
 use Rattle.desk_needs.specs.Live.{count_of}
 use Rattle.desk_needs.specs.Needs.{behind, later}
 

@@ -14,12 +14,12 @@ use Rattle.filter_state.specs.Tables.{mask_row, mask_or_next}
 use Rattle.filter_state.specs.Steps.{step, filter_replace, with_row, with_actions, with_new_actions, without_row, mask_serial_for}
 use Rattle.filter_state.specs.Journals.{state_after}
 use Rattle.state_laws.proofs.Tests.{bytes_eq_true, bytes_eq_from}
-use Rattle.edit_effect_laws.specs.Parts.{Filter, filters_of, without}
-use Rattle.edit_effect_laws.proofs.Adding.{line_filter}
-use Rattle.edit_effect_laws.proofs.Replacing.{replaces, moved_row, exchanged_actions}
-use Rattle.edit_effect_laws.proofs.Moving.{known}
-use Rattle.edit_effect_laws.proofs.Moved.{replaced_key, replaced_mask}
-use Rattle.hook_edit_laws.specs.Premises.{named_row}
+use Rattle.hook_meaning.specs.OfEffects.Parts.{Filter, filters_of, without}
+use Rattle.hook_meaning.proofs.OfEffects.Adding.{line_filter}
+use Rattle.hook_meaning.proofs.OfEffects.Replacing.{replaces, moved_row, exchanged_actions}
+use Rattle.hook_meaning.proofs.OfEffects.Moving.{known}
+use Rattle.hook_meaning.proofs.OfEffects.Moved.{replaced_key, replaced_mask}
+use Rattle.hook_store_law.specs.OfEdits.Premises.{named_row}
 use Rattle.desk_needs.specs.Live.{count_of, rows_of}
 use Rattle.desk_needs.specs.declared.needs.Needs.{Needs}
 use Rattle.desk_needs.specs.Needs.{made, last_mask, exchanged, concerned, moved, replaced, needs_from, needs_of}

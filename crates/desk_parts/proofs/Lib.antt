@@ -1,2 +1,8 @@
 pub mod Opening
 pub mod Tidied
+pub mod OfWays
+pub mod OfFinding
+pub mod OfPlainEdits
+pub mod OfLineActions
+pub mod OfFilterNames
+pub mod OfGoneSerials

@@ -13,10 +13,10 @@ use Rattle.filter_state.specs.States.{no_state}
 use Rattle.block_codec.specs.declared.table.StoredTable.{StoredTable}
 use Rattle.miniq_pair.specs.Heads.{head_root}
 use Rattle.miniq_pair.specs.Pairs.{first_block_of, table_links}
-use Rattle.mask_mirror.specs.declared.mirror.KeptMask.{KeptMask}
+use Rattle.mask_table.specs.declared.mirrors.mirror.KeptMask.{KeptMask}
 use Rattle.mask_writer.specs.Masks.{Masks}
 use Rattle.mask_writer.specs.Standing.{masks_of, StandsAt, IsEmptyAt, AreNamed}
-use Rattle.head_chain_laws.specs.Chains.{FitsTable}
+use Rattle.desk_masks.specs.OfHeadChains.Chains.{FitsTable}
 use Rattle.hook_lists.specs.declared.kept.Kept.{Kept}
 use Rattle.filter_lists.specs.Spells.{Spells}
 use Rattle.hook_law.specs.Standing.{IsMaskAt}
@@ -25,7 +25,7 @@ use Rattle.hook_meaning.specs.Stated.{hook_meaning}
 use Rattle.hook_meaning.specs.Blocks.{hook_codec}
 use Rattle.hook_meaning.proofs.Opening.{hook_opens}
 use Rattle.root_word_laws.proofs.Words.{none_rise}
-use Rattle.desk_ledger.specs.Ledger.{IsLedger}
+use Rattle.desk_actions.specs.OfLedgers.Ledger.{IsLedger}
 use Rattle.desk_masks.specs.declared.hook_tables.HookTables.{HookTables}
 use Rattle.desk_masks.specs.Masks.{HasMasks}
 use Rattle.desk_masks.specs.Tables.{HasTables}

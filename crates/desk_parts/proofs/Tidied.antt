@@ -8,7 +8,7 @@ use Rattle.filter_state.specs.States.{State}
 use Rattle.filter_state.specs.Sound.{Sound}
 use Rattle.pin_store.specs.declared.shape.Shape.{Shape}
 use Rattle.pin_store.specs.Layout.{block_words}
-use Rattle.mask_mirror.specs.declared.mirror.KeptMask.{KeptMask}
+use Rattle.mask_table.specs.declared.mirrors.mirror.KeptMask.{KeptMask}
 use Rattle.mask_table.specs.Buckets.{mask_root}
 use Rattle.mask_writer.specs.Masks.{Masks}
 use Rattle.mask_writer.specs.Standing.{StandsAt, BucketOf}
@@ -32,7 +32,7 @@ use Rattle.hook_store_law.specs.Kept.{IsKeptAt}
 use Rattle.desk_pools.specs.declared.pools.Pools.{Pools}
 use Rattle.desk_tidy.specs.Tidied.{empty_at, emptying, Empties}
 use Rattle.desk_tidy.proofs.Emptied.{mapped_at}
-use Rattle.desk_ledger.specs.Ledger.{IsLedger}
+use Rattle.desk_actions.specs.OfLedgers.Ledger.{IsLedger}
 use Rattle.desk_actions.specs.Places.{Placed, slot_of, block_of, IsAlone, AreHere}
 use Rattle.desk_masks.specs.declared.hook_tables.HookTables.{HookTables}
 use Rattle.desk_masks.specs.Masks.{HasMasks}

@@ -11,8 +11,8 @@ use Rattle.filter_state.specs.declared.edit.Edit.{Edit}
 use Rattle.miniq_pair.specs.Pairs.{other_place}
 use Rattle.desk_pools.specs.declared.pools.Pools.{Pools}
 use Rattle.desk_pools.specs.Pools.{ArePools}
-use Rattle.desk_ledger.specs.declared.ledger.Ledger.{Ledger}
-use Rattle.desk_ledger.specs.Kept.{commits, base, IsWhole}
+use Rattle.desk_actions.specs.declared.ledgers.ledger.Ledger.{Ledger}
+use Rattle.desk_actions.specs.OfLedgers.Kept.{commits, base, IsWhole}
 use Rattle.desk_actions.specs.Places.{AreHere}
 use Rattle.desk_masks.specs.Masks.{HasMasks}
 use Rattle.desk_masks.specs.Tables.{HasTables}

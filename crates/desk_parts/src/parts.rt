@@ -3,7 +3,7 @@ ghost use Rattle.std.specs.Prelude.{◌≡◌, [], IfOk};
 
 use crate::shape::HOOK_SHAPE;
 use desk_actions::ActionPlaces;
-use desk_ledger::Ledger;
+use desk_actions::ledgers::Ledger;
 use desk_masks::HookTables;
 use desk_pools::Pools;
 use filter_lists::Lists;

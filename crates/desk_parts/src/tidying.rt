@@ -12,7 +12,7 @@ impl Parts {
     ghost use Rattle.pin_store.specs.Calls.{sheet_of, IsSeatOf};
     ghost use Rattle.desk_pools.specs.Pools.{IsNothingLeft};
     ghost use Rattle.desk_tidy.specs.Tidied.{IsTwiceIn, Empties, AreTidied};
-    ghost use Rattle.desk_ledger.specs.Kept.{commits};
+    ghost use Rattle.desk_actions.specs.OfLedgers.Kept.{commits};
     ghost use Rattle.desk_parts.specs.Desk.{IsDesk};
 
     /// Begins an epoch and scans the readers twice. Where the second scan is quiet, it empties the roots of

@@ -14,7 +14,7 @@ use Rattle.filter_state.specs.States.{State}
 use Rattle.flow_mask.specs.Hashes.{hash_of}
 use Rattle.block_codec.specs.declared.filter.StoredFilter.{StoredFilter}
 use Rattle.block_codec.specs.declared.mask.StoredMask.{StoredMask}
-use Rattle.block_reading.specs.Read.{filter_in, mask_of_words}
+use Rattle.block_codec.specs.OfReadings.Read.{filter_in, mask_of_words}
 use Rattle.hook_law.specs.Places as places
 use Rattle.hook_law.specs.Records.{MaskRecord, FilterRecord, StatedFilter, stated_filter}
 use Rattle.hook_law.specs.Chains as chains

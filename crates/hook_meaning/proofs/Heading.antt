@@ -11,7 +11,7 @@ use Rattle.filter_state.specs.States.{State}
 use Rattle.walk_rules.specs.Questions as walk
 use Rattle.walk_rules.specs.Heads.{heads_on}
 use Rattle.block_codec.specs.declared.table.StoredTable.{StoredTable}
-use Rattle.block_reading.specs.Read.{table_in}
+use Rattle.block_codec.specs.OfReadings.Read.{table_in}
 use Rattle.hook_law.specs.Places as places
 use Rattle.hook_law.specs.Records.{StatedTable, serials_of, stated_table}
 use Rattle.hook_law.specs.Standing.{Head}

@@ -6,3 +6,4 @@ pub mod Counting
 pub mod Masking
 pub mod Bucketing
 pub mod Matching
+pub mod OfEffects

@@ -7,7 +7,7 @@ use Rattle.block_codec.specs.declared.action.StoredAction.{StoredAction}
 use Rattle.block_codec.specs.declared.filter.StoredFilter.{StoredFilter}
 use Rattle.block_codec.specs.declared.mask.StoredMask.{StoredMask}
 use Rattle.block_codec.specs.declared.table.StoredTable.{StoredTable}
-use Rattle.block_reading.specs.Read.{action_of_words, filter_in, mask_of_words, table_in}
+use Rattle.block_codec.specs.OfReadings.Read.{action_of_words, filter_in, mask_of_words, table_in}
 use Rattle.hook_law.specs.Records.{Slotted, TableRecord, MaskRecord, FilterRecord, ActionRecord, Codec}
 use Rattle.hook_meaning.specs.Stated.{TableNames, ActionTerms}
 

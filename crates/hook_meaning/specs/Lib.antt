@@ -1,3 +1,4 @@
 pub mod Stated
 pub mod Blocks
 pub mod Told
+pub mod OfEffects

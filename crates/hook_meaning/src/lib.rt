@@ -4,7 +4,8 @@
 //! it as two records. The meaning (`specs/Stated.antt`) is the plain state of `filter_state`, with its steps
 //! and its lawful lists of edits: the tables of a hook are those of a walk, the filters, words and actions
 //! are the state's, and a mask has its buckets by the hash and the sizes of `flow_mask`. The codec
-//! (`specs/Blocks.antt`) is that of `block_reading`. `HookTerms` hands both to the functions of `hook_law`.
+//! (`specs/Blocks.antt`) is that of `readings` in `block_codec`. `HookTerms` hands both to the functions of
+//! `hook_law`.
 //!
 //! `specs/Told.antt` says what commits tell of tables, masks and filters in the types of those who read the
 //! store: the tables of a hook, and the words and the filters of a mask, after a number of edits, with each
@@ -21,11 +22,15 @@
 //! a time at which the bucket stood. That a hook has 256 tables at most, and that no two filters of a mask
 //! have one key, follows from the soundness of every state that lawful edits lead to.
 //!
+//! `effects` is of plain states alone, and knows nothing of a store: what a state has of one mask and of one
+//! action, and what each kind of edit changes of it.
+//!
 //! Nothing here has code: the functions do nothing, and any thread may call them. Not promised: that an
 //! edit's commits meet the premises of their kind, which whoever makes them has to show; and that an action's
 //! root is read at all, for which no call stands here.
 #![tactic(auto)]
 
+pub mod effects;
 mod laws;
 mod terms;
 

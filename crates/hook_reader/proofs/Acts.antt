@@ -12,7 +12,7 @@ use Rattle.std.specs.Option.{option_map}
 use Rattle.act_kinds.specs.declared.params.Params.{Params}
 use Rattle.act_kinds.specs.Acts.{FitsFrames}
 use Rattle.block_codec.specs.declared.action.StoredAction.{StoredAction}
-use Rattle.block_reading.specs.Read.{action_of_words}
+use Rattle.block_codec.specs.OfReadings.Read.{action_of_words}
 use Rattle.walk_rules.specs.Questions.{params_of, told_params}
 use Rattle.walk_rules.specs.Answers.{answer_of}
 use Rattle.hook_law.specs.Places.{action_root}

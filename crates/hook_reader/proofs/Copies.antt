@@ -12,7 +12,7 @@ use Rattle.visit_room.specs.declared.table_head.TableHead.{TableHead}
 use Rattle.visit_room.specs.Heads.{last_masks, with_mask_behind}
 use Rattle.filter_state.specs.declared.edit.Edit.{Edit}
 use Rattle.block_codec.specs.declared.table.StoredTable.{StoredTable}
-use Rattle.block_reading.specs.Read.{table_in}
+use Rattle.block_codec.specs.OfReadings.Read.{table_in}
 use Rattle.miniq_pair.specs.Heads.{plain, told_of, head_root, HeadTold}
 use Rattle.hook_meaning.proofs.Heading.{heads_most}
 use Rattle.std.proofs.lemmas.List.{length-map}

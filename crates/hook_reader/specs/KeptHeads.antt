@@ -7,7 +7,7 @@ use Rattle.store_history.specs.Reads.{read_all}
 use Rattle.visit_room.specs.declared.table_head.TableHead.{TableHead}
 use Rattle.filter_state.specs.declared.edit.Edit.{Edit}
 use Rattle.block_codec.specs.declared.table.StoredTable.{StoredTable}
-use Rattle.block_reading.specs.Read.{table_in}
+use Rattle.block_codec.specs.OfReadings.Read.{table_in}
 use Rattle.tc_base.specs.declared.hook.Hook.TheVariants as hooks
 use Rattle.miniq_pair.specs.Heads.{told_of, head_root}
 

@@ -8,7 +8,7 @@ ghost use Rattle.root_word_laws.specs.Words.{StampsRise};
 ghost use Rattle.store_history.specs.Reads.{read_first};
 ghost use Rattle.pin_store.specs.Calls.{seen_by, floor_start, loads_of, IsInside, IsSeatOf, IsSameReader};
 ghost use Rattle.block_codec.specs.declared.action.StoredAction.{StoredAction};
-ghost use Rattle.block_reading.specs.Read.{action_of_words};
+ghost use Rattle.block_codec.specs.OfReadings.Read.{action_of_words};
 ghost use Rattle.block_chain.specs.Ways.{block_words};
 ghost use Rattle.mask_table.specs.Told.{LookedUp, IsLoadedPoint};
 ghost use Rattle.miniq_pair.specs.Heads.{head_root, HeadTold};

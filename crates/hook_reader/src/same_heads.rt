@@ -1,17 +1,31 @@
 //! Whether tables are those that are kept.
-ghost use Rattle.std.specs.Prelude.{◌≡◌, true};
+ghost use Rattle.std.specs.Prelude.{◌≡◌, ◌+◌, ◌*◌, true};
 
 use visit_room::{MaskName, TableHead};
 
+// Two numbers in one word, so that both are compared at once.
+fn both(low: u32, high: u32) -> u64
+    ensures { result ≡ low + high * 4294967296 }
+{
+    low as u64 + high as u64 * (1 << 32)
+}
+
 // Whether the names are the same.
+fn is_same_mask(name: &MaskName, other: &MaskName) -> bool
+    ensures { result ≡ true → name.now ≡ other.now }
+{
+    both(name.serial, name.slot) == both(other.serial, other.slot)
+}
+
+// The same of each name of a table.
 fn are_same_masks(names: &[MaskName], others: &[MaskName]) -> bool
     ensures { result ≡ true → names.now ≡ others.now }
 {
     if names.len() != others.len() {
         return false;
     }
-    for (place, name) in names.iter().enumerate() {
-        if others[place] != *name {
+    for (name, other) in names.iter().zip(others.iter()) {
+        if !is_same_mask(name, other) {
             return false;
         }
     }
@@ -22,7 +36,7 @@ fn are_same_masks(names: &[MaskName], others: &[MaskName]) -> bool
 fn is_same_head(head: &TableHead, other: &TableHead) -> bool
     ensures { result ≡ true → head.now ≡ other.now }
 {
-    if head.serial != other.serial || head.chain != other.chain || head.pref != other.pref {
+    if both(head.serial, head.chain) != both(other.serial, other.chain) || head.pref != other.pref {
         return false;
     }
     head.protocol == other.protocol && are_same_masks(head.masks.as_slice(), other.masks.as_slice())
@@ -35,8 +49,8 @@ pub(crate) fn are_same_heads(heads: &[TableHead], others: &[TableHead]) -> bool
     if heads.len() != others.len() {
         return false;
     }
-    for (place, head) in heads.iter().enumerate() {
-        if !is_same_head(head, &others[place]) {
+    for (head, other) in heads.iter().zip(others.iter()) {
+        if !is_same_head(head, other) {
             return false;
         }
     }

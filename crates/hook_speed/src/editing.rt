@@ -23,8 +23,8 @@ const MANY: u32 = 4_095;
 // How many filters come and go, each before the next one.
 const PAIRS: u32 = 100;
 
-// How often all of that is done in a long test; once in a short one.
-const OFTEN: u32 = 11;
+// How often all of that is done in a long test, which so has 10,000 pairs more than a short one.
+const OFTEN: u32 = 101;
 
 fn addition(alloc: Global, number: u32) -> Result<Line, Fail> {
     let (high, low) = (number / 256, number % 256);

@@ -26,11 +26,15 @@
 //! The desk above, which makes the store, its writer and its readers, and decides which commits an edit
 //! makes. Nothing of this type exists at run time, and it has no call, so any thread may name it.
 //!
+//! `edits` says of each kind of edit that it meets what the law asks about the states before and after its
+//! commit.
+//!
 //! Not promised: that the commits of any edit keep the law. The laws of `hook_law` say what each kind of
 //! commit has to meet, and the crate that commits has to show it. Nor is anything said here of how actions
 //! are read.
 #![tactic(auto)]
 
+pub mod edits;
 mod law;
 #[cfg(test)]
 mod tests;

@@ -21,7 +21,7 @@ use Rattle.walk_rules.specs.Questions as questions
 use Rattle.walk_rules.specs.Questions.{told_params}
 use Rattle.walk_rules.specs.Answers.{params_answer, answer_of}
 use Rattle.block_codec.specs.declared.action.StoredAction.{StoredAction}
-use Rattle.block_reading.specs.Read.{action_of_words}
+use Rattle.block_codec.specs.OfReadings.Read.{action_of_words}
 use Rattle.mask_table.specs.Told.{edits_by}
 use Rattle.hook_law.specs.Places.{action_root}
 use Rattle.hook_law.specs.Records.{ActionRecord}

@@ -20,8 +20,8 @@ use Rattle.walk_steps.specs.Told.{heads_told, MasksKnown}
 use Rattle.block_codec.specs.declared.table.StoredTable.{StoredTable}
 use Rattle.block_codec.specs.Names.{mask_in, IsMaskName}
 use Rattle.block_codec.specs.Reading.{table_read}
-use Rattle.block_reading.specs.Read.{is_table, table_in}
-use Rattle.block_reading.proofs.Testing.{table_has}
+use Rattle.block_codec.specs.OfReadings.Read.{is_table, table_in}
+use Rattle.block_codec.proofs.OfReadings.Testing.{table_has}
 use Rattle.miniq_pair.specs.Heads.{PlainTable, plain, told_of, hook_number, head_root, HeadTold, TellsHead}
 use Rattle.hook_law.specs.Places as places
 use Rattle.hook_law.specs.Records.{Slotted}

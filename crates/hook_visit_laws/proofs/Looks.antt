@@ -15,7 +15,7 @@ use Rattle.filter_state.specs.Order.{of_mask}
 use Rattle.filter_state.specs.Sound.{Each, IsRow, Sound}
 use Rattle.flow_fields.specs.Values.{values_of}
 use Rattle.flow_mask.specs.Masks.{each_and}
-use Rattle.edit_effect_laws.specs.Parts.{Filter, filter_of, filters_of, words_in, words_of}
+use Rattle.hook_meaning.specs.OfEffects.Parts.{Filter, filter_of, filters_of, words_in, words_of}
 use Rattle.block_codec.specs.declared.filter.StoredFilter.{StoredFilter}
 use Rattle.mask_table.specs.Buckets.{IsAnswer}
 use Rattle.mask_table.specs.Told.{edits_by, LookedUp}

@@ -17,7 +17,7 @@ ghost use Rattle.walk_rules.specs.Answers.{answer_of};
 ghost use Rattle.walk_steps.specs.Told.{heads_told, filter_told, MasksKnown};
 ghost use Rattle.block_codec.specs.declared.action.StoredAction.{StoredAction};
 ghost use Rattle.block_codec.specs.declared.table.StoredTable.{StoredTable};
-ghost use Rattle.block_reading.specs.Read.{action_of_words, table_in};
+ghost use Rattle.block_codec.specs.OfReadings.Read.{action_of_words, table_in};
 ghost use Rattle.mask_table.specs.Told.{edits_by, LookedUp};
 ghost use Rattle.miniq_pair.specs.Heads.{told_of, head_root, HeadTold};
 ghost use Rattle.hook_law.specs.Places.{action_root};

@@ -24,7 +24,8 @@ use Rattle.hook_visit_laws.specs.Known.{ActionLived}
 use Rattle.hook_visit_laws.proofs.Names.{one_slot, action_longer}
 use Rattle.hook_reader.specs.Seats.{HookSeat, IsHeadOf, IsReading}
 use Rattle.hook_reader.specs.Told.{WalkTold, IsMaskPoint, IsActionPoint}
-use Rattle.hook_walk_laws.specs.Walked.{Asked, IsSameThing, HaveOneHead, HasVisited}
+use Rattle.walk_points.specs.Points.{Visit, IsSameThing}
+use Rattle.hook_walk_laws.specs.Walked.{HaveOneHead, HasVisited}
 
 pub if_some : {X : Type 0} (P : X → Type 0) (o : Option X) (x : X) → o ≡ Some x → IfSome o P → P x
 if_some P None x e p = absurd (cc e)
@@ -53,17 +54,17 @@ module _ (old new : HookSeat) (longer : IsPrefix (seen_by old.place) (seen_by ne
       (subst (λ (h : List (Commit Edit)). Keeps hook_meaning hook_codec h (floor_start new.place)) (sym longer.1) keeps) (omega (arith, late, f)) o.made (slot, o.there, refl, o.live))
 
 -- ---- the next point
-module _ (old new : HookSeat) (visits : List Asked) (point : ℕ) (has : HasVisited old visits) where
+module _ (old new : HookSeat) (visits : List Visit) (point : ℕ) (has : HasVisited old visits) where
   pub head_late : (hook : Hook) (answer : Answer) → WalkTold old (heads_of hook) answer point new → old.latest ≤ point
   head_late hook answer t = let is = t.pointed.is in omega (arith, is)
 
-  pub above_head : (question : Question) (answer : Answer) (first : Asked) → WalkTold old question answer point new → slice_get visits 0 ≡ Some first → first.point ≤ point
+  pub above_head : (question : Question) (answer : Answer) (first : Visit) → WalkTold old question answer point new → slice_get visits 0 ≡ Some first → first.point ≤ point
   above_head (heads_of hook) answer first t at = let low = has.latest 0 first at in let is = t.pointed.is in omega (arith, low, is)
   above_head (filter_of table mask values) answer first t at = let same = has.first first at in let is = t.pointed.is in omega (arith, same, is)
   above_head (params_of serial) answer first t at = let same = has.first first at in let is = t.pointed.is in omega (arith, same, is)
 
   -- a mask again
-  mask_again : (mask : ℕ) (values : List ℕ) (place table' : ℕ) (values' : List ℕ) (early : Asked) → IsPrefix (seen_by old.place) (seen_by new.place) → IsSameReader old.place new.place
+  mask_again : (mask : ℕ) (values : List ℕ) (place table' : ℕ) (values' : List ℕ) (early : Visit) → IsPrefix (seen_by old.place) (seen_by new.place) → IsSameReader old.place new.place
       → Keeps hook_meaning hook_codec (seen_by new.place) (floor_start new.place) → IsReading old → IsMaskPoint old mask values point new → HaveOneHead visits → slice_get visits place ≡ Some early
       → early.question ≡ filter_of table' mask values' → early.point ≤ point
   mask_again mask values place table' values' early longer same keeps before p heads at is =
@@ -80,7 +81,7 @@ module _ (old new : HookSeat) (visits : List Asked) (point : ℕ) (has : HasVisi
       let point_is = p.is in omega (arith, low, point_is)
 
   -- an action again
-  action_again : (serial place : ℕ) (early : Asked) → IsPrefix (seen_by old.place) (seen_by new.place) → IsSameReader old.place new.place
+  action_again : (serial place : ℕ) (early : Visit) → IsPrefix (seen_by old.place) (seen_by new.place) → IsSameReader old.place new.place
       → Keeps hook_meaning hook_codec (seen_by new.place) (floor_start new.place) → IsActionPoint old serial point new → slice_get visits place ≡ Some early
       → early.question ≡ params_of serial → early.point ≤ point
   action_again serial place early longer same keeps p at is =
@@ -92,7 +93,7 @@ module _ (old new : HookSeat) (visits : List Asked) (point : ℕ) (has : HasVisi
       let root = ap (λ (slot : ℕ). (root_of (seen_by new.place) (action_root slot)).stamp) one in
       let low = was.2 in let point_is = p.is in omega (arith, low, rise, root, point_is)
 
-  pub never_falls : (question : Question) (answer : Answer) (place : ℕ) (early : Asked) → WalkTold old question answer point new → HaveOneHead visits
+  pub never_falls : (question : Question) (answer : Answer) (place : ℕ) (early : Visit) → WalkTold old question answer point new → HaveOneHead visits
       → slice_get visits place ≡ Some early → IsSameThing early.question question → early.point ≤ point
   never_falls question answer place early t heads at same = pick early.question question refl t same
     where

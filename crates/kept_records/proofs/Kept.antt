@@ -15,7 +15,7 @@ use Rattle.filter_state.specs.declared.edit.Edit.{Edit}
 use Rattle.root_word_laws.specs.Words.{StampsRise}
 use Rattle.root_word_laws.proofs.Words.{one_stamp}
 use Rattle.block_codec.specs.declared.filter.StoredFilter.{StoredFilter}
-use Rattle.block_reading.specs.Read.{filter_in, mask_of_words, action_of_words}
+use Rattle.block_codec.specs.OfReadings.Read.{filter_in, mask_of_words, action_of_words}
 use Rattle.mask_table.specs.Buckets.{IsAnswer}
 use Rattle.kept_things.specs.declared.kept.Kept.{Kept}
 use Rattle.kept_things.specs.Places.{place_of, kept_as, thing_as, kept_at, AllKept}

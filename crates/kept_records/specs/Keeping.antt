@@ -7,7 +7,7 @@ use Rattle.store_history.specs.History.{root_of}
 use Rattle.store_history.specs.Reads.{read_all, read_first}
 use Rattle.filter_state.specs.declared.edit.Edit.{Edit}
 use Rattle.block_codec.specs.declared.filter.StoredFilter.{StoredFilter}
-use Rattle.block_reading.specs.Read.{filter_in, mask_of_words, action_of_words}
+use Rattle.block_codec.specs.OfReadings.Read.{filter_in, mask_of_words, action_of_words}
 use Rattle.mask_table.specs.Buckets.{IsAnswer}
 use Rattle.kept_things.specs.declared.kept.Kept.{Kept}
 use Rattle.kept_things.specs.Places.{AllKept}

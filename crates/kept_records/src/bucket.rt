@@ -6,7 +6,7 @@ ghost use Rattle.store_history.specs.History.{root_of, first_block, first_number
 ghost use Rattle.store_history.specs.Reads.{read_all};
 ghost use Rattle.pin_store.specs.Calls.{seen_by, floor_start, loads_of, IsInside, IsSeatOf, IsSameReader};
 ghost use Rattle.block_codec.specs.declared.filter.StoredFilter.{StoredFilter};
-ghost use Rattle.block_reading.specs.Read.{filter_in};
+ghost use Rattle.block_codec.specs.OfReadings.Read.{filter_in};
 ghost use Rattle.block_chain.specs.Ways.{block_words, HasRoot};
 ghost use Rattle.mask_table.specs.Buckets.{IsAnswer};
 ghost use Rattle.hook_store_law.specs.Kept.{KeepsHook};

@@ -46,7 +46,7 @@ impl HookRecords {
     ghost use Rattle.pin_store.specs.Calls.{seen_by, floor_start, loads_of, IsInside, IsSeatOf};
     ghost use Rattle.pin_store.specs.Calls.{IsSameReader};
     ghost use Rattle.block_codec.specs.declared.action.StoredAction.{StoredAction as ActionRecord};
-    ghost use Rattle.block_reading.specs.Read.{action_of_words};
+    ghost use Rattle.block_codec.specs.OfReadings.Read.{action_of_words};
     ghost use Rattle.block_chain.specs.Ways.{block_words};
     ghost use Rattle.mask_table.specs.Told.{LookedUp, IsLoadedPoint};
     ghost use Rattle.hook_law.specs.Places.{action_root};

@@ -19,3 +19,4 @@ pub mod EmptyWalks
 pub mod WorkedLines
 pub mod WorkedRuns
 pub mod WorkedReport
+pub mod OfLogs

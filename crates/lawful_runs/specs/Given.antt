@@ -1,6 +1,6 @@
 -- What a job gives to run: its rounds, each with the commands of its batches and the packets of its capture
 -- (this project's own).
-use Rattle.capture_walk.specs.declared.limits.TheConstants.{PACKETS_MAX}
+use Rattle.walk_ends.specs.declared.limits.TheConstants.{PACKETS_MAX}
 use Rattle.batch_run.specs.declared.limit.TheConstants.{COMMANDS_MAX}
 use Rattle.std.specs.Prelude.{◌≡◌, ℕ, ◌≤◌, Bool, List, [], ◌∷◌, length, map, drop, sum_by, Option, Some, None}
 use Rattle.std.specs.List.{All}

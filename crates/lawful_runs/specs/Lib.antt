@@ -5,3 +5,4 @@ pub mod Outcomes
 pub mod Lawful
 pub mod Cases
 pub mod WorkedRun
+pub mod OfLogs

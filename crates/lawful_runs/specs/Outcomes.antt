@@ -5,10 +5,11 @@ use Rattle.filter_state.specs.declared.edit.Edit.{Edit}
 use Rattle.filter_state.specs.Journals.{state_at}
 use Rattle.walk_rules.specs.Steps.{Execution, begun}
 use Rattle.walk_rules.specs.Walks.{Outcome as WalkOutcome, IsWalk}
-use Rattle.capture_walk.specs.Captures.{regrown, passed_by}
+use Rattle.walk_ends.specs.Passing.{regrown, passed_by}
 use Rattle.run_report.specs.declared.outcomes.Outcome.{Outcome}
 use Rattle.lawful_runs.specs.Given.{Arrival}
-use Rattle.lawful_runs.specs.Points.{Visit, IsVisited, AreLawfulPoints, seen_by}
+use Rattle.walk_points.specs.Points.{Visit, IsVisited, AreLawfulPoints}
+use Rattle.lawful_runs.specs.Points.{seen_by}
 
 -- the record has a walk's verdict, frame, metadata and executions
 pub record IsRecordOf (outcome : Outcome) (walk : WalkOutcome) : Type 0 where

@@ -14,10 +14,11 @@
 //! The definitions compute nothing that a run would have to follow, and name no thread: they are judged by a
 //! report and a job alone. `laws` says what follows for any lawful run: it has one journal, each line has its
 //! result and each packet its walk in that journal, and no worker goes back. `cases` tells of small parts of
-//! runs, and of one whole run with its report, whether they are lawful.
+//! runs, and of one whole run with its report, whether they are lawful. `logs` leads from what workers hand in
+//! to a lawful round, and from round to round.
 //!
 //! `LoadedJob` is a job with what its files hold, as plain data, which may go to any thread. Nothing else is
-//! there at run time: the functions of `laws` and `cases` do nothing, and any thread may call them.
+//! there at run time: the functions of `laws`, `cases` and `logs` do nothing, and any thread may call them.
 //!
 //! Not promised: that a run ends, that any two controls or workers really met, or any order in time between
 //! threads that told each other nothing.
@@ -26,6 +27,7 @@
 mod cases;
 mod laws;
 mod loaded;
+pub mod logs;
 
 pub use cases::{worked_cases, worked_run_is_lawful};
 pub use laws::{

@@ -23,9 +23,9 @@ use Rattle.filter_state.specs.Journals.{state_after}
 use Rattle.filter_state.specs.Sound.{Sound, Each, EachPair, StandApart}
 use Rattle.state_laws.proofs.Answers.{not_refused, not_not, neither, err_ok}
 use Rattle.state_laws.proofs.Tests.{named}
-use Rattle.edit_effect_laws.proofs.Accepted.{not_unless, same_step}
-use Rattle.hook_edit_laws.specs.Premises.{IsOfFilters}
-use Rattle.hook_edit_laws.proofs.Stepping.{unless_refused}
+use Rattle.hook_meaning.proofs.OfEffects.Accepted.{not_unless, same_step}
+use Rattle.hook_store_law.specs.OfEdits.Premises.{IsOfFilters}
+use Rattle.hook_store_law.proofs.OfEdits.Stepping.{unless_refused}
 use Rattle.live_count_laws.specs.Counts.{StayAsMany, ActionsStay, ActionComes, ActionGoes}
 use Rattle.live_count_laws.proofs.Changes.{all_stay}
 

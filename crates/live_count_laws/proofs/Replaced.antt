@@ -13,12 +13,12 @@ use Rattle.filter_state.specs.Sound.{Sound}
 use Rattle.filter_state.specs.Tables.{mask_row, mask_or_next}
 use Rattle.filter_state.specs.Steps.{step, filter_replace}
 use Rattle.state_laws.proofs.Tests.{bytes_eq_true, bytes_eq_from}
-use Rattle.edit_effect_laws.specs.Parts.{Filter, filters_of, without, is_handle}
-use Rattle.edit_effect_laws.proofs.Adding.{line_filter}
-use Rattle.edit_effect_laws.proofs.Replacing.{replaces}
-use Rattle.edit_effect_laws.proofs.InPlace.{replaced_in_place}
-use Rattle.edit_effect_laws.proofs.Moved.{replaced_key, replaced_mask}
-use Rattle.hook_edit_laws.specs.Premises.{named_row}
+use Rattle.hook_meaning.specs.OfEffects.Parts.{Filter, filters_of, without, is_handle}
+use Rattle.hook_meaning.proofs.OfEffects.Adding.{line_filter}
+use Rattle.hook_meaning.proofs.OfEffects.Replacing.{replaces}
+use Rattle.hook_meaning.proofs.OfEffects.InPlace.{replaced_in_place}
+use Rattle.hook_meaning.proofs.OfEffects.Moved.{replaced_key, replaced_mask}
+use Rattle.hook_store_law.specs.OfEdits.Premises.{named_row}
 use Rattle.desk_needs.specs.Live.{count_of}
 use Rattle.desk_need_laws.proofs.Counted.{counted, one_more, one_less}
 use Rattle.live_count_laws.specs.Counts.{StayAsMany, FilterMoves}

@@ -10,7 +10,7 @@ ghost use Rattle.filter_state.specs.States.{State};
 ghost use Rattle.filter_state.specs.Sound.{Sound};
 ghost use Rattle.filter_state.specs.Actions.{is_live};
 ghost use Rattle.filter_state.specs.Steps.{step};
-ghost use Rattle.hook_edit_laws.specs.Premises.{IsOfFilters};
+ghost use Rattle.hook_store_law.specs.OfEdits.Premises.{IsOfFilters};
 ghost use Rattle.live_count_laws.specs.Counts.{StayAsMany, ActionsStay, ActionComes, ActionGoes};
 
 /// Edits of the qdisc, and of actions apart from filters, leave all filters, and with them masks and rows of

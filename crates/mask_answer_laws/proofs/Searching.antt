@@ -11,7 +11,7 @@ use Rattle.filter_state.specs.Tables.{first_where}
 use Rattle.filter_state.specs.Order.{of_mask}
 use Rattle.filter_state.specs.Sound.{Each, EachPair, GoTogether, IsRow, Sound}
 use Rattle.filter_state.proofs.Pairs.{each_both, each_weaker, pairs_all, pairs_weaker, found, any_first}
-use Rattle.edit_effect_laws.specs.Parts.{Filter, filter_of, filters_of, Stands, words_in, words_of}
+use Rattle.hook_meaning.specs.OfEffects.Parts.{Filter, filter_of, filters_of, Stands, words_in, words_of}
 use Rattle.walk_rules.specs.Questions.{Answer, told_no_filter, told_actions}
 use Rattle.walk_rules.specs.Questions as questions
 use Rattle.walk_rules.specs.Answers.{meets, actions_or_none, answer_of}

@@ -1,6 +1,6 @@
 -- What a search of a mask's filters for a key finds (this project's own).
 use Rattle.std.specs.Prelude.{◌≡◌, ◌≢◌, ℕ, Bool, true, false, List, slice_get, Some}
-use Rattle.edit_effect_laws.specs.Parts.{Filter}
+use Rattle.hook_meaning.specs.OfEffects.Parts.{Filter}
 use Rattle.walk_rules.specs.Questions.{Answer, told_no_filter, told_actions}
 
 -- a filter stands in the list

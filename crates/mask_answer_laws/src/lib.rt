@@ -16,7 +16,7 @@ ghost use Rattle.flow_fields.specs.Values.{values_of};
 ghost use Rattle.flow_mask.specs.Masks.{each_and};
 ghost use Rattle.filter_state.specs.States.{State};
 ghost use Rattle.filter_state.specs.Sound.{Sound};
-ghost use Rattle.edit_effect_laws.specs.Parts.{Stands, filters_of, words_of};
+ghost use Rattle.hook_meaning.specs.OfEffects.Parts.{Stands, filters_of, words_of};
 ghost use Rattle.walk_rules.specs.Questions.{filter_of};
 ghost use Rattle.walk_rules.specs.Answers.{answer_of};
 ghost use Rattle.mask_answer_laws.specs.Searched.{IsSearched, searched_told};

@@ -3,8 +3,8 @@ use Rattle.std.proofs.Common.{◌≡◌, ◌≢◌, ◌∙◌, ◌⊎◌, inl, i
 use Rattle.std.proofs.lemmas.List.{map-append}
 use Rattle.block_codec.specs.declared.filter.StoredFilter.{StoredFilter}
 use Rattle.mask_table.specs.Buckets.{bucket_for, IsAmong}
-use Rattle.mask_mirror.specs.Lists.{Dated, Rises, kept_as, dated_in}
-use Rattle.mask_mirror.proofs.Dates.{dated_append, rises_without, rises_swapped}
+use Rattle.mask_table.specs.OfMirrors.Lists.{Dated, Rises, kept_as, dated_in}
+use Rattle.mask_table.proofs.OfMirrors.Dates.{dated_append, rises_without, rises_swapped}
 use Rattle.mask_bucket_edits.specs.Putting.{aged}
 use Rattle.mask_bucket_edits.proofs.Among.{among_either, among_one}
 

@@ -1,5 +1,5 @@
 -- The filter that a reader finds in a bucket's chain is kept there, and the other way round.
-use Rattle.std.proofs.Common.{◌≡◌, ◌∙◌, ℕ, ◌+◌, ◌<◌, List, [], ◌∷◌, length, map, take, get_or, slice_get, Some, None, refl, sym, ap, subst, arith}
+use Rattle.std.proofs.Common.{◌≡◌, ◌∙◌, ℕ, ◌+◌, ◌<◌, List, length, map, take, get_or, slice_get, Some, None, sym, ap, subst, arith}
 use Rattle.std.proofs.lemmas.List.{length-map, length-take-le, take-map}
 use Rattle.std.proofs.lemmas.Option.{slice_get_within}
 use Rattle.store_history.specs.declared.history.Link.{Link}
@@ -9,25 +9,16 @@ use Rattle.pin_store.specs.declared.shape.Shape.{Shape}
 use Rattle.pin_store.specs.Layout.{block_words, links_of}
 use Rattle.block_codec.specs.declared.filter.StoredFilter.{StoredFilter}
 use Rattle.block_codec.specs.declared.mask.StoredMask.{StoredMask}
-use Rattle.block_reading.specs.Read.{filter_in}
-use Rattle.mask_mirror.specs.declared.mirror.Mirror.{Mirror}
-use Rattle.mask_mirror.specs.declared.mirror.KeptMask.{KeptMask}
-use Rattle.mask_mirror.specs.Kept.{bucket_at, Stands, Spells, IsKept}
-use Rattle.mask_mirror.specs.Changing.{FilterAt}
-use Rattle.mask_mirror.proofs.Keeping.{at_root}
-use Rattle.mask_mirror.proofs.Chains.{link_there, block_there}
-use Rattle.mask_mirror.proofs.Forgetting.{bucket, link_blocks}
-use Rattle.mask_bucket_edits.specs.Finding.{HasHandle, IsFound}
+use Rattle.block_codec.specs.OfReadings.Read.{filter_in}
+use Rattle.mask_table.specs.declared.mirrors.mirror.Mirror.{Mirror}
+use Rattle.mask_table.specs.declared.mirrors.mirror.KeptMask.{KeptMask}
+use Rattle.mask_table.specs.OfMirrors.Kept.{bucket_at, Stands, Spells, IsKept}
+use Rattle.mask_table.specs.OfMirrors.Changing.{FilterAt}
+use Rattle.mask_table.proofs.OfMirrors.Keeping.{at_root}
+use Rattle.mask_table.proofs.OfMirrors.Chains.{link_there, block_there}
+use Rattle.mask_table.proofs.OfMirrors.Forgetting.{bucket, link_blocks}
+use Rattle.mask_bucket_edits.specs.Finding.{HasHandle, IsInBucket, IsFound}
 use Rattle.mask_bucket_edits.proofs.Reading.{reads_as, held, first_read, link_words}
-
--- a block of a bucket's chain has a filter with the handle
-pub record IsInBucket (mirror : Mirror) (kept : KeptMask) (handle k : ℕ) : Type 0 where
-  pub blocks : List ℕ
-  pub spelled : Spells mirror.next.items (get_or mirror.first.items (bucket_at kept.mask k) 0) blocks
-  pub place : ℕ
-  pub block : ℕ
-  pub there : slice_get blocks place ≡ Some block
-  pub has : HasHandle mirror.filters.items handle block
 
 module _ (mirror : Mirror) (shape : Shape) (cells : List ℕ) (roots : ℕ → Named) (slot : ℕ) (kept : KeptMask) (stands : Stands mirror slot kept) (keeps : IsKept mirror shape cells roots) (handle : ℕ) where
   -- what is read is kept

@@ -14,17 +14,17 @@ use Rattle.pin_store.specs.Layout.{block_words, links_of}
 use Rattle.block_codec.specs.declared.filter.StoredFilter.{StoredFilter}
 use Rattle.block_codec.specs.Blocks.{block}
 use Rattle.block_codec.specs.Filters.{filter_words}
-use Rattle.block_reading.specs.Read.{filter_in}
+use Rattle.block_codec.specs.OfReadings.Read.{filter_in}
 use Rattle.mask_table.specs.Buckets.{bucket_for}
-use Rattle.mask_mirror.specs.declared.mirror.Mirror.{Mirror}
-use Rattle.mask_mirror.specs.declared.mirror.KeptMask.{KeptMask}
-use Rattle.mask_mirror.specs.Kept.{HasFilter, bucket_at, Stands, Spells, HoldFilters, HoldsChain, BucketAt, Names, KeepsBucket, IsKept}
-use Rattle.mask_mirror.specs.Changing.{root_for}
-use Rattle.mask_mirror.specs.Linked.{placed, linked}
-use Rattle.mask_mirror.proofs.Spelling.{few_blocks}
-use Rattle.mask_mirror.proofs.Keeping.{at_root, names_each}
-use Rattle.mask_mirror.proofs.Chains.{first_link_of, spelled_low, block_there}
-use Rattle.mask_mirror.proofs.Forgetting.{link_blocks}
+use Rattle.mask_table.specs.declared.mirrors.mirror.Mirror.{Mirror}
+use Rattle.mask_table.specs.declared.mirrors.mirror.KeptMask.{KeptMask}
+use Rattle.mask_table.specs.OfMirrors.Kept.{HasFilter, bucket_at, Stands, Spells, HoldFilters, HoldsChain, BucketAt, Names, KeepsBucket, IsKept}
+use Rattle.mask_table.specs.OfMirrors.Changing.{root_for}
+use Rattle.mask_table.specs.OfMirrors.Linked.{placed, linked}
+use Rattle.mask_table.proofs.OfMirrors.Spelling.{few_blocks}
+use Rattle.mask_table.proofs.OfMirrors.Keeping.{at_root, names_each}
+use Rattle.mask_table.proofs.OfMirrors.Chains.{first_link_of, spelled_low, block_there}
+use Rattle.mask_table.proofs.OfMirrors.Forgetting.{link_blocks}
 use Rattle.mask_bucket_edits.specs.Finding.{IsFound}
 use Rattle.mask_bucket_edits.proofs.Reading.{reads_as, held, first_read, link_words}
 

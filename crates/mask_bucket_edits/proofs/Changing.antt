@@ -12,19 +12,19 @@ use Rattle.store_history.specs.Reads.{read_all}
 use Rattle.pin_store.specs.declared.shape.Shape.{Shape}
 use Rattle.pin_store.specs.Layout.{block_words, links_of, commit_of}
 use Rattle.block_codec.specs.declared.filter.StoredFilter.{StoredFilter}
-use Rattle.block_reading.specs.Read.{filter_in}
+use Rattle.block_codec.specs.OfReadings.Read.{filter_in}
 use Rattle.mask_table.specs.Buckets.{bucket_root, bucket_for, IsAmong}
-use Rattle.mask_mirror.specs.declared.mirror.Mirror.{Mirror}
-use Rattle.mask_mirror.specs.declared.mirror.KeptMask.{KeptMask}
-use Rattle.mask_mirror.specs.Kept.{bucket_at, Stands, Spells, HoldsChain, BucketAt, Names, IsKept, AreOwn}
-use Rattle.mask_mirror.specs.Changes.{IsRenamed}
-use Rattle.mask_mirror.specs.Changing.{rewrite_at, HasNone}
-use Rattle.mask_mirror.specs.Linked.{placed, linked}
-use Rattle.mask_mirror.specs.Lists.{Dated, Rises, age_of, kept_in, dated_in, HasFilters}
-use Rattle.mask_mirror.proofs.Spelling.{same_blocks}
-use Rattle.mask_mirror.proofs.Chains.{links_same, spells_same}
-use Rattle.mask_mirror.proofs.Keeping.{same_kept, bucket_with}
-use Rattle.mask_mirror.proofs.Lasting.{SameChain, kept_same, chain_renamed, lists_renamed, has_rewritten}
+use Rattle.mask_table.specs.declared.mirrors.mirror.Mirror.{Mirror}
+use Rattle.mask_table.specs.declared.mirrors.mirror.KeptMask.{KeptMask}
+use Rattle.mask_table.specs.OfMirrors.Kept.{bucket_at, Stands, Spells, HoldsChain, BucketAt, Names, IsKept, AreOwn}
+use Rattle.mask_table.specs.OfMirrors.Changes.{IsRenamed}
+use Rattle.mask_table.specs.OfMirrors.Changing.{rewrite_at, HasNone}
+use Rattle.mask_table.specs.OfMirrors.Linked.{placed, linked}
+use Rattle.mask_table.specs.OfMirrors.Lists.{Dated, Rises, age_of, kept_in, dated_in, HasFilters}
+use Rattle.mask_table.proofs.OfMirrors.Spelling.{same_blocks}
+use Rattle.mask_table.proofs.OfMirrors.Chains.{links_same, spells_same}
+use Rattle.mask_table.proofs.OfMirrors.Keeping.{same_kept, bucket_with}
+use Rattle.mask_table.proofs.OfMirrors.Lasting.{SameChain, kept_same, chain_renamed, lists_renamed, has_rewritten}
 use Rattle.mask_bucket_edits.specs.Finding.{IsFound}
 use Rattle.mask_bucket_edits.specs.Putting.{listed, aged, AreApart, AreOfBucket, ArePut}
 use Rattle.mask_bucket_edits.proofs.Reading.{held}

@@ -10,12 +10,12 @@ use Rattle.pin_store.specs.declared.shape.Shape.{Shape}
 use Rattle.pin_store.specs.Calls.{IsUnnamed}
 use Rattle.block_codec.specs.declared.filter.StoredFilter.{StoredFilter}
 use Rattle.mask_table.specs.Buckets.{bucket_for, IsAmong}
-use Rattle.mask_mirror.specs.declared.mirror.Mirror.{Mirror}
-use Rattle.mask_mirror.specs.Kept.{HasFilter, HoldsChain}
-use Rattle.mask_mirror.specs.Changes.{IsFilled}
-use Rattle.mask_mirror.specs.Lists.{kept_in}
-use Rattle.mask_mirror.specs.Given.{AreGiven}
-use Rattle.mask_mirror.proofs.Lasting.{kept_same}
+use Rattle.mask_table.specs.declared.mirrors.mirror.Mirror.{Mirror}
+use Rattle.mask_table.specs.OfMirrors.Kept.{HasFilter, HoldsChain}
+use Rattle.mask_table.specs.OfMirrors.Changes.{IsFilled}
+use Rattle.mask_table.specs.OfMirrors.Lists.{kept_in}
+use Rattle.mask_table.specs.OfMirrors.Given.{AreGiven}
+use Rattle.mask_table.proofs.OfMirrors.Lasting.{kept_same}
 use Rattle.mask_bucket_edits.specs.Putting.{AreApart, AreOfBucket, AreFilled, ArePut}
 use Rattle.mask_bucket_edits.proofs.Among.{among_left, among_right, among_either, among_take, among_drop, different_left, different_right, different_apart}
 

@@ -10,11 +10,11 @@ use Rattle.block_codec.specs.Blocks.{IsTheOnly}
 use Rattle.block_codec.specs.Names.{action_word}
 use Rattle.block_codec.specs.Filters.{filter_words, IsFilterBlock}
 use Rattle.block_codec.proofs.Standing.{length_block}
-use Rattle.block_reading.specs.Read.{filter_in}
-use Rattle.block_reading.proofs.Only.{filter_only}
-use Rattle.block_reading.proofs.Values.{filter_some}
-use Rattle.mask_mirror.specs.Kept.{HoldsFilter, HoldFilters}
-use Rattle.mask_mirror.proofs.Chains.{link_there, block_there}
+use Rattle.block_codec.specs.OfReadings.Read.{filter_in}
+use Rattle.block_codec.proofs.OfReadings.Only.{filter_only}
+use Rattle.block_codec.proofs.OfReadings.Values.{filter_some}
+use Rattle.mask_table.specs.OfMirrors.Kept.{HoldsFilter, HoldFilters}
+use Rattle.mask_table.proofs.OfMirrors.Chains.{link_there, block_there}
 
 -- a block of a filter reads as that filter
 pub reads_as : (words : List ℕ) (it : StoredFilter × Option ℕ) → IsFilterBlock words it → filter_in words ≡ Some it.0

@@ -6,9 +6,9 @@ use Rattle.pin_store.specs.declared.shape.Shape.{Shape}
 use Rattle.pin_store.specs.Layout.{block_words}
 use Rattle.block_codec.specs.declared.filter.StoredFilter.{StoredFilter}
 use Rattle.mask_table.specs.Buckets.{bucket_for, IsAmong}
-use Rattle.mask_mirror.specs.declared.mirror.Mirror.{Mirror}
-use Rattle.mask_mirror.specs.Kept.{HoldsChain}
-use Rattle.mask_mirror.specs.Lists.{kept_in}
+use Rattle.mask_table.specs.declared.mirrors.mirror.Mirror.{Mirror}
+use Rattle.mask_table.specs.OfMirrors.Kept.{HoldsChain}
+use Rattle.mask_table.specs.OfMirrors.Lists.{kept_in}
 
 -- the one filter, if there is one
 abbrev pub listed : Option (Bor StoredFilter) → List StoredFilter

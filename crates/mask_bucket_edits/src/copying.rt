@@ -7,14 +7,14 @@ ghost use Rattle.pin_store.specs.Calls.{seen_by, sheet_of, IsSeatOf, IsUnnamed};
 ghost use Rattle.block_codec.specs.declared.filter.StoredFilter.{StoredFilter};
 ghost use Rattle.block_codec.specs.Shapes.{HasPool};
 ghost use Rattle.block_codec.specs.Filters.{IsStorableFilter};
-ghost use Rattle.mask_mirror.specs.Kept.{HasFilter, IsKept};
-ghost use Rattle.mask_mirror.specs.Lists.{kept_in, HasFilters};
-ghost use Rattle.mask_mirror.specs.Given.{AreGiven};
+ghost use Rattle.mask_table.specs.OfMirrors.Kept.{HasFilter, IsKept};
+ghost use Rattle.mask_table.specs.OfMirrors.Lists.{kept_in, HasFilters};
+ghost use Rattle.mask_table.specs.OfMirrors.Given.{AreGiven};
 ghost use Rattle.mask_table.specs.Buckets.{IsAmong};
 ghost use Rattle.mask_bucket_edits.specs.Putting.{listed, aged, AreApart, ArePut};
 
 use block_codec::StoredFilter;
-use mask_mirror::{Mirror, kept_filter, put_in_front};
+use mask_table::mirrors::{Mirror, kept_filter, put_in_front};
 use pin_store::{Store, Writer};
 use store_history::Law;
 

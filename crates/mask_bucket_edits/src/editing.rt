@@ -10,16 +10,16 @@ ghost use Rattle.block_codec.specs.declared.filter.StoredFilter.{StoredFilter};
 ghost use Rattle.block_codec.specs.Shapes.{HasPoolAndRoots};
 ghost use Rattle.block_codec.specs.Filters.{IsStorableFilter};
 ghost use Rattle.mask_table.specs.Buckets.{IsAmong};
-ghost use Rattle.mask_mirror.specs.declared.mirror.KeptMask.{KeptMask};
-ghost use Rattle.mask_mirror.specs.Kept.{Stands, IsKept};
-ghost use Rattle.mask_mirror.specs.Lists.{HasFilters};
-ghost use Rattle.mask_mirror.specs.Given.{AreGiven};
-ghost use Rattle.mask_mirror.specs.Changing.{FilterAt, root_for, remove_at, replace_at, HasNone};
+ghost use Rattle.mask_table.specs.declared.mirrors.mirror.KeptMask.{KeptMask};
+ghost use Rattle.mask_table.specs.OfMirrors.Kept.{Stands, IsKept};
+ghost use Rattle.mask_table.specs.OfMirrors.Lists.{HasFilters};
+ghost use Rattle.mask_table.specs.OfMirrors.Given.{AreGiven};
+ghost use Rattle.mask_table.specs.OfMirrors.Changing.{FilterAt, root_for, remove_at, replace_at, HasNone};
 
 use crate::finding::{Found, find, find_in};
 use crate::rewriting::rewrite;
 use block_codec::StoredFilter;
-use mask_mirror::{Mirror, NumberRoom, place_in};
+use mask_table::mirrors::{Mirror, NumberRoom, place_in};
 use pin_store::{Store, Writer};
 use store_history::{EditName, Law};
 use tc_base::{Numbers, Point};
@@ -30,7 +30,7 @@ use tc_base::{Numbers, Point};
 /// the filter's own are left in a room.
 ///
 /// The mask has such a filter, and as many blocks are given as its bucket has later ones. The law must hold
-/// of all commits with this one.
+/// of all commits with this one. The filter is looked for in the bucket of the hash first, as by `find`.
 pub fn take_out<L: Law, E: EditName<L::Entry>>(
     room: &mut NumberRoom,
     left: &mut NumberRoom,
@@ -39,6 +39,7 @@ pub fn take_out<L: Law, E: EditName<L::Entry>>(
     store: &Store<L>,
     slot: u32,
     handle: u32,
+    hash: u64,
     given: &Numbers,
     edit: Point,
 )
@@ -86,7 +87,7 @@ pub fn take_out<L: Law, E: EditName<L::Entry>>(
     ensures lists { (other last : ℕ) (fs : List StoredFilter) → other ≢ slot
         → HasFilters mirror.old other last fs → HasFilters mirror.new other last fs }
 {
-    let found = find(left, mirror, slot, handle);
+    let found = find(left, mirror, slot, handle, hash);
     rewrite::<L, E>(
         room,
         mirror,

@@ -6,12 +6,12 @@ ghost use Rattle.std.specs.Prelude.{None, IfSome, IsTrue, All};
 ghost use Rattle.store_history.specs.declared.history.Named.{Named};
 ghost use Rattle.pin_store.specs.declared.shape.Shape.{Shape};
 ghost use Rattle.block_codec.specs.declared.filter.StoredFilter.{StoredFilter};
-ghost use Rattle.mask_mirror.specs.declared.mirror.KeptMask.{KeptMask};
-ghost use Rattle.mask_mirror.specs.Kept.{Stands, Spells, IsKept};
-ghost use Rattle.mask_mirror.specs.Changing.{FilterAt};
-ghost use Rattle.mask_bucket_edits.specs.Finding.{HasHandle, IsFound};
+ghost use Rattle.mask_table.specs.declared.mirrors.mirror.KeptMask.{KeptMask};
+ghost use Rattle.mask_table.specs.OfMirrors.Kept.{Stands, Spells, IsKept};
+ghost use Rattle.mask_table.specs.OfMirrors.Changing.{FilterAt};
+ghost use Rattle.mask_bucket_edits.specs.Finding.{HasHandle, IsInBucket, IsFound};
 
-use mask_mirror::{KeptMask, Mirror, NumberRoom, gather, place_of};
+use mask_table::mirrors::{KeptMask, Mirror, NumberRoom, gather, place_of};
 
 /// Where a filter of a mask stands: the place of its bucket among those of all rows, and how many filters of
 /// the bucket are in front of it.
@@ -66,8 +66,36 @@ fn look(room: &mut NumberRoom, mirror: &Mirror, place: u32, handle: u32) -> Opti
     count_before(mirror, room.as_slice(), handle)
 }
 
-// Looks for the handle in all buckets of a mask that stands.
-fn find_among(room: &mut NumberRoom, mirror: &Mirror, kept: &KeptMask, handle: u32) -> Found
+// Looks for the handle in one bucket of a mask that stands.
+fn find_at(
+    room: &mut NumberRoom,
+    mirror: &Mirror,
+    kept: &KeptMask,
+    bucket: u32,
+    handle: u32,
+) -> Option<Found>
+    requires stands { (slot : ℕ) × (shape : Shape) × (cells : List ℕ) × (roots : ℕ → Named)
+        × Stands mirror.now slot kept.now × IsKept mirror.now shape cells roots }
+    requires bucket { bucket < kept.now.mask.size }
+    ensures small { IfSome result (λ found. found.place < BUCKETS) }
+    ensures found { IfSome result (λ found. (slot : ℕ) (shape : Shape) (cells : List ℕ) (roots : ℕ → Named)
+        → Stands mirror.now slot kept.now → IsKept mirror.now shape cells roots
+        → IsFound roots kept.now.mask handle found.place found.front room.new) }
+    ensures none { result ≡ None → IsInBucket mirror.now kept.now handle bucket → ⊥ }
+{
+    let place = place_of(&kept.mask, bucket);
+    let front = look(room, mirror, place, handle)?;
+    Some(Found { place, front })
+}
+
+// Looks for the handle in a mask that stands: in the bucket of a hash, and then in all buckets.
+fn find_among(
+    room: &mut NumberRoom,
+    mirror: &Mirror,
+    kept: &KeptMask,
+    handle: u32,
+    hash: u64,
+) -> Found
     requires there { (slot : ℕ) × (shape : Shape) × (cells : List ℕ) × (roots : ℕ → Named) × (root : ℕ)
         × (front : List StoredFilter) × (filter : StoredFilter)
         × Stands mirror.now slot kept.now × IsKept mirror.now shape cells roots
@@ -77,18 +105,22 @@ fn find_among(room: &mut NumberRoom, mirror: &Mirror, kept: &KeptMask, handle: u
         → Stands mirror.now slot kept.now → IsKept mirror.now shape cells roots
         → IsFound roots kept.now.mask handle result.place result.front room.new }
 {
+    let own = (hash % u64::from(kept.mask.size)) as u32;
+    if let Some(found) = find_at(room, mirror, kept, own, handle) {
+        return found;
+    }
     for bucket in 0..kept.mask.size {
-        let place = place_of(&kept.mask, bucket);
-        if let Some(front) = look(room, mirror, place, handle) {
-            return Found { place, front };
+        if let Some(found) = find_at(room, mirror, kept, bucket, handle) {
+            return found;
         }
     }
     unreachable!()
 }
 
 /// Finds a filter with a handle in the mask at a slot, which has one, and puts the chain of its bucket into
-/// the room.
-pub fn find(room: &mut NumberRoom, mirror: &Mirror, slot: u32, handle: u32) -> Found
+/// the room. The bucket of the hash is looked into first: with the hash of the filter's key that is all, and
+/// with any other the search goes on over the whole mask.
+pub fn find(room: &mut NumberRoom, mirror: &Mirror, slot: u32, handle: u32, hash: u64) -> Found
     requires slot { slot < MASK_SLOTS }
     requires there { (kept : KeptMask) × (shape : Shape) × (cells : List ℕ) × (roots : ℕ → Named) × (root : ℕ)
         × (front : List StoredFilter) × (filter : StoredFilter)
@@ -100,7 +132,7 @@ pub fn find(room: &mut NumberRoom, mirror: &Mirror, slot: u32, handle: u32) -> F
         → IsFound roots kept.mask handle result.place result.front room.new }
 {
     match &mirror.slots[slot as usize] {
-        Some(kept) => find_among(room, mirror, kept, handle),
+        Some(kept) => find_among(room, mirror, kept, handle, hash),
         None => unreachable!(),
     }
 }

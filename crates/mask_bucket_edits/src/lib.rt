@@ -8,6 +8,8 @@
 //! # How an edit goes
 //!
 //! `find` and `find_in` look for the handle in what the mirror keeps, and put the bucket's chain into a room.
+//! `find` is told a hash, and looks into that bucket first: the hash of the filter's key says which it is. No
+//! clause rests on it, so a wrong one costs a search of the whole mask and nothing else.
 //! `rewrite` does what both edits share: it puts the new filter, if there is one, in front of what was behind
 //! the old one, and copies of the filters in front of that (`put_edited`), and makes the commit (`rename`).
 //! `take_out` and `exchange` are the two edits, with the contracts of their users.

@@ -6,11 +6,11 @@ ghost use Rattle.pin_store.specs.Layout.{commit_of};
 ghost use Rattle.pin_store.specs.Sheets.{base_of};
 ghost use Rattle.pin_store.specs.Calls.{seen_by, sheet_of, IsSeatOf};
 ghost use Rattle.block_codec.specs.Shapes.{HasPoolAndRoots};
-ghost use Rattle.mask_mirror.specs.Kept.{Spells, HoldsChain, BucketAt, IsKept, AreOwn};
-ghost use Rattle.mask_mirror.specs.Changes.{IsRenamed};
+ghost use Rattle.mask_table.specs.OfMirrors.Kept.{Spells, HoldsChain, BucketAt, IsKept, AreOwn};
+ghost use Rattle.mask_table.specs.OfMirrors.Changes.{IsRenamed};
 
 use block_codec::places::BUCKET_ROOTS;
-use mask_mirror::{Mirror, NumberRoom, name_chain};
+use mask_table::mirrors::{Mirror, NumberRoom, name_chain};
 use pin_store::{Store, Writer};
 use store_history::{EditName, Law};
 use tc_base::Point;

@@ -13,14 +13,14 @@ use Rattle.block_codec.specs.declared.filter.StoredFilter.{StoredFilter}
 use Rattle.block_codec.specs.declared.mask.StoredMask.{StoredMask}
 use Rattle.block_codec.specs.Masks.{IsStorableMask}
 use Rattle.mask_table.specs.Buckets.{IsAmong, bucket_root, bucket_for}
-use Rattle.mask_mirror.specs.declared.mirror.Mirror.{Mirror}
-use Rattle.mask_mirror.specs.declared.mirror.KeptMask.{KeptMask}
-use Rattle.mask_mirror.specs.Kept.{bucket_at, Stands, Spells, HoldFilters, HoldsChain, BucketAt, KeepsBucket, IsKept}
-use Rattle.mask_mirror.specs.Given.{AreFreeRows}
-use Rattle.mask_mirror.specs.Lists.{kept_in, HasFilters}
-use Rattle.mask_mirror.specs.Changes.{IsRenamed}
-use Rattle.mask_mirror.proofs.Keeping.{at_root, bucket_with, some_buckets}
-use Rattle.mask_mirror.proofs.Lasting.{kept_same}
+use Rattle.mask_table.specs.declared.mirrors.mirror.Mirror.{Mirror}
+use Rattle.mask_table.specs.declared.mirrors.mirror.KeptMask.{KeptMask}
+use Rattle.mask_table.specs.OfMirrors.Kept.{bucket_at, Stands, Spells, HoldFilters, HoldsChain, BucketAt, KeepsBucket, IsKept}
+use Rattle.mask_table.specs.OfMirrors.Given.{AreFreeRows}
+use Rattle.mask_table.specs.OfMirrors.Lists.{kept_in, HasFilters}
+use Rattle.mask_table.specs.OfMirrors.Changes.{IsRenamed}
+use Rattle.mask_table.proofs.OfMirrors.Keeping.{at_root, bucket_with, some_buckets}
+use Rattle.mask_table.proofs.OfMirrors.Lasting.{kept_same}
 
 -- ---- roots of buckets
 -- a bucket's root tells its row, and its place in the row

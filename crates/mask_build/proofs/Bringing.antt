@@ -14,11 +14,11 @@ use Rattle.pin_store.specs.declared.shape.Shape.{Shape}
 use Rattle.block_codec.specs.declared.filter.StoredFilter.{StoredFilter}
 use Rattle.block_codec.specs.declared.mask.StoredMask.{StoredMask}
 use Rattle.mask_table.specs.Buckets.{IsAmong}
-use Rattle.mask_mirror.specs.declared.mirror.Mirror.{Mirror}
-use Rattle.mask_mirror.specs.Given.{AreGiven}
-use Rattle.mask_mirror.specs.Linked.{placed, raise_commits}
-use Rattle.mask_mirror.specs.Lists.{Dated, age_of, Rises, kept_as}
-use Rattle.mask_mirror.proofs.Dates.{rises_lower}
+use Rattle.mask_table.specs.declared.mirrors.mirror.Mirror.{Mirror}
+use Rattle.mask_table.specs.OfMirrors.Given.{AreGiven}
+use Rattle.mask_table.specs.OfMirrors.Linked.{placed, raise_commits}
+use Rattle.mask_table.specs.OfMirrors.Lists.{Dated, age_of, Rises, kept_as}
+use Rattle.mask_table.proofs.OfMirrors.Dates.{rises_lower}
 use Rattle.mask_build.specs.Laid.{places, dates, filters_of, laid_blocks, laid_in, dated_by, IsLaid, IsReady}
 
 -- ---- lists of different numbers

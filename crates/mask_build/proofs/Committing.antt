@@ -14,13 +14,13 @@ use Rattle.pin_store.specs.Layout.{block_words, links_of, commit_of}
 use Rattle.block_codec.specs.declared.mask.StoredMask.{StoredMask}
 use Rattle.block_codec.specs.Masks.{mask_words, rows_word, IsMaskBlock}
 use Rattle.block_codec.proofs.Standing.{block_link}
-use Rattle.block_reading.proofs.MaskReads.{length_mask_words}
+use Rattle.block_codec.proofs.OfReadings.MaskReads.{length_mask_words}
 use Rattle.mask_table.specs.Buckets.{bucket_root}
-use Rattle.mask_mirror.specs.declared.mirror.Mirror.{Mirror}
-use Rattle.mask_mirror.specs.Kept.{bucket_at, Spells}
-use Rattle.mask_mirror.specs.Linked.{Placed, bucket_commit, bucket_commits, mask_commit, raise_commits}
-use Rattle.mask_mirror.proofs.Keeping.{at_root}
-use Rattle.mask_mirror.proofs.Spelling.{same_blocks}
+use Rattle.mask_table.specs.declared.mirrors.mirror.Mirror.{Mirror}
+use Rattle.mask_table.specs.OfMirrors.Kept.{bucket_at, Spells}
+use Rattle.mask_table.specs.OfMirrors.Linked.{Placed, bucket_commit, bucket_commits, mask_commit, raise_commits}
+use Rattle.mask_table.proofs.OfMirrors.Keeping.{at_root}
+use Rattle.mask_table.proofs.OfMirrors.Spelling.{same_blocks}
 use Rattle.mask_build.specs.Laid.{Laid, places, blocks_in, IsLaid}
 use Rattle.mask_build.proofs.Stacking.{links_laid}
 

@@ -13,15 +13,15 @@ use Rattle.block_codec.specs.Blocks.{block}
 use Rattle.block_codec.specs.Filters.{filter_words}
 use Rattle.block_codec.specs.Masks.{IsStorableMask}
 use Rattle.mask_table.specs.Buckets.{IsAmong, bucket_for}
-use Rattle.mask_mirror.specs.declared.mirror.Mirror.{Mirror}
-use Rattle.mask_mirror.specs.Kept.{bucket_at, HoldFilters, HoldsChain}
-use Rattle.mask_mirror.specs.Linked.{Placed, placed_in, linked}
-use Rattle.mask_mirror.specs.Lists.{kept_in, dated_in}
-use Rattle.mask_mirror.specs.Changes.{IsFilled, IsRenamed}
-use Rattle.mask_mirror.proofs.Chains.{first_link_of}
-use Rattle.mask_mirror.proofs.Dates.{dated_append}
-use Rattle.mask_mirror.proofs.Keeping.{at_root, place_low, chain_same}
-use Rattle.mask_mirror.proofs.Lasting.{kept_same}
+use Rattle.mask_table.specs.declared.mirrors.mirror.Mirror.{Mirror}
+use Rattle.mask_table.specs.OfMirrors.Kept.{bucket_at, HoldFilters, HoldsChain}
+use Rattle.mask_table.specs.OfMirrors.Linked.{Placed, placed_in, linked}
+use Rattle.mask_table.specs.OfMirrors.Lists.{kept_in, dated_in}
+use Rattle.mask_table.specs.OfMirrors.Changes.{IsFilled, IsRenamed}
+use Rattle.mask_table.proofs.OfMirrors.Chains.{first_link_of}
+use Rattle.mask_table.proofs.OfMirrors.Dates.{dated_append}
+use Rattle.mask_table.proofs.OfMirrors.Keeping.{at_root, place_low, chain_same}
+use Rattle.mask_table.proofs.OfMirrors.Lasting.{kept_same}
 use Rattle.mask_build.specs.Laid.{Laid, places, dates, laid_blocks, blocks_in, IsLaid}
 use Rattle.mask_build.proofs.Aside.{bucket_once, chain_stays, all_stay}
 

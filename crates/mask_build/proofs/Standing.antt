@@ -13,16 +13,16 @@ use Rattle.block_codec.specs.declared.filter.StoredFilter.{StoredFilter}
 use Rattle.block_codec.specs.declared.mask.StoredMask.{StoredMask}
 use Rattle.block_codec.specs.Masks.{IsMaskBlock}
 use Rattle.mask_table.specs.Buckets.{IsAmong, mask_root, bucket_root, bucket_for}
-use Rattle.mask_mirror.specs.declared.mirror.Mirror.{Mirror}
-use Rattle.mask_mirror.specs.declared.mirror.KeptMask.{KeptMask}
-use Rattle.mask_mirror.specs.Kept.{bucket_at, Stands, Spells, HoldFilters, HoldsChain, BucketAt, Names, KeepsMask, KeepsBucket, IsKept}
-use Rattle.mask_mirror.specs.Given.{AreFreeRows}
-use Rattle.mask_mirror.specs.Changes.{IsFilled}
-use Rattle.mask_mirror.specs.Linked.{bucket_commits, mask_commit}
-use Rattle.mask_mirror.specs.Lists.{age_of, Rises, kept_in, HasFilters}
-use Rattle.mask_mirror.proofs.Spelling.{same_blocks}
-use Rattle.mask_mirror.proofs.Chains.{block_there}
-use Rattle.mask_mirror.proofs.Keeping.{unnamed_now, kept_filled}
+use Rattle.mask_table.specs.declared.mirrors.mirror.Mirror.{Mirror}
+use Rattle.mask_table.specs.declared.mirrors.mirror.KeptMask.{KeptMask}
+use Rattle.mask_table.specs.OfMirrors.Kept.{bucket_at, Stands, Spells, HoldFilters, HoldsChain, BucketAt, Names, KeepsMask, KeepsBucket, IsKept}
+use Rattle.mask_table.specs.OfMirrors.Given.{AreFreeRows}
+use Rattle.mask_table.specs.OfMirrors.Changes.{IsFilled}
+use Rattle.mask_table.specs.OfMirrors.Linked.{bucket_commits, mask_commit}
+use Rattle.mask_table.specs.OfMirrors.Lists.{age_of, Rises, kept_in, HasFilters}
+use Rattle.mask_table.proofs.OfMirrors.Spelling.{same_blocks}
+use Rattle.mask_table.proofs.OfMirrors.Chains.{block_there}
+use Rattle.mask_table.proofs.OfMirrors.Keeping.{unnamed_now, kept_filled}
 use Rattle.mask_build.specs.Laid.{Laid, places, dates, filters_of, laid_blocks, blocks_in, IsLaid, IsReady}
 use Rattle.mask_build.proofs.Aside.{bucket_once, bucket_aside, chain_stays, bucket_stays, all_stay, has_stays}
 use Rattle.mask_build.proofs.Stacking.{in_blocks, links_laid, laid_filled}

@@ -7,10 +7,10 @@ use Rattle.pin_store.specs.Calls.{IsUnnamed}
 use Rattle.block_codec.specs.declared.filter.StoredFilter.{StoredFilter}
 use Rattle.block_codec.specs.declared.mask.StoredMask.{StoredMask}
 use Rattle.mask_table.specs.Buckets.{IsAmong}
-use Rattle.mask_mirror.specs.declared.mirror.Mirror.{Mirror}
-use Rattle.mask_mirror.specs.Kept.{bucket_at, HoldsChain}
-use Rattle.mask_mirror.specs.Linked.{Placed, placed_in}
-use Rattle.mask_mirror.specs.Lists.{Dated, age_of, kept_in, dated_in}
+use Rattle.mask_table.specs.declared.mirrors.mirror.Mirror.{Mirror}
+use Rattle.mask_table.specs.OfMirrors.Kept.{bucket_at, HoldsChain}
+use Rattle.mask_table.specs.OfMirrors.Linked.{Placed, placed_in}
+use Rattle.mask_table.specs.OfMirrors.Lists.{Dated, age_of, kept_in, dated_in}
 
 -- a filter, the block that it was laid into, and its age
 pub record Laid : Type 0 where

@@ -4,13 +4,13 @@ ghost use Rattle.store_history.specs.declared.history.Named.{Named};
 ghost use Rattle.pin_store.specs.declared.shape.Shape.{Shape};
 ghost use Rattle.block_codec.specs.declared.filter.StoredFilter.{StoredFilter};
 ghost use Rattle.block_codec.specs.Masks.{IsStorableMask};
-ghost use Rattle.mask_mirror.specs.Kept.{IsKept};
-ghost use Rattle.mask_mirror.specs.Given.{AreFreeRows};
-ghost use Rattle.mask_mirror.specs.Lists.{HasFilters};
+ghost use Rattle.mask_table.specs.OfMirrors.Kept.{IsKept};
+ghost use Rattle.mask_table.specs.OfMirrors.Given.{AreFreeRows};
+ghost use Rattle.mask_table.specs.OfMirrors.Lists.{HasFilters};
 ghost use Rattle.mask_build.specs.Laid.{IsLaid};
 
 use block_codec::StoredMask;
-use mask_mirror::{Mirror, place_of};
+use mask_table::mirrors::{Mirror, place_of};
 
 /// Keeps that no bucket of a mask has a filter. No mask that stands has one of its rows, so nothing changes
 /// for those.

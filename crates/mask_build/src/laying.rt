@@ -10,13 +10,13 @@ ghost use Rattle.block_codec.specs.Shapes.{HasPool};
 ghost use Rattle.block_codec.specs.Filters.{IsStorableFilter};
 ghost use Rattle.block_codec.specs.Masks.{IsStorableMask};
 ghost use Rattle.mask_table.specs.Buckets.{IsAmong};
-ghost use Rattle.mask_mirror.specs.Kept.{IsKept};
-ghost use Rattle.mask_mirror.specs.Given.{AreGiven, AreFreeRows};
-ghost use Rattle.mask_mirror.specs.Lists.{age_of, kept_in, HasFilters};
+ghost use Rattle.mask_table.specs.OfMirrors.Kept.{IsKept};
+ghost use Rattle.mask_table.specs.OfMirrors.Given.{AreGiven, AreFreeRows};
+ghost use Rattle.mask_table.specs.OfMirrors.Lists.{age_of, kept_in, HasFilters};
 ghost use Rattle.mask_build.specs.Laid.{Laid, laid_blocks, laid_in, dated_by, IsLaid};
 
 use block_codec::{StoredFilter, StoredMask};
-use mask_mirror::{Mirror, place_for, put_in_front};
+use mask_table::mirrors::{Mirror, place_for, put_in_front};
 use pin_store::{Store, Writer};
 use store_history::Law;
 use tc_base::Point;

@@ -7,12 +7,12 @@ ghost use Rattle.pin_store.specs.Calls.{seen_by, sheet_of, IsSeatOf};
 ghost use Rattle.block_codec.specs.declared.mask.StoredMask.{StoredMask};
 ghost use Rattle.block_codec.specs.Shapes.{HasPoolAndRoots};
 ghost use Rattle.block_codec.specs.Masks.{IsStorableMask, IsMaskBlock};
-ghost use Rattle.mask_mirror.specs.Linked.{bucket_commits, mask_commit};
+ghost use Rattle.mask_table.specs.OfMirrors.Linked.{bucket_commits, mask_commit};
 ghost use Rattle.mask_build.specs.Laid.{Laid, places, IsLaid};
 
 use block_codec::StoredMask;
 use block_codec::places::{BUCKET_ROOTS, MASK_ROOTS};
-use mask_mirror::{Mirror, NumberRoom, name_chain, place_of};
+use mask_table::mirrors::{Mirror, NumberRoom, name_chain, place_of};
 use pin_store::{Store, Writer};
 use store_history::{EditName, Law};
 use tc_base::Point;

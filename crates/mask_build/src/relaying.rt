@@ -8,14 +8,14 @@ ghost use Rattle.block_codec.specs.declared.filter.StoredFilter.{StoredFilter};
 ghost use Rattle.block_codec.specs.Shapes.{HasPool};
 ghost use Rattle.block_codec.specs.Masks.{IsStorableMask};
 ghost use Rattle.mask_table.specs.Buckets.{IsAmong};
-ghost use Rattle.mask_mirror.specs.Kept.{HasFilter, IsKept};
-ghost use Rattle.mask_mirror.specs.Given.{AreGiven, AreFreeRows};
-ghost use Rattle.mask_mirror.specs.Lists.{Dated, kept_in, kept_as, HasFilters};
+ghost use Rattle.mask_table.specs.OfMirrors.Kept.{HasFilter, IsKept};
+ghost use Rattle.mask_table.specs.OfMirrors.Given.{AreGiven, AreFreeRows};
+ghost use Rattle.mask_table.specs.OfMirrors.Lists.{Dated, kept_in, kept_as, HasFilters};
 ghost use Rattle.mask_build.specs.Laid.{laid_in, IsLaid};
 
 use crate::laying::lay;
 use block_codec::StoredMask;
-use mask_mirror::{Mirror, kept_filter};
+use mask_table::mirrors::{Mirror, kept_filter};
 use pin_store::{Store, Writer};
 use store_history::Law;
 

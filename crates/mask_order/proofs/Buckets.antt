@@ -12,13 +12,13 @@ use Rattle.block_codec.specs.declared.filter.StoredFilter.{StoredFilter}
 use Rattle.block_codec.specs.declared.mask.StoredMask.{StoredMask}
 use Rattle.block_codec.specs.Masks.{IsStorableMask}
 use Rattle.mask_table.specs.Buckets.{bucket_for}
-use Rattle.mask_mirror.specs.declared.mirror.Mirror.{Mirror}
-use Rattle.mask_mirror.specs.declared.mirror.KeptMask.{KeptMask}
-use Rattle.mask_mirror.specs.Kept.{bucket_at, Stands, Spells, IsKept}
-use Rattle.mask_mirror.specs.Lists.{Dated, kept_as, kept_in, dated_in, HasFilters}
-use Rattle.mask_mirror.specs.Forgetting.{bucket_blocks}
-use Rattle.mask_mirror.proofs.Keeping.{same_kept, some_buckets}
-use Rattle.mask_mirror.proofs.Forgetting.{bucket, blocks_more}
+use Rattle.mask_table.specs.declared.mirrors.mirror.Mirror.{Mirror}
+use Rattle.mask_table.specs.declared.mirrors.mirror.KeptMask.{KeptMask}
+use Rattle.mask_table.specs.OfMirrors.Kept.{bucket_at, Stands, Spells, IsKept}
+use Rattle.mask_table.specs.OfMirrors.Lists.{Dated, kept_as, kept_in, dated_in, HasFilters}
+use Rattle.mask_table.specs.OfMirrors.Forgetting.{bucket_blocks}
+use Rattle.mask_table.proofs.OfMirrors.Keeping.{same_kept, some_buckets}
+use Rattle.mask_table.proofs.OfMirrors.Forgetting.{bucket, blocks_more}
 
 -- ---- what is to be kept of so many first buckets
 abbrev dated_to : ℕ → ℕ → List Dated → List (ℕ × Option StoredFilter)

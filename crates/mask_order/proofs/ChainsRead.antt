@@ -14,10 +14,10 @@ use Rattle.block_codec.specs.Blocks.{block, IsLink}
 use Rattle.block_codec.specs.Names.{action_word}
 use Rattle.block_codec.specs.Filters.{filter_words, IsFilterBlock}
 use Rattle.block_codec.proofs.Standing.{length_block}
-use Rattle.block_reading.specs.Read.{link_in, filter_in}
-use Rattle.block_reading.proofs.Only.{filter_only}
-use Rattle.mask_mirror.specs.Kept.{HoldFilters}
-use Rattle.mask_mirror.specs.Linked.{Placed, linked}
+use Rattle.block_codec.specs.OfReadings.Read.{link_in, filter_in}
+use Rattle.block_codec.proofs.OfReadings.Only.{filter_only}
+use Rattle.mask_table.specs.OfMirrors.Kept.{HoldFilters}
+use Rattle.mask_table.specs.OfMirrors.Linked.{Placed, linked}
 use Rattle.mask_order.specs.Fitting.{FitsBlock}
 
 -- ---- chains of any blocks

@@ -13,14 +13,14 @@ use Rattle.pin_store.specs.declared.shape.Shape.{Shape}
 use Rattle.pin_store.specs.Layout.{links_of}
 use Rattle.block_codec.specs.declared.filter.StoredFilter.{StoredFilter}
 use Rattle.block_codec.specs.Blocks.{IsLink}
-use Rattle.block_reading.specs.Read.{filter_in}
+use Rattle.block_codec.specs.OfReadings.Read.{filter_in}
 use Rattle.mask_table.specs.Buckets.{bucket_root, bucket_of}
-use Rattle.mask_mirror.specs.declared.mirror.Mirror.{Mirror}
-use Rattle.mask_mirror.specs.declared.mirror.KeptMask.{KeptMask}
-use Rattle.mask_mirror.specs.Kept.{Stands, Spells, HoldFilters, IsKept}
-use Rattle.mask_mirror.specs.Lists.{Dated, kept_as, kept_in, HasFilters}
-use Rattle.mask_mirror.specs.Forgetting.{bucket_blocks}
-use Rattle.mask_mirror.proofs.Forgetting.{bucket}
+use Rattle.mask_table.specs.declared.mirrors.mirror.Mirror.{Mirror}
+use Rattle.mask_table.specs.declared.mirrors.mirror.KeptMask.{KeptMask}
+use Rattle.mask_table.specs.OfMirrors.Kept.{Stands, Spells, HoldFilters, IsKept}
+use Rattle.mask_table.specs.OfMirrors.Lists.{Dated, kept_as, kept_in, HasFilters}
+use Rattle.mask_table.specs.OfMirrors.Forgetting.{bucket_blocks}
+use Rattle.mask_table.proofs.OfMirrors.Forgetting.{bucket}
 use Rattle.mask_order.specs.Fitting.{FitsBlock}
 use Rattle.mask_order.proofs.Buckets.{all_to, all_dated, bucket_dated}
 use Rattle.mask_order.proofs.ChainsRead.{links_read}

@@ -5,11 +5,11 @@ use Rattle.store_history.specs.declared.history.Named.{Named}
 use Rattle.pin_store.specs.declared.shape.Shape.{Shape}
 use Rattle.block_codec.specs.declared.filter.StoredFilter.{StoredFilter}
 use Rattle.mask_table.specs.Buckets.{IsAmong, bucket_root, bucket_for}
-use Rattle.mask_mirror.specs.declared.mirror.Mirror.{Mirror}
-use Rattle.mask_mirror.specs.declared.mirror.KeptMask.{KeptMask}
-use Rattle.mask_mirror.specs.Kept.{bucket_at, Spells, IsKept}
-use Rattle.mask_mirror.specs.Lists.{Dated, Rises, kept_as, kept_in, dated_in, HasFilters}
-use Rattle.mask_mirror.proofs.Keeping.{same_kept, some_buckets}
+use Rattle.mask_table.specs.declared.mirrors.mirror.Mirror.{Mirror}
+use Rattle.mask_table.specs.declared.mirrors.mirror.KeptMask.{KeptMask}
+use Rattle.mask_table.specs.OfMirrors.Kept.{bucket_at, Spells, IsKept}
+use Rattle.mask_table.specs.OfMirrors.Lists.{Dated, Rises, kept_as, kept_in, dated_in, HasFilters}
+use Rattle.mask_table.proofs.OfMirrors.Keeping.{same_kept, some_buckets}
 use Rattle.store_history.proofs.Lists.{get_before, get_behind, get_parts, some_is}
 use Rattle.std.proofs.lemmas.Nat.{mod_below}
 use Rattle.flow_mask.specs.Hashes.{hash_of}

@@ -8,11 +8,11 @@ use Rattle.store_history.specs.History.{first_block}
 use Rattle.store_history.specs.Reads.{read_all}
 use Rattle.block_codec.specs.declared.filter.StoredFilter.{StoredFilter}
 use Rattle.block_codec.specs.Blocks.{IsLink}
-use Rattle.block_reading.specs.Read.{filter_in}
+use Rattle.block_codec.specs.OfReadings.Read.{filter_in}
 use Rattle.mask_table.specs.Buckets.{bucket_for, bucket_of}
-use Rattle.mask_mirror.specs.declared.mirror.Mirror.{Mirror}
-use Rattle.mask_mirror.specs.Lists.{Dated, kept_as, kept_in, dated_in}
-use Rattle.mask_mirror.specs.Linked.{Placed, placed, placed_in, linked}
+use Rattle.mask_table.specs.declared.mirrors.mirror.Mirror.{Mirror}
+use Rattle.mask_table.specs.OfMirrors.Lists.{Dated, kept_as, kept_in, dated_in}
+use Rattle.mask_table.specs.OfMirrors.Linked.{Placed, placed, placed_in, linked}
 use Rattle.mask_order.specs.Fitting.{FitsBlock, FitInto}
 use Rattle.mask_order.proofs.ChainsRead.{Fits, linked_read}
 

@@ -3,12 +3,12 @@ use Rattle.std.proofs.Common.{◌≡◌, ◌∙◌, ℕ, List, Some, ap}
 use Rattle.store_history.specs.declared.history.Named.{Named}
 use Rattle.store_history.specs.Reads.{read_first}
 use Rattle.pin_store.specs.declared.shape.Shape.{Shape}
-use Rattle.block_reading.specs.Read.{mask_of_words}
-use Rattle.block_reading.proofs.MaskReads.{mask_block_reads}
+use Rattle.block_codec.specs.OfReadings.Read.{mask_of_words}
+use Rattle.block_codec.proofs.OfReadings.MaskReads.{mask_block_reads}
 use Rattle.mask_table.specs.Buckets.{mask_root}
-use Rattle.mask_mirror.specs.declared.mirror.Mirror.{Mirror}
-use Rattle.mask_mirror.specs.declared.mirror.KeptMask.{KeptMask}
-use Rattle.mask_mirror.specs.Kept.{Stands, IsKept}
+use Rattle.mask_table.specs.declared.mirrors.mirror.Mirror.{Mirror}
+use Rattle.mask_table.specs.declared.mirrors.mirror.KeptMask.{KeptMask}
+use Rattle.mask_table.specs.OfMirrors.Kept.{Stands, IsKept}
 
 pub stored_record : (mirror : Mirror) (shape : Shape) (cells : List ℕ) (roots : ℕ → Named) (slot : ℕ) (kept : KeptMask) → IsKept mirror shape cells roots → Stands mirror slot kept
     → read_first mask_of_words (roots (mask_root slot)).chain ≡ Some kept.mask

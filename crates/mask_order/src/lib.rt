@@ -14,7 +14,7 @@
 //!
 //! What a bucket's root names must read as the filters of the bucket, and so must what a commit is going to
 //! name. `chains_read` and `changed_chains_read` say so, of what is kept and of what is built (`Linked` and
-//! `Changing` of mask_mirror), once for all calls that commit.
+//! `Changing` of `mirrors`), once for all calls that commit.
 //!
 //! Everything here is for the thread that has the store's writer. No call waits, and none takes memory.
 //!

@@ -5,12 +5,12 @@ ghost use Rattle.std.specs.List.Sorted.{IsPermutation};
 ghost use Rattle.store_history.specs.declared.history.Named.{Named};
 ghost use Rattle.pin_store.specs.declared.shape.Shape.{Shape};
 ghost use Rattle.block_codec.specs.declared.filter.StoredFilter.{StoredFilter};
-ghost use Rattle.mask_mirror.specs.declared.mirror.KeptMask.{KeptMask};
-ghost use Rattle.mask_mirror.specs.Kept.{Stands, IsKept};
-ghost use Rattle.mask_mirror.specs.Lists.{kept_as, kept_in, HasFilters};
-ghost use Rattle.mask_mirror.specs.Forgetting.{bucket_blocks};
+ghost use Rattle.mask_table.specs.declared.mirrors.mirror.KeptMask.{KeptMask};
+ghost use Rattle.mask_table.specs.OfMirrors.Kept.{Stands, IsKept};
+ghost use Rattle.mask_table.specs.OfMirrors.Lists.{kept_as, kept_in, HasFilters};
+ghost use Rattle.mask_table.specs.OfMirrors.Forgetting.{bucket_blocks};
 
-use mask_mirror::{Mirror, NumberRoom};
+use mask_table::mirrors::{Mirror, NumberRoom};
 
 /// Puts the blocks of all buckets of the mask at a slot into the room, in the order of the mask's filters.
 pub fn in_order(room: &mut NumberRoom, mirror: &Mirror, slot: u32, blocks: &[u32])

@@ -8,14 +8,14 @@ ghost use Rattle.pin_store.specs.declared.shape.Shape.{Shape};
 ghost use Rattle.block_codec.specs.declared.filter.StoredFilter.{StoredFilter};
 ghost use Rattle.block_codec.specs.declared.mask.StoredMask.{StoredMask};
 ghost use Rattle.block_codec.specs.Blocks.{IsLink};
-ghost use Rattle.block_reading.specs.Read.{filter_in};
+ghost use Rattle.block_codec.specs.OfReadings.Read.{filter_in};
 ghost use Rattle.mask_table.specs.Buckets.{bucket_root, bucket_of};
-ghost use Rattle.mask_mirror.specs.declared.mirror.Mirror.{Mirror};
-ghost use Rattle.mask_mirror.specs.declared.mirror.KeptMask.{KeptMask};
-ghost use Rattle.mask_mirror.specs.Kept.{Stands, IsKept};
-ghost use Rattle.mask_mirror.specs.Lists.{HasFilters};
-ghost use Rattle.mask_mirror.specs.Linked.{placed, placed_in, linked};
-ghost use Rattle.mask_mirror.specs.Changing.{FilterAt, insert_at, remove_at, replace_at};
+ghost use Rattle.mask_table.specs.declared.mirrors.mirror.Mirror.{Mirror};
+ghost use Rattle.mask_table.specs.declared.mirrors.mirror.KeptMask.{KeptMask};
+ghost use Rattle.mask_table.specs.OfMirrors.Kept.{Stands, IsKept};
+ghost use Rattle.mask_table.specs.OfMirrors.Lists.{HasFilters};
+ghost use Rattle.mask_table.specs.OfMirrors.Linked.{placed, placed_in, linked};
+ghost use Rattle.mask_table.specs.OfMirrors.Changing.{FilterAt, insert_at, remove_at, replace_at};
 ghost use Rattle.mask_order.specs.Fitting.{FitsBlock, FitInto};
 
 /// What the root of a standing mask's bucket names reads as the filters of the bucket, the latest first: it

@@ -7,9 +7,9 @@ use Rattle.store_history.specs.Reads.{read_first}
 use Rattle.block_codec.specs.declared.mask.StoredMask.{StoredMask}
 use Rattle.block_codec.specs.Reading.{HasMask, row_in, rows_of, mask_read}
 use Rattle.block_codec.proofs.Masking.{sized}
-use Rattle.block_reading.specs.Read.{is_mask, mask_of_words}
+use Rattle.block_codec.specs.OfReadings.Read.{is_mask, mask_of_words}
 use Rattle.mask_table.specs.Buckets.{bucket_root}
-use Rattle.block_reading.proofs.Testing.{mask_has}
+use Rattle.block_codec.proofs.OfReadings.Testing.{mask_has}
 
 pub record IsWithin (mask : StoredMask) : Type 0 where
   pub some : 0 < mask.size

@@ -9,7 +9,7 @@ use Rattle.visit_room.specs.declared.names.ActionName.{ActionName}
 use Rattle.flow_mask.specs.Masks.{each_and}
 use Rattle.block_codec.specs.declared.filter.StoredFilter.{StoredFilter}
 use Rattle.block_codec.specs.declared.mask.StoredMask.{StoredMask}
-use Rattle.block_reading.specs.Read.{filter_in, mask_of_words}
+use Rattle.block_codec.specs.OfReadings.Read.{filter_in, mask_of_words}
 use Rattle.block_chain.proofs.Chains.{read_length}
 use Rattle.mask_table.specs.Buckets.{mask_root, bucket_root, bucket_for, bucket_of, IsAnswer}
 use Rattle.mask_table.specs.Told.{edits_by, FitsSize, TellsMask, BucketTold, LookedUp}

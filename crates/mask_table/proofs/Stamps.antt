@@ -6,7 +6,7 @@ use Rattle.store_history.specs.declared.history.Commit.{Commit}
 use Rattle.store_history.specs.History.{root_of}
 use Rattle.store_history.specs.Reads.{read_first}
 use Rattle.block_codec.specs.declared.mask.StoredMask.{StoredMask}
-use Rattle.block_reading.specs.Read.{mask_of_words}
+use Rattle.block_codec.specs.OfReadings.Read.{mask_of_words}
 use Rattle.store_history.proofs.Histories.{prefix_self}
 use Rattle.mask_table.specs.Buckets.{mask_root, key_root}
 use Rattle.mask_table.specs.Told.{IsLoadedPoint}

@@ -12,7 +12,7 @@ use Rattle.store_history.specs.History.{root_of, edits_of}
 use Rattle.store_history.specs.Reads.{read_all, read_first}
 use Rattle.block_codec.specs.declared.filter.StoredFilter.{StoredFilter}
 use Rattle.block_codec.specs.declared.mask.StoredMask.{StoredMask}
-use Rattle.block_reading.specs.Read.{filter_in, mask_of_words}
+use Rattle.block_codec.specs.OfReadings.Read.{filter_in, mask_of_words}
 use Rattle.block_chain.specs.Ways.{block_words}
 use Rattle.mask_table.specs.Buckets.{mask_root, bucket_root, bucket_for, bucket_of, key_root, IsAnswer}
 

@@ -14,7 +14,7 @@ pub trait MaskLaw: Law {
     ghost use Rattle.store_history.specs.Reads.{read_first};
     ghost use Rattle.block_codec.specs.declared.mask.StoredMask.{StoredMask};
     ghost use Rattle.block_codec.specs.declared.filter.StoredFilter.{StoredFilter};
-    ghost use Rattle.block_reading.specs.Read.{mask_of_words};
+    ghost use Rattle.block_codec.specs.OfReadings.Read.{mask_of_words};
     ghost use Rattle.mask_table.specs.Buckets.{mask_root};
     ghost use Rattle.mask_table.specs.Told.{edits_by, TellsMask, Stood, BucketTold};
 

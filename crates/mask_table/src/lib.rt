@@ -25,12 +25,16 @@
 //! waits for nobody. Whoever states the store's law implements `MaskLaw` for it; this crate says nothing of
 //! how edits become commits.
 //!
+//! `mirrors` is the writer's side of the same: what it keeps of the masks that it committed, and the steps in
+//! which it changes a chain.
+//!
 //! Not promised: that two look-ups of one walk have rising points. The layer that walks raises them: a
 //! look-up's clause gives its answer for each higher point as well.
 #![tactic(auto)]
 
 mod finding;
 mod law;
+pub mod mirrors;
 
 pub use finding::lookup;
 pub use law::MaskLaw;

@@ -5,11 +5,11 @@ use Rattle.std.proofs.lemmas.List.{length-set, set-get_or}
 use Rattle.store_history.specs.declared.history.Named.{Named}
 use Rattle.pin_store.specs.declared.shape.Shape.{Shape}
 use Rattle.block_codec.specs.declared.filter.StoredFilter.{StoredFilter}
-use Rattle.mask_mirror.specs.declared.mirror.Mirror.{Mirror}
-use Rattle.mask_mirror.specs.declared.mirror.KeptMask.{KeptMask}
-use Rattle.mask_mirror.specs.Kept.{Stands, IsKept}
-use Rattle.mask_mirror.specs.Lists.{HasFilters}
-use Rattle.mask_mirror.specs.Changing.{HasNone}
+use Rattle.mask_table.specs.declared.mirrors.mirror.Mirror.{Mirror}
+use Rattle.mask_table.specs.declared.mirrors.mirror.KeptMask.{KeptMask}
+use Rattle.mask_table.specs.OfMirrors.Kept.{Stands, IsKept}
+use Rattle.mask_table.specs.OfMirrors.Lists.{HasFilters}
+use Rattle.mask_table.specs.OfMirrors.Changing.{HasNone}
 use Rattle.mask_writer.specs.Masks.{Order, Masks}
 use Rattle.mask_writer.specs.Telling.{begun, ended, joined, without, exchanged}
 use Rattle.mask_writer.specs.Shown.{all_standing, IsTold}

@@ -15,17 +15,17 @@ use Rattle.block_codec.specs.Blocks.{block}
 use Rattle.block_codec.specs.Filters.{filter_words, IsFilterBlock}
 use Rattle.block_codec.specs.Masks.{IsStorableMask}
 use Rattle.mask_table.specs.Buckets.{bucket_root, bucket_for}
-use Rattle.mask_mirror.specs.declared.mirror.Mirror.{Mirror}
-use Rattle.mask_mirror.specs.declared.mirror.KeptMask.{KeptMask}
-use Rattle.mask_mirror.specs.Kept.{bucket_at, Stands, Spells, HoldsChain, BucketAt, Names, KeepsBucket, IsKept, AreOwn}
-use Rattle.mask_mirror.specs.Changes.{IsFilled, IsRenamed}
-use Rattle.mask_mirror.specs.Lists.{Dated, age_of, Rises, kept_in, kept_as, dated_in, HasFilters}
-use Rattle.mask_mirror.specs.Changing.{root_for, insert_at}
-use Rattle.mask_mirror.proofs.Spelling.{same_blocks}
-use Rattle.mask_mirror.proofs.Chains.{first_spelled, first_link_of, spelled_low, links_same, spells_same}
-use Rattle.mask_mirror.proofs.Keeping.{at_root, names_each, bucket_with, same_kept, some_buckets}
-use Rattle.mask_mirror.proofs.Lasting.{SameChain, kept_same, chain_renamed, lists_renamed, has_rewritten}
-use Rattle.mask_mirror.proofs.Dates.{dated_append, rises_append}
+use Rattle.mask_table.specs.declared.mirrors.mirror.Mirror.{Mirror}
+use Rattle.mask_table.specs.declared.mirrors.mirror.KeptMask.{KeptMask}
+use Rattle.mask_table.specs.OfMirrors.Kept.{bucket_at, Stands, Spells, HoldsChain, BucketAt, Names, KeepsBucket, IsKept, AreOwn}
+use Rattle.mask_table.specs.OfMirrors.Changes.{IsFilled, IsRenamed}
+use Rattle.mask_table.specs.OfMirrors.Lists.{Dated, age_of, Rises, kept_in, kept_as, dated_in, HasFilters}
+use Rattle.mask_table.specs.OfMirrors.Changing.{root_for, insert_at}
+use Rattle.mask_table.proofs.OfMirrors.Spelling.{same_blocks}
+use Rattle.mask_table.proofs.OfMirrors.Chains.{first_spelled, first_link_of, spelled_low, links_same, spells_same}
+use Rattle.mask_table.proofs.OfMirrors.Keeping.{at_root, names_each, bucket_with, same_kept, some_buckets}
+use Rattle.mask_table.proofs.OfMirrors.Lasting.{SameChain, kept_same, chain_renamed, lists_renamed, has_rewritten}
+use Rattle.mask_table.proofs.OfMirrors.Dates.{dated_append, rises_append}
 
 module _ {E : Type 0} (mirror mirror2 : Mirror) (shape : Shape) (old new : List ℕ) (h : List (Commit E)) (slot b : ℕ) (kept : KeptMask) (filter : StoredFilter) (place next : ℕ)
     (keeps : IsKept mirror shape old (root_of h)) (stands : Stands mirror slot kept) (free : (root : ℕ) → Names (root_of h) root b → ⊥)

@@ -11,14 +11,14 @@ use Rattle.pin_store.specs.declared.shape.Shape.{Shape}
 use Rattle.pin_store.specs.Layout.{block_in, first_of}
 use Rattle.block_codec.specs.declared.filter.StoredFilter.{StoredFilter}
 use Rattle.mask_table.specs.Buckets.{bucket_root, IsAmong}
-use Rattle.mask_mirror.specs.declared.mirror.Mirror.{Mirror}
-use Rattle.mask_mirror.specs.declared.mirror.KeptMask.{KeptMask}
-use Rattle.mask_mirror.specs.Kept.{Stands, HasFilter, HoldsFilter, HoldFilters, IsKept}
-use Rattle.mask_mirror.specs.Given.{AreGiven}
-use Rattle.mask_mirror.specs.Forgetting.{bucket_blocks}
-use Rattle.mask_mirror.proofs.Chains.{spelled_low}
-use Rattle.mask_mirror.proofs.Keeping.{names_each, unnamed_now}
-use Rattle.mask_mirror.proofs.Forgetting.{bucket}
+use Rattle.mask_table.specs.declared.mirrors.mirror.Mirror.{Mirror}
+use Rattle.mask_table.specs.declared.mirrors.mirror.KeptMask.{KeptMask}
+use Rattle.mask_table.specs.OfMirrors.Kept.{Stands, HasFilter, HoldsFilter, HoldFilters, IsKept}
+use Rattle.mask_table.specs.OfMirrors.Given.{AreGiven}
+use Rattle.mask_table.specs.OfMirrors.Forgetting.{bucket_blocks}
+use Rattle.mask_table.proofs.OfMirrors.Chains.{spelled_low}
+use Rattle.mask_table.proofs.OfMirrors.Keeping.{names_each, unnamed_now}
+use Rattle.mask_table.proofs.OfMirrors.Forgetting.{bucket}
 use Rattle.mask_order.proofs.Buckets.{all_to}
 
 -- a block of a chain has what is kept for it

@@ -10,17 +10,17 @@ use Rattle.pin_store.specs.Layout.{block_words, links_of, first_of, block_in}
 use Rattle.block_codec.specs.declared.filter.StoredFilter.{StoredFilter}
 use Rattle.block_codec.specs.Filters.{IsFilterBlock}
 use Rattle.mask_table.specs.Buckets.{bucket_root, bucket_of}
-use Rattle.mask_mirror.specs.declared.mirror.Mirror.{Mirror}
-use Rattle.mask_mirror.specs.declared.mirror.KeptMask.{KeptMask}
-use Rattle.mask_mirror.specs.Kept.{bucket_at, Stands, Spells, HoldFilters, HoldsChain, BucketAt, KeepsBucket, IsKept}
-use Rattle.mask_mirror.specs.Given.{AreFreeRows}
-use Rattle.mask_mirror.specs.Linked.{Placed}
-use Rattle.mask_mirror.specs.Lists.{Dated, age_of, kept_in, HasFilters}
-use Rattle.mask_mirror.proofs.Chains.{one_behind}
-use Rattle.mask_mirror.proofs.Spelling.{few_blocks}
-use Rattle.mask_mirror.proofs.Dates.{rises_higher}
-use Rattle.mask_mirror.proofs.Lasting.{kept_same}
-use Rattle.mask_mirror.proofs.Keeping.{kept_none}
+use Rattle.mask_table.specs.declared.mirrors.mirror.Mirror.{Mirror}
+use Rattle.mask_table.specs.declared.mirrors.mirror.KeptMask.{KeptMask}
+use Rattle.mask_table.specs.OfMirrors.Kept.{bucket_at, Stands, Spells, HoldFilters, HoldsChain, BucketAt, KeepsBucket, IsKept}
+use Rattle.mask_table.specs.OfMirrors.Given.{AreFreeRows}
+use Rattle.mask_table.specs.OfMirrors.Linked.{Placed}
+use Rattle.mask_table.specs.OfMirrors.Lists.{Dated, age_of, kept_in, HasFilters}
+use Rattle.mask_table.proofs.OfMirrors.Chains.{one_behind}
+use Rattle.mask_table.proofs.OfMirrors.Spelling.{few_blocks}
+use Rattle.mask_table.proofs.OfMirrors.Dates.{rises_higher}
+use Rattle.mask_table.proofs.OfMirrors.Lasting.{kept_same}
+use Rattle.mask_table.proofs.OfMirrors.Keeping.{kept_none}
 use Rattle.mask_order.proofs.Placing.{dated_filters}
 use Rattle.mask_order.proofs.OneList.{one_list}
 use Rattle.mask_writer.specs.Masks.{Order, Standing, Masks}

@@ -15,14 +15,14 @@ use Rattle.pin_store.specs.Layout.{block_words, links_of}
 use Rattle.block_codec.specs.declared.filter.StoredFilter.{StoredFilter}
 use Rattle.block_codec.specs.Blocks.{IsLink}
 use Rattle.block_codec.specs.Masks.{IsStorableMask}
-use Rattle.block_reading.specs.Read.{filter_in, mask_of_words}
-use Rattle.block_reading.proofs.MaskReads.{mask_block_reads}
+use Rattle.block_codec.specs.OfReadings.Read.{filter_in, mask_of_words}
+use Rattle.block_codec.proofs.OfReadings.MaskReads.{mask_block_reads}
 use Rattle.mask_table.specs.Buckets.{mask_root, bucket_root, bucket_for, bucket_of}
 use Rattle.mask_table.proofs.Buckets.{in_bucket}
-use Rattle.mask_mirror.specs.declared.mirror.KeptMask.{KeptMask}
-use Rattle.mask_mirror.specs.Linked.{Placed}
-use Rattle.mask_mirror.proofs.Keeping.{some_buckets}
-use Rattle.mask_mirror.proofs.Forgetting.{link_blocks}
+use Rattle.mask_table.specs.declared.mirrors.mirror.KeptMask.{KeptMask}
+use Rattle.mask_table.specs.OfMirrors.Linked.{Placed}
+use Rattle.mask_table.proofs.OfMirrors.Keeping.{some_buckets}
+use Rattle.mask_table.proofs.OfMirrors.Forgetting.{link_blocks}
 use Rattle.mask_order.specs.Fitting.{FitsBlock}
 use Rattle.mask_bucket_edits.proofs.Reading.{reads_as}
 use Rattle.mask_writer.specs.Masks.{Order, Masks}

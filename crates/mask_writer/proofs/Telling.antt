@@ -4,7 +4,7 @@ use Rattle.std.specs.Prelude.{option_map, bytes_eq, slice_get}
 use Rattle.std.proofs.lemmas.Bool.{eqb-false}
 use Rattle.std.proofs.lemmas.Slice.Eq.{bytes_eq-Decides}
 use Rattle.block_codec.specs.declared.filter.StoredFilter.{StoredFilter}
-use Rattle.mask_mirror.specs.Changing.{HasNone}
+use Rattle.mask_table.specs.OfMirrors.Changing.{HasNone}
 use Rattle.mask_writer.specs.Masks.{Order}
 use Rattle.mask_writer.specs.Telling.{joined, lacks, rewritten, with_filters, without, exchanged}
 

@@ -11,12 +11,12 @@ use Rattle.pin_store.specs.declared.shape.Shape.{Shape}
 use Rattle.block_codec.specs.declared.mask.StoredMask.{StoredMask}
 use Rattle.block_codec.specs.Masks.{IsStorableMask}
 use Rattle.mask_table.specs.Buckets.{bucket_root}
-use Rattle.mask_mirror.specs.declared.mirror.Mirror.{Mirror}
-use Rattle.mask_mirror.specs.declared.mirror.KeptMask.{KeptMask}
-use Rattle.mask_mirror.specs.Kept.{Stands, BucketAt, IsKept}
-use Rattle.mask_mirror.specs.Given.{AreFreeRows}
-use Rattle.mask_mirror.specs.Linked.{Placed, bucket_commits, mask_commit, raise_commits}
-use Rattle.mask_mirror.proofs.Keeping.{at_root}
+use Rattle.mask_table.specs.declared.mirrors.mirror.Mirror.{Mirror}
+use Rattle.mask_table.specs.declared.mirrors.mirror.KeptMask.{KeptMask}
+use Rattle.mask_table.specs.OfMirrors.Kept.{Stands, BucketAt, IsKept}
+use Rattle.mask_table.specs.OfMirrors.Given.{AreFreeRows}
+use Rattle.mask_table.specs.OfMirrors.Linked.{Placed, bucket_commits, mask_commit, raise_commits}
+use Rattle.mask_table.proofs.OfMirrors.Keeping.{at_root}
 use Rattle.mask_build.proofs.Aside.{bucket_aside}
 use Rattle.mask_build.proofs.Committing.{commits_all, other_root}
 use Rattle.mask_writer.specs.Masks.{Order, Masks}

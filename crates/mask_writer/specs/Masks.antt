@@ -2,7 +2,7 @@
 use Rattle.std.specs.Prelude.{ℕ, List, Option}
 use Rattle.block_codec.specs.declared.filter.StoredFilter.{StoredFilter}
 use Rattle.block_codec.specs.declared.mask.StoredMask.{StoredMask}
-use Rattle.mask_mirror.specs.Linked.{Placed}
+use Rattle.mask_table.specs.OfMirrors.Linked.{Placed}
 
 -- filters in the order in which they came; no edit after `newest` has brought one of them
 pub record Order : Type 0 where

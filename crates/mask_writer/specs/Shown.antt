@@ -8,11 +8,11 @@ use Rattle.store_history.specs.declared.history.Named.{Named}
 use Rattle.pin_store.specs.declared.shape.Shape.{Shape}
 use Rattle.block_codec.specs.declared.filter.StoredFilter.{StoredFilter}
 use Rattle.block_codec.specs.declared.mask.StoredMask.{StoredMask}
-use Rattle.mask_mirror.specs.declared.mirror.Mirror.{Mirror}
-use Rattle.mask_mirror.specs.declared.mirror.KeptMask.{KeptMask}
-use Rattle.mask_mirror.specs.Kept.{bucket_at, IsKept}
-use Rattle.mask_mirror.specs.Linked.{Placed}
-use Rattle.mask_mirror.specs.Lists.{HasFilters}
+use Rattle.mask_table.specs.declared.mirrors.mirror.Mirror.{Mirror}
+use Rattle.mask_table.specs.declared.mirrors.mirror.KeptMask.{KeptMask}
+use Rattle.mask_table.specs.OfMirrors.Kept.{bucket_at, IsKept}
+use Rattle.mask_table.specs.OfMirrors.Linked.{Placed}
+use Rattle.mask_table.specs.OfMirrors.Lists.{HasFilters}
 use Rattle.mask_writer.specs.Masks.{Order, Standing}
 
 -- a block that has a filter, in front of others

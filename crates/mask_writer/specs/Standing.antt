@@ -10,9 +10,9 @@ use Rattle.pin_store.specs.Layout.{block_words, links_of}
 use Rattle.block_codec.specs.declared.filter.StoredFilter.{StoredFilter}
 use Rattle.block_codec.specs.Filters.{IsFilterBlock}
 use Rattle.mask_table.specs.Buckets.{bucket_root, bucket_for, bucket_of, IsAmong}
-use Rattle.mask_mirror.specs.declared.mirror.KeptMask.{KeptMask}
-use Rattle.mask_mirror.specs.Kept.{Names, KeepsMask}
-use Rattle.mask_mirror.specs.Linked.{Placed}
+use Rattle.mask_table.specs.declared.mirrors.mirror.KeptMask.{KeptMask}
+use Rattle.mask_table.specs.OfMirrors.Kept.{Names, KeepsMask}
+use Rattle.mask_table.specs.OfMirrors.Linked.{Placed}
 use Rattle.mask_writer.specs.Masks.{Order, Standing, Masks}
 
 -- ---- by slot

@@ -19,10 +19,10 @@ impl MaskWriter {
     ghost use Rattle.flow_mask.specs.Sizes.{is_size};
     ghost use Rattle.block_codec.specs.declared.filter.StoredFilter.{StoredFilter};
     ghost use Rattle.mask_table.specs.Buckets.{IsAmong};
-    ghost use Rattle.mask_mirror.specs.declared.mirror.KeptMask.{KeptMask};
-    ghost use Rattle.mask_mirror.specs.Given.{AreGiven};
-    ghost use Rattle.mask_mirror.specs.Linked.{placed, resized, raise_commits};
-    ghost use Rattle.mask_mirror.specs.Forgetting.{bucket_blocks};
+    ghost use Rattle.mask_table.specs.declared.mirrors.mirror.KeptMask.{KeptMask};
+    ghost use Rattle.mask_table.specs.OfMirrors.Given.{AreGiven};
+    ghost use Rattle.mask_table.specs.OfMirrors.Linked.{placed, resized, raise_commits};
+    ghost use Rattle.mask_table.specs.OfMirrors.Forgetting.{bucket_blocks};
     ghost use Rattle.mask_writer.specs.Standing.{masks_of, order_at, StandsAt, Holds};
     ghost use Rattle.mask_writer.specs.Standing.{OthersStay, AreNamed, AreFree};
 

@@ -6,9 +6,10 @@
 //! its buckets' roots come first, and the one to its own root last, so that whoever finds the record finds
 //! its buckets filled.
 //!
-//! How chains are kept and changed stands in `mask_mirror`, with why there is a mirror of what was committed;
-//! what changes one chain in `mask_bucket_edits`; what makes a whole mask in `mask_build`. `MaskWriter` is
-//! these in the order that an edit asks for. All room is taken by `with_room`. No other call takes memory.
+//! How chains are kept and changed stands in `mirrors` of `mask_table`, with why there is a mirror of what
+//! was committed; what changes one chain in `mask_bucket_edits`; what makes a whole mask in `mask_build`.
+//! `MaskWriter` is these in the order that an edit asks for. All room is taken by `with_room`. No other call
+//! takes memory.
 //!
 //! # What is said of a writer
 //!

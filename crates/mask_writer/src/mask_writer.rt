@@ -1,12 +1,12 @@
 //! The writer of all masks of a store.
 ghost use Rattle.std.specs.Prelude.{◌≡◌, ◌≤◌, ℕ, None, IfOk};
-ghost use Rattle.mask_mirror.specs.declared.mirror.KeptMask.{KeptMask};
+ghost use Rattle.mask_table.specs.declared.mirrors.mirror.KeptMask.{KeptMask};
 
 use crate::adding::insert_filter;
 use crate::blocks::Blocks;
 use crate::told::{Ended, Joined, Told};
 use block_codec::StoredFilter;
-use mask_mirror::{Mirror, NumberRoom, gather_mask};
+use mask_table::mirrors::{Mirror, NumberRoom, gather_mask};
 use pin_store::{Shape, Store, Writer};
 use std::alloc::Global;
 use std::marker::Model;
@@ -23,6 +23,8 @@ pub struct MaskWriter {
     pub(crate) chain: NumberRoom,
     pub(crate) left_blocks: NumberRoom,
     pub(crate) left_rows: NumberRoom,
+    /// That of the key that was asked for last: a removal looks for its filter there first.
+    pub(crate) hash: u64,
     pub(crate) told: Told,
 }
 
@@ -53,8 +55,8 @@ impl MaskWriter {
     ghost use Rattle.pin_store.specs.Calls.{seen_by, sheet_of, IsSeatOf, IsUnnamed};
     ghost use Rattle.block_codec.specs.Filters.{IsStorableFilter};
     ghost use Rattle.block_codec.specs.declared.filter.StoredFilter.{StoredFilter};
-    ghost use Rattle.mask_mirror.specs.Changing.{root_for, insert_at};
-    ghost use Rattle.mask_mirror.specs.Forgetting.{bucket_blocks};
+    ghost use Rattle.mask_table.specs.OfMirrors.Changing.{root_for, insert_at};
+    ghost use Rattle.mask_table.specs.OfMirrors.Forgetting.{bucket_blocks};
     ghost use Rattle.mask_writer.specs.Telling.{joined};
     ghost use Rattle.mask_writer.specs.Standing.{masks_of, order_at, StandsAt, IsEmptyAt, Holds};
     ghost use Rattle.mask_writer.specs.Standing.{OthersStay, AreNamed};
@@ -74,6 +76,7 @@ impl MaskWriter {
             chain: NumberRoom::with_room(alloc)?,
             left_blocks: NumberRoom::with_room(alloc)?,
             left_rows: NumberRoom::with_room(alloc)?,
+            hash: 0,
             told,
         })
     }

@@ -24,16 +24,19 @@ impl MaskWriter {
     ghost use Rattle.block_codec.specs.declared.filter.StoredFilter.{StoredFilter};
     ghost use Rattle.block_codec.specs.Filters.{IsStorableFilter};
     ghost use Rattle.mask_table.specs.Buckets.{IsAmong};
-    ghost use Rattle.mask_mirror.specs.declared.mirror.KeptMask.{KeptMask};
-    ghost use Rattle.mask_mirror.specs.Given.{AreGiven};
-    ghost use Rattle.mask_mirror.specs.Changing.{FilterAt, root_for, remove_at, replace_at, HasNone};
+    ghost use Rattle.mask_table.specs.declared.mirrors.mirror.KeptMask.{KeptMask};
+    ghost use Rattle.mask_table.specs.OfMirrors.Given.{AreGiven};
+    ghost use Rattle.mask_table.specs.OfMirrors.Changing.{FilterAt, root_for, remove_at, replace_at, HasNone};
     ghost use Rattle.mask_writer.specs.Telling.{without, exchanged};
     ghost use Rattle.mask_writer.specs.Standing.{masks_of, order_at, StandsAt, Holds, OthersStay, AreNamed};
 
     /// How many filters stand in front of the one with a handle in its bucket of the mask at a slot, which
     /// has such a filter: so many blocks are to be given to the removal of that filter. Nothing else is
     /// changed, and no commit is made.
-    pub fn later_than(&mut self, slot: u32, handle: u32) -> u32
+    ///
+    /// The filter is looked for in the bucket of the hash first, and so it is when it is removed next. The
+    /// hash of its key spares a search of the whole mask; any other costs that search alone.
+    pub fn later_than(&mut self, slot: u32, handle: u32, hash: u64) -> u32
         requires slot { slot < MASK_SLOTS }
         requires there { (kept : KeptMask) × (shape : Shape) × (cells : List ℕ) × (roots : ℕ → Named)
             × (root : ℕ) × (front : List StoredFilter) × (filter : StoredFilter)
@@ -45,7 +48,8 @@ impl MaskWriter {
             × FilterAt roots kept.mask handle root front filter × (result ≡ length front) }
         ensures same { self.new ≡ self.old }
     {
-        let found = find(&mut self.chain, &self.mirror, slot, handle);
+        self.hash = hash;
+        let found = find(&mut self.chain, &self.mirror, slot, handle, hash);
         found.front as u32
     }
 
@@ -121,6 +125,7 @@ impl MaskWriter {
             store,
             slot,
             handle,
+            self.hash,
             &given.blocks,
             edit,
         );

@@ -6,7 +6,7 @@ ghost use Rattle.mask_writer.specs.Masks.{Order};
 ghost use Rattle.mask_writer.specs.Telling.{begun, ended, joined, without, exchanged};
 
 use block_codec::StoredFilter;
-use mask_mirror::Mirror;
+use mask_table::mirrors::Mirror;
 use std::marker::{Model, PhantomData};
 
 /// How orders are read off a value.

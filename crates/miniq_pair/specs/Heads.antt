@@ -10,7 +10,7 @@ use Rattle.store_history.specs.declared.history.Named.{Named}
 use Rattle.store_history.specs.History.{root_of, edits_of}
 use Rattle.store_history.specs.Reads.{read_all}
 use Rattle.block_codec.specs.declared.table.StoredTable.{StoredTable}
-use Rattle.block_reading.specs.Read.{table_in}
+use Rattle.block_codec.specs.OfReadings.Read.{table_in}
 
 -- ---- tables
 -- a table with the serials of its masks, as a state has it: no slots

@@ -12,7 +12,7 @@ use crate::law::HeadLaw;
 use block_chain::Walk;
 use block_codec::StoredTable;
 use block_codec::places::HEAD_ROOTS;
-use block_reading::table_in;
+use block_codec::readings::table_in;
 use pin_store::{Reader, Steps, Store};
 use std::sync::ledger::Ledger;
 use tc_base::{Hook, Point};

@@ -9,3 +9,5 @@ pub mod OneControl
 pub mod Texts
 pub mod Fronts
 pub mod Paths
+pub mod OfWholePaths
+pub mod OfNextLines

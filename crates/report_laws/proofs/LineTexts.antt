@@ -8,7 +8,7 @@ use Rattle.frame_edit.specs.declared.meta.Meta.{Meta}
 use Rattle.walk_rules.specs.declared.verdict.Verdict.{Verdict}
 use Rattle.walk_rules.specs.declared.verdict.Verdict.TheVariants as verdicts
 use Rattle.tc_report.specs.Refusals.{refused_line, refusal_words, syntax_words}
-use Rattle.batch_walk.specs.Texts.{counted, end_text}
+use Rattle.walk_texts.specs.Texts.{counted, end_text}
 use Rattle.run_report.specs.declared.events.EventKind.{EventKind}
 use Rattle.run_report.specs.declared.events.EventKind.TheVariants as kinds
 use Rattle.run_report.specs.declared.outcomes.Outcome.{Outcome}

@@ -19,10 +19,10 @@ use Rattle.std.specs.Option.{unwrap_or}
 use Rattle.line_texts.specs.Texts.{handle_text, hex_text, two_digits, four_digits, marked, ether_type_text, protocol_text, class_text}
 use Rattle.tc_batch.specs.KindNames.{kind_text}
 use Rattle.tc_report.specs.Refusals.{refusal_words, syntax_words, place_words, refused_line}
-use Rattle.batch_walk.specs.declared.closing.Summary.{Summary}
+use Rattle.walk_texts.specs.declared.summary.Summary.{Summary}
 use Rattle.batch_run.specs.declared.made_action.MadeAction.{MadeAction}
-use Rattle.capture_walk.specs.declared.counts.Count.{Count}
-use Rattle.batch_walk.specs.Texts.{counted, verdict_text, meta_text, end_text, action_text, count_text, counter_line, edits_text, verdicts_text, summary_line}
+use Rattle.walk_ends.specs.declared.counts.Count.{Count}
+use Rattle.walk_texts.specs.Texts.{counted, verdict_text, meta_text, end_text, action_text, count_text, counter_line, edits_text, verdicts_text, summary_line}
 use Rattle.run_report.specs.declared.events.EventKind.{EventKind}
 use Rattle.run_report.specs.declared.events.EventKind.TheVariants as kinds
 use Rattle.run_report.specs.declared.events.Event.{Event}

@@ -1,2 +1,4 @@
 pub mod Begun
 pub mod Stands
+pub mod OfWholePaths
+pub mod OfNextLines

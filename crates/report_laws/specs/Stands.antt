@@ -4,7 +4,7 @@ use Rattle.std.specs.Prelude.{List, [], ◌∷◌, ◌++◌, length, Option, Som
 use Rattle.filter_state.specs.declared.edit.Edit.{Edit}
 use Rattle.filter_state.specs.States.{State, no_state}
 use Rattle.filter_state.specs.Journals.{state_from}
-use Rattle.batch_walk.specs.Texts.{summary_line}
+use Rattle.walk_texts.specs.Texts.{summary_line}
 use Rattle.run_report.specs.declared.events.Event.{Event}
 use Rattle.run_report.specs.declared.outcomes.Outcome.{Outcome}
 use Rattle.run_report.specs.declared.rounds.RoundRecord.{RoundRecord}

@@ -7,7 +7,7 @@ use Rattle.std.proofs.lemmas.List.{drop-append-le, take-append-le, map-append}
 use Rattle.tc_report.proofs.Lines.{take_whole}
 use Rattle.filter_state.specs.Sound.{Each}
 use Rattle.run_report.specs.declared.outcomes.Outcome.{Outcome}
-use Rattle.run_report.specs.declared.outcomes.Row.{Row}
+use Rattle.run_report.specs.declared.outcome_list.Row.{Row}
 use Rattle.run_report.specs.Kept.{IsRowOf, outcome_in, outcomes_in}
 
 -- a part stays as it is

@@ -2,7 +2,7 @@
 use Rattle.std.proofs.Common.{◌≡◌, ◌∙◌, ℕ, ◌+◌, ◌<◌, ◌≤◌, Bool, true, false, List, length, take, get_or, Some, ap, arith}
 use Rattle.std.specs.Prelude.{if◌then◌else◌, slice_get}
 use Rattle.std.proofs.lemmas.Option.{slice_get_within, get_or_from_slice_get}
-use Rattle.batch_walk.specs.Walked.{is_pass}
+use Rattle.walk_ends.specs.Passing.{is_pass}
 use Rattle.run_report.specs.declared.outcomes.Outcome.{Outcome}
 use Rattle.std.proofs.lemmas.List.Sums.{sum_by_more, sum_by_more_le_part, count_by-le-length}
 use Rattle.run_report.specs.declared.events.Event.{Event}

@@ -5,7 +5,7 @@ use Rattle.std.specs.List.{flat_map, enumerate_from}
 use Rattle.std.proofs.lemmas.List.Folds.{flat_map-map}
 use Rattle.std.proofs.lemmas.List.FromFn.{length-enumerate_from, get_or-enumerate_from}
 use Rattle.tc_report.proofs.Lines.{item_more, flat_parts, take_whole}
-use Rattle.batch_walk.specs.Texts.{joined}
+use Rattle.walk_texts.specs.Texts.{joined}
 
 -- one element more, of elements that are numbered
 numbered_more : {X : Type 0} (text : ℕ × X → List ℕ) (first : ℕ) (old before after : List ℕ) (xs : List X) (k number : ℕ) (x : X) → k < length xs → number ≡ first + k → get_or xs k x ≡ x →

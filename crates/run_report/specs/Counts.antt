@@ -1,7 +1,7 @@
 -- What is counted in the rounds of a run (this project's own).
 use Rattle.std.specs.Prelude.{ℕ, ◌-◌, Bool, true, false, List, length, sum_by, count_by}
-use Rattle.batch_walk.specs.Walked.{is_pass}
-use Rattle.batch_walk.specs.declared.closing.Summary.{Summary}
+use Rattle.walk_ends.specs.Passing.{is_pass}
+use Rattle.walk_texts.specs.declared.summary.Summary.{Summary}
 use Rattle.run_report.specs.declared.events.EventKind.{EventKind}
 use Rattle.run_report.specs.declared.events.EventKind.TheVariants as kinds
 use Rattle.run_report.specs.declared.events.Event.{Event}

@@ -5,7 +5,7 @@ use Rattle.line_texts.specs.Texts.{handle_text}
 use Rattle.filter_state.specs.declared.refusal.Done.{Done}
 use Rattle.filter_state.specs.declared.refusal.Done.TheVariants as dones
 use Rattle.tc_report.specs.Refusals.{refusal_words, syntax_words, refused_line}
-use Rattle.batch_walk.specs.Texts.{counted}
+use Rattle.walk_texts.specs.Texts.{counted}
 use Rattle.run_report.specs.declared.events.EventKind.{EventKind}
 use Rattle.run_report.specs.declared.events.EventKind.TheVariants as kinds
 use Rattle.run_report.specs.declared.events.Event.{Event}

@@ -1,9 +1,11 @@
--- How the outcomes of a round lie in buffers that all of them share (this project's own).
-use Rattle.std.specs.Prelude.{ℕ, ◌≤◌, List, map, slice_range}
+-- How the outcomes of a round lie in buffers and in lists (this project's own).
+use Rattle.std.specs.Prelude.{ℕ, ◌≤◌, List, map, slice_get, slice_range, Option, option_and_then, filter_map}
+use Rattle.std.specs.Option.{IsSome}
 use Rattle.run_report.specs.declared.outcomes.Outcome.{Outcome}
+use Rattle.run_report.specs.declared.outcomes.OutcomePlace.{OutcomePlace}
 use Rattle.run_report.specs.declared.outcomes.OutcomeView.{OutcomeView}
-use Rattle.run_report.specs.declared.outcomes.Row.{Row}
-use Rattle.run_report.specs.declared.outcomes.Span.{Span}
+use Rattle.run_report.specs.declared.outcome_list.Row.{Row}
+use Rattle.run_report.specs.declared.outcome_list.Span.{Span}
 
 -- the part is one of a list of so many
 abbrev pub IsSpanOf : ℕ → Span → Type 0
@@ -39,3 +41,15 @@ outcome_seen view = record {
   points = view.points.now;
   executed = view.executed.now;
 }
+
+-- the outcome in a row of one of these lists
+abbrev pub outcome_there : List (List Outcome) → OutcomePlace → Option Outcome
+outcome_there lists place =
+    option_and_then (λ (rows : List Outcome). slice_get rows place.row) (slice_get lists place.list)
+
+abbrev pub IsThere : List (List Outcome) → OutcomePlace → Type 0
+IsThere lists place = IsSome (outcome_there lists place)
+
+-- the outcomes at these places, in order
+abbrev pub outcomes_there : List (List Outcome) → List OutcomePlace → List Outcome
+outcomes_there lists places = filter_map (outcome_there lists) places

@@ -3,7 +3,7 @@ use Rattle.std.specs.Prelude.{ℕ, List, ◌++◌, length, map, codes}
 use Rattle.std.specs.List.{flat_map, enumerate_from}
 use Rattle.frame_edit.specs.declared.meta.Meta.{Meta}
 use Rattle.walk_rules.specs.declared.verdict.Verdict.{Verdict}
-use Rattle.batch_walk.specs.Texts.{counted, end_text}
+use Rattle.walk_texts.specs.Texts.{counted, end_text}
 use Rattle.run_report.specs.declared.outcomes.Outcome.{Outcome}
 
 -- `packet N worker W`

@@ -1,7 +1,7 @@
 -- The report of a run. It is this project's own.
 use Rattle.std.specs.Prelude.{ℕ, ◌+◌, List, [], ◌∷◌, ◌++◌, map, take, codes}
 use Rattle.std.specs.List.{flat_map, enumerate_from}
-use Rattle.batch_walk.specs.Texts.{joined, counted, counter_line, summary_line}
+use Rattle.walk_texts.specs.Texts.{joined, counted, counter_line, summary_line}
 use Rattle.run_report.specs.declared.counters.CounterLine.{CounterLine}
 use Rattle.run_report.specs.declared.rounds.RoundRecord.{RoundRecord}
 use Rattle.run_report.specs.declared.record.RunRecord.{RunRecord}

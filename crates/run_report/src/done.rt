@@ -1,15 +1,15 @@
 //! What an edit did, as a text.
 ghost use Rattle.std.specs.Prelude.{◌≡◌, ◌++◌, codes, OnOk};
 ghost use Rattle.std.specs.List.{flat_map};
-ghost use Rattle.batch_walk.specs.Texts.{counted};
+ghost use Rattle.walk_texts.specs.Texts.{counted};
 ghost use Rattle.run_report.specs.EventTexts.{serials_text, filter_name, filter_text, action_made_text};
 ghost use Rattle.run_report.specs.EventTexts.{done_text};
 
 use crate::pieces::push_text;
-use batch_walk::push_count;
 use filter_state::Done;
 use line_texts::{push_handle, push_number};
 use std::alloc::AllocError;
+use walk_texts::push_count;
 
 fn push_other_serials(out: &mut Vec<u8>, serials: &[u32]) -> Result<(), AllocError>
     ensures { OnOk result (out.new.items

@@ -1,17 +1,17 @@
 //! The lines of a round's events.
 ghost use Rattle.std.specs.Prelude.{◌≡◌, ◌+◌, ◌<◌, ◌^◌, ◌++◌, length, IfOk, OnOk, if◌then◌else◌};
-ghost use Rattle.batch_walk.specs.Texts.{joined};
+ghost use Rattle.walk_texts.specs.Texts.{joined};
 ghost use Rattle.run_report.specs.Counts.{is_accepted, accepted_count};
 ghost use Rattle.run_report.specs.EventTexts.{edit_place, edit_line, event_line, event_lines};
 
 use crate::done::push_done;
 use crate::events::{Event, EventKind};
 use crate::pieces::push_text;
-use batch_walk::push_count;
 use filter_state::Done;
 use std::alloc::AllocError;
 use tc_base::NoMemory;
 use tc_report::{push_bad_line, push_refused};
+use walk_texts::push_count;
 
 #[tactic(auto, unfolding(crate::specs::EventTexts::edit_place))]
 fn push_edit_place(out: &mut Vec<u8>, edits: u32, control: u32, line: u64) -> Result<(), AllocError>

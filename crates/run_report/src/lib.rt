@@ -17,8 +17,10 @@
 //! an event and that of a packet can also be had alone, from what they show (`push_event_line`,
 //! `push_packet_line`), for whoever compares a report line by line.
 //!
-//! A round has as many outcomes as packets, so `Outcomes` keeps their frames, points and executions in three
-//! buffers that all share, and lends an outcome by its place. Contracts see the list of outcomes.
+//! A round has as many outcomes as packets. Whoever walks packets puts their outcomes into an `OutcomeList`,
+//! which keeps frames, points and executions in three buffers that all share, and lends an outcome by its row.
+//! The `Outcomes` of a round are several such lists with the place of each packet's outcome in them, so that
+//! nothing is copied when a round ends. Contracts see both as the list of outcomes.
 //!
 //! Records are plain data, which may go to any thread. `report` keeps nothing, and may be called by any
 //! thread that may read the record.
@@ -30,6 +32,7 @@ mod counters;
 mod done;
 mod event_lines;
 mod events;
+mod outcome_list;
 mod outcomes;
 mod packet_lines;
 mod pieces;
@@ -43,7 +46,8 @@ mod tests;
 pub use counters::{CounterLine, CounterLines};
 pub use event_lines::push_event_line;
 pub use events::{Event, EventKind, Events};
-pub use outcomes::{Outcome, OutcomeView, Outcomes};
+pub use outcome_list::OutcomeList;
+pub use outcomes::{Outcome, OutcomePlace, OutcomeView, Outcomes};
 pub use packet_lines::push_packet_line;
 pub use record::RunRecord;
 pub use reporting::report;

@@ -1,10 +1,11 @@
 //! What the walks of a round's packets came to.
-ghost use Rattle.std.specs.Prelude.{◌≡◌, ◌<◌, ◌≤◌, ◌↔◌, length, slice_range, IsTrue};
+ghost use Rattle.std.specs.Prelude.{◌≡◌, ◌<◌, ◌↔◌, All, length, IsTrue};
 
+use crate::outcome_list::OutcomeList;
 use frame_edit::Meta;
 use std::alloc::Global;
 use std::marker::Model;
-use tc_base::{Bytes, NoMemory, Numbers, Pairs, Point};
+use tc_base::{Bytes, Numbers, Pairs, Point};
 use walk_rules::Verdict;
 
 /// How the walk of a packet ended, and what it met. It is what contracts see of a packet's record.
@@ -34,115 +35,67 @@ pub struct OutcomeView<'a> {
     pub executed: &'a [(u32, u32)],
 }
 
-// Where a packet's part of a list begins, and where the next one's does.
+/// Where the outcome of a packet lies: in which list, and in which row of it, both from 0.
 #[derive(Clone, Copy, Debug)]
-struct Span {
-    start: usize,
-    end: usize,
+pub struct OutcomePlace {
+    pub list: u32,
+    pub row: u32,
 }
 
-// The record of a packet, but for its lists.
-#[derive(Clone, Copy, Debug)]
-struct Row {
-    worker: u32,
-    verdict: Verdict,
-    meta: Meta,
-    bytes: Span,
-    points: Span,
-    executed: Span,
-}
-
-/// The outcomes of a round's packets, in the order of the capture. The frames of all of them lie in one
-/// buffer, and so do the points and the executions: one packet more takes no memory of its own.
+/// The outcomes of a round's packets, in the order of the capture. They stay in the lists in which they came,
+/// one for each worker, and so nothing is copied where lists are put together.
 #[derive(Drop, Debug)]
 pub struct Outcomes {
-    rows: Vec<Row>,
-    bytes: Vec<u8>,
-    points: Vec<Point>,
-    executed: Vec<(u32, u32)>,
+    lists: Vec<OutcomeList>,
+    places: Vec<OutcomePlace>,
 }
 
 impl Model for Outcomes {
-    ghost use Rattle.std.specs.Prelude.{List, length};
-    ghost use Rattle.filter_state.specs.Sound.{Each};
+    ghost use Rattle.std.specs.Prelude.{All, List};
     ghost use Rattle.run_report.specs.declared.outcomes.Outcome.{Outcome};
-    ghost use Rattle.run_report.specs.Kept.{outcomes_in, IsRowOf};
+    ghost use Rattle.run_report.specs.Kept.{outcomes_there, IsThere};
 
     ghost Value = { List Outcome };
 
-    ghost view = { λ o. outcomes_in o.bytes.items o.points.items o.executed.items o.rows.items };
+    ghost view = { λ o. outcomes_there o.lists.items o.places.items };
 
-    ghost invariant = { λ o. Each
-        (IsRowOf (length o.bytes.items) (length o.points.items) (length o.executed.items)) o.rows.items };
-}
-
-// The part of a list that a span names.
-fn part<T>(list: &[T], span: Span) -> &[T]
-    requires { (span.start ≤ span.end) × (span.end ≤ length list.now) }
-    ensures { result.now ≡ slice_range list.now span.start span.end }
-{
-    &list[span.start..span.end]
+    ghost invariant = { λ o. All (IsThere o.lists.items) o.places.items };
 }
 
 impl Outcomes {
-    ghost use Rattle.std.specs.Prelude.{◌++◌, ◌∷◌, [], slice_get, Some, OnOk, OnErr};
-    ghost use Rattle.run_report.specs.Kept.{outcome_seen};
+    ghost use Rattle.std.specs.Prelude.{[], slice_get, Some};
+    ghost use Rattle.run_report.specs.Kept.{outcome_seen, outcomes_there, IsThere};
 
-    /// No outcomes yet.
+    /// No outcomes.
     pub fn new(alloc: Global) -> Outcomes
         ensures { result ≡ [] }
     {
         Outcomes {
-            rows: Vec::new(alloc),
-            bytes: Vec::new(alloc),
-            points: Vec::new(alloc),
-            executed: Vec::new(alloc),
+            lists: Vec::new(alloc),
+            places: Vec::new(alloc),
         }
     }
 
-    /// Puts the outcome of the next packet behind those that are there. Its lists are copied.
-    ///
-    /// `NoMemory`: memory was refused, and the outcomes are as they were.
-    pub fn push(&mut self, outcome: &OutcomeView<'_>) -> Result<(), NoMemory>
-        ensures put { OnOk result (self.new ≡ self.old ++ outcome_seen outcome.now ∷ []) }
-        ensures kept { OnErr result (self.new ≡ self.old) }
+    /// The outcomes at these places of the lists, in the order of the places.
+    pub fn of_lists(lists: Vec<OutcomeList>, places: Vec<OutcomePlace>) -> Outcomes
+        requires { All (IsThere lists.items) places.items }
+        ensures { result ≡ outcomes_there lists.items places.items }
     {
-        let (bytes, points, executed) = (self.bytes.len(), self.points.len(), self.executed.len());
-        self.bytes.extend_from_slice(outcome.bytes)?;
-        self.points.extend_from_slice(outcome.points)?;
-        self.executed.extend_from_slice(outcome.executed)?;
-        self.rows.push(Row {
-            worker: outcome.worker,
-            verdict: outcome.verdict,
-            meta: outcome.meta,
-            bytes: Span {
-                start: bytes,
-                end: self.bytes.len(),
-            },
-            points: Span {
-                start: points,
-                end: self.points.len(),
-            },
-            executed: Span {
-                start: executed,
-                end: self.executed.len(),
-            },
-        })?;
-        Ok(())
+        Outcomes { lists, places }
     }
 
     /// How many there are.
     pub fn len(&self) -> usize
         ensures { result ≡ length self.now }
     {
-        self.rows.len()
+        self.places.len()
     }
 
     /// Whether there is none.
     pub fn is_empty(&self) -> bool
         ensures { IsTrue result ↔ (length self.now ≡ 0) }
     {
-        self.rows.is_empty()
+        self.places.is_empty()
     }
 
     /// The outcome of the packet at a place, from 0.
@@ -150,14 +103,7 @@ impl Outcomes {
         requires { place < length self.now }
         ensures { slice_get self.now place ≡ Some (outcome_seen result) }
     {
-        let row = &self.rows[place];
-        OutcomeView {
-            worker: row.worker,
-            verdict: row.verdict,
-            bytes: part(&self.bytes, row.bytes),
-            meta: row.meta,
-            points: part(&self.points, row.points),
-            executed: part(&self.executed, row.executed),
-        }
+        let there = self.places[place];
+        self.lists[there.list as usize].at(there.row as usize)
     }
 }

@@ -1,18 +1,18 @@
 //! The lines of a round's packets.
 ghost use Rattle.std.specs.Prelude.{◌≡◌, ◌++◌, codes, OnOk};
 ghost use Rattle.std.specs.List.{flat_map};
-ghost use Rattle.batch_walk.specs.Texts.{joined, counted};
+ghost use Rattle.walk_texts.specs.Texts.{joined, counted};
 ghost use Rattle.run_report.specs.Kept.{outcome_seen};
 ghost use Rattle.run_report.specs.PacketTexts.{packet_name, points_text, shown_packet, packet_line};
 ghost use Rattle.run_report.specs.PacketTexts.{packet_lines};
 
 use crate::outcomes::{OutcomeView, Outcomes};
 use crate::pieces::push_text;
-use batch_walk::{push_count, push_end};
 use frame_edit::Meta;
 use std::alloc::AllocError;
 use tc_base::Point;
 use walk_rules::Verdict;
+use walk_texts::{push_count, push_end};
 
 #[tactic(auto, unfolding(crate::specs::PacketTexts::packet_name))]
 fn push_packet_name(out: &mut Vec<u8>, number: u64, worker: u32) -> Result<(), AllocError>

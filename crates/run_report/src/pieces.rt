@@ -2,8 +2,8 @@
 ghost use Rattle.std.specs.Prelude.{◌≡◌, ◌++◌, OnOk};
 ghost use Rattle.run_report.specs.Reports.{numbered_line};
 
-use batch_walk::push_count;
 use std::alloc::AllocError;
+use walk_texts::push_count;
 
 pub(crate) fn push_text(out: &mut Vec<u8>, text: &str) -> Result<(), AllocError>
     ensures { OnOk result (out.new.items ≡ out.old.items ++ text.now) }

@@ -1,6 +1,6 @@
 //! The report of a run.
 ghost use Rattle.std.specs.Prelude.{◌≡◌, ◌+◌, ◌<◌, ◌^◌, ◌++◌, length, IfOk, OnOk};
-ghost use Rattle.batch_walk.specs.Texts.{joined};
+ghost use Rattle.walk_texts.specs.Texts.{joined};
 ghost use Rattle.run_report.specs.Counts.{accepted_count, events_in, packets_in};
 ghost use Rattle.run_report.specs.Reports.{round_lines, rounds_lines, counter_lines, report_text};
 
@@ -12,10 +12,10 @@ use crate::record::RunRecord;
 use crate::rounds::RoundRecord;
 use crate::summing::summary_of;
 use batch_run::MadeAction;
-use batch_walk::{push_counter, push_summary};
-use capture_walk::Count;
 use std::alloc::{AllocError, Global};
 use tc_base::NoMemory;
+use walk_ends::Count;
+use walk_texts::{push_counter, push_summary};
 
 // Puts the lines of a round before which so many edits were accepted, and answers how many were accepted
 // then.

@@ -1,13 +1,13 @@
 //! What the rounds of a run came to.
 ghost use Rattle.std.specs.Prelude.{◌≡◌, ◌+◌, ◌<◌, ◌≤◌, ◌^◌, length, if◌then◌else◌};
-ghost use Rattle.batch_walk.specs.Walked.{is_pass};
+ghost use Rattle.walk_ends.specs.Passing.{is_pass};
 ghost use Rattle.run_report.specs.Counts.{accepted_count, passed_count, events_in, packets_in, summary_of};
 
 use crate::events::{Event, EventKind};
 use crate::outcomes::Outcomes;
 use crate::rounds::RoundRecord;
-use batch_walk::Summary;
 use walk_rules::Verdict;
+use walk_texts::Summary;
 
 fn count_accepted(events: &[Event]) -> usize
     ensures value { result ≡ accepted_count events.now }

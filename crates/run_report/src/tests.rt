@@ -1,9 +1,9 @@
-ghost use Rattle.std.specs.Prelude.{◌<◌, ◌^◌, IfOk};
+ghost use Rattle.std.specs.Prelude.{◌≡◌, ◌<◌, ◌^◌, length, IfOk};
 ghost use Rattle.run_report.specs.Counts.{events_in, packets_in};
 
 use crate::{
-    CounterLine, CounterLines, Event, EventKind, Events, OutcomeView, Outcomes, RoundRecord,
-    RoundRecords, RunRecord, report,
+    CounterLine, CounterLines, Event, EventKind, Events, OutcomeList, OutcomePlace, OutcomeView,
+    Outcomes, RoundRecord, RoundRecords, RunRecord, report,
 };
 use act_kinds::Kind;
 use filter_state::Done;
@@ -48,9 +48,11 @@ fn filter(alloc: Global, line: u64, number: u32) -> Result<Event, AllocError> {
     Ok(accepted(line, done))
 }
 
-fn outcomes(alloc: Global) -> Result<Outcomes, NoMemory> {
-    let mut outcomes = Outcomes::new(alloc);
-    outcomes.push(&OutcomeView {
+fn outcomes(alloc: Global) -> Result<Outcomes, NoMemory>
+    ensures { IfOk result (λ outcomes. length outcomes ≡ 1) }
+{
+    let mut list = OutcomeList::new(alloc);
+    list.push(&OutcomeView {
         worker: 1,
         verdict: Verdict::Pass,
         bytes: &[0; 60],
@@ -58,7 +60,9 @@ fn outcomes(alloc: Global) -> Result<Outcomes, NoMemory> {
         points: &[2, 3, 3],
         executed: &[(2, 60)],
     })?;
-    Ok(outcomes)
+    let lists = Vec::from_array(alloc, [list])?;
+    let places = vec![in alloc; OutcomePlace { list: 0, row: 0 }]?;
+    Ok(Outcomes::of_lists(lists, places))
 }
 
 fn rounds(alloc: Global) -> Result<RoundRecords, NoMemory>

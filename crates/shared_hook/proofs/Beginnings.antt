@@ -11,8 +11,8 @@ use Rattle.filter_state.specs.Steps.{Stepped, step}
 use Rattle.filter_state.specs.Journals.{state_after}
 use Rattle.filter_lists.specs.Edits.{Stays, IsPrepared}
 use Rattle.hook_lists.specs.declared.kept.Kept.{Kept}
-use Rattle.hook_edit_laws.specs.Premises.{now, next, IsAccepted}
-use Rattle.desk_ledger.specs.Kept.{commits, base}
+use Rattle.hook_store_law.specs.OfEdits.Premises.{now, next, IsAccepted}
+use Rattle.desk_actions.specs.OfLedgers.Kept.{commits, base}
 use Rattle.desk_parts.specs.declared.parts.Parts.{Parts}
 use Rattle.desk_parts.specs.Desk.{IsDesk}
 use Rattle.shared_hook.specs.Applied.{IsCause}

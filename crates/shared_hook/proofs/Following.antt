@@ -14,17 +14,17 @@ use Rattle.hook_law.specs.Meaning.{state_at}
 use Rattle.hook_law.proofs.Growing.{state_pushed}
 use Rattle.hook_meaning.specs.Stated.{hook_meaning}
 use Rattle.hook_lists.specs.States.{state_of}
-use Rattle.hook_edit_laws.specs.Premises.{now, next}
-use Rattle.hook_edit_laws.proofs.Accepted.{sound}
+use Rattle.hook_store_law.specs.OfEdits.Premises.{now, next}
+use Rattle.hook_store_law.proofs.OfEdits.Accepted.{sound}
 use Rattle.desk_needs.specs.declared.pool.Pool.{Pool}
 use Rattle.desk_needs.specs.Needs.{needed_of}
 use Rattle.desk_room_laws.proofs.Pools.{suffice, edit_few}
-use Rattle.desk_ledger.specs.Kept.{commits, base}
+use Rattle.desk_actions.specs.OfLedgers.Kept.{commits, base}
 use Rattle.desk_parts.specs.declared.parts.Parts.{Parts}
-use Rattle.desk_counts.specs.Counts.{free_of, left_of, AreCounted}
-use Rattle.desk_plans.specs.Done.{IsDone}
-use Rattle.desk_plans.specs.Plans.{IsPlan, IsReadyFor}
-use Rattle.desk_plans.proofs.Staying.{plan_stays}
+use Rattle.shared_hook.specs.OfBalance.Counts.{free_of, left_of, AreCounted}
+use Rattle.shared_hook.specs.OfPlans.Done.{IsDone}
+use Rattle.shared_hook.specs.OfPlans.Plans.{IsPlan, IsReadyFor}
+use Rattle.shared_hook.proofs.OfPlans.Staying.{plan_stays}
 use Rattle.shared_hook.specs.declared.beginning.Begun.{Begun}
 use Rattle.shared_hook.specs.declared.fault.ApplyFault.{ApplyFault}
 use Rattle.shared_hook.specs.declared.fault.ApplyFault.TheVariants.{Held, Refused}

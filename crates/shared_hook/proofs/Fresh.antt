@@ -4,11 +4,11 @@ use Rattle.store_history.specs.declared.history.Commit.{Commit}
 use Rattle.tc_base.specs.declared.hook.Hook.TheVariants as hooks
 use Rattle.filter_state.specs.declared.edit.Edit.{Edit}
 use Rattle.filter_state.specs.States.{no_state}
-use Rattle.hook_edit_laws.specs.Premises.{now}
+use Rattle.hook_store_law.specs.OfEdits.Premises.{now}
 use Rattle.desk_needs.specs.declared.pool.Pool.TheVariants as pools
 use Rattle.desk_pools.specs.declared.pools.Pools.{Pools}
 use Rattle.desk_pools.specs.Pools.{AreAllFree, IsNothingLeft}
-use Rattle.desk_counts.specs.Counts.{AreCounted}
+use Rattle.shared_hook.specs.OfBalance.Counts.{AreCounted}
 
 nothing : now [] ≡ no_state
 nothing = refl

@@ -5,3 +5,5 @@ pub mod Beginnings
 pub mod Roominess
 pub mod Following
 pub mod Fresh
+pub mod OfBalance
+pub mod OfPlans

@@ -9,14 +9,14 @@ use Rattle.filter_state.specs.declared.edit.Edit.{Edit}
 use Rattle.store_history.specs.History.{edits_of}
 use Rattle.hook_law.specs.Meaning.{state_at}
 use Rattle.hook_meaning.specs.Stated.{hook_meaning}
-use Rattle.hook_edit_laws.specs.Premises.{now}
+use Rattle.hook_store_law.specs.OfEdits.Premises.{now}
 use Rattle.desk_needs.specs.declared.needs.Needs.{Needs}
 use Rattle.desk_tidy.specs.Tidied.{IsTwiceIn, Empties, AreTidied, empty_at, emptying}
 use Rattle.desk_tidy.proofs.Emptied.{mapped_at}
-use Rattle.desk_ledger.specs.Kept.{commits}
+use Rattle.desk_actions.specs.OfLedgers.Kept.{commits}
 use Rattle.desk_parts.specs.declared.parts.Parts.{Parts}
 use Rattle.desk_parts.specs.Desk.{IsDesk}
-use Rattle.desk_counts.specs.Counts.{AreCounted}
+use Rattle.shared_hook.specs.OfBalance.Counts.{AreCounted}
 use Rattle.shared_hook.specs.Begun.{BeginsEpochs, HasAll, IsCleared}
 use Rattle.shared_hook.proofs.Rising.{free_rises}
 use Rattle.shared_hook.proofs.Shorts.{count_free, counted_on}

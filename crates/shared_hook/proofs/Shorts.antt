@@ -12,7 +12,7 @@ use Rattle.desk_needs.specs.Live.{live_of, size_of_pool}
 use Rattle.desk_needs.specs.Needs.{needs_of, needed_of}
 use Rattle.desk_pools.specs.declared.pools.Pools.{Pools}
 use Rattle.desk_tidy.specs.Tidied.{IsTidied, AreTidied}
-use Rattle.desk_counts.specs.Counts.{free_of, left_of, AreCounted}
+use Rattle.shared_hook.specs.OfBalance.Counts.{free_of, left_of, AreCounted}
 use Rattle.shared_hook.specs.declared.short.Short.{Short}
 use Rattle.shared_hook.specs.Short.{place_of, need_of, IsShort}
 use Rattle.shared_hook.specs.Views.{count_of, free_in, left_in}

@@ -11,7 +11,7 @@ use Rattle.filter_state.specs.declared.refusal.Refusal.TheVariants as refusals
 use Rattle.filter_state.specs.States.{State}
 use Rattle.filter_state.specs.Steps.{Stepped, step}
 use Rattle.filter_lists.specs.Edits.{Stays}
-use Rattle.hook_edit_laws.specs.Premises.{now}
+use Rattle.hook_store_law.specs.OfEdits.Premises.{now}
 use Rattle.desk_needs.specs.declared.pool.Pool.{Pool}
 use Rattle.desk_needs.specs.Needs.{needed_of}
 use Rattle.shared_hook.specs.Short.{place_of}

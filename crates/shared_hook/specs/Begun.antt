@@ -7,16 +7,16 @@ use Rattle.pin_store.specs.declared.note.Note.TheVariants.{Unknown, Seen}
 use Rattle.pin_store.specs.Calls.{sheet_of}
 use Rattle.filter_state.specs.declared.edit.Edit.{Edit}
 use Rattle.filter_state.specs.declared.refusal.Done.{Done}
-use Rattle.hook_edit_laws.specs.Premises.{now, next, IsAccepted}
+use Rattle.hook_store_law.specs.OfEdits.Premises.{now, next, IsAccepted}
 use Rattle.desk_needs.specs.declared.needs.Needs.{Needs}
 use Rattle.desk_needs.specs.declared.pool.Pool.{Pool}
 use Rattle.desk_needs.specs.Live.{live_of, size_of_pool}
 use Rattle.desk_needs.specs.Needs.{needs_of}
-use Rattle.desk_ledger.specs.Kept.{commits, base}
+use Rattle.desk_actions.specs.OfLedgers.Kept.{commits, base}
 use Rattle.desk_parts.specs.declared.parts.Parts.{Parts}
 use Rattle.desk_parts.specs.Desk.{IsDesk}
-use Rattle.desk_counts.specs.Counts.{free_of, left_of, AreCounted}
-use Rattle.desk_plans.specs.Plans.{IsPlan}
+use Rattle.shared_hook.specs.OfBalance.Counts.{free_of, left_of, AreCounted}
+use Rattle.shared_hook.specs.OfPlans.Plans.{IsPlan}
 use Rattle.shared_hook.specs.declared.beginning.Begun.{Begun}
 use Rattle.shared_hook.specs.declared.clearing.Hindrance.{Hindrance}
 use Rattle.shared_hook.specs.Applied.{AreEmpty}

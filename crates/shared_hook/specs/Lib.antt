@@ -2,3 +2,5 @@ pub mod Views
 pub mod Short
 pub mod Applied
 pub mod Begun
+pub mod OfBalance
+pub mod OfPlans

@@ -12,7 +12,7 @@ use Rattle.desk_needs.specs.declared.pool.Pool.{Pool}
 use Rattle.desk_needs.specs.declared.pool.Pool.TheVariants as pools
 use Rattle.desk_pools.specs.declared.pools.Pools.{Pools}
 use Rattle.desk_parts.specs.declared.parts.Parts.{Parts}
-use Rattle.desk_counts.specs.Counts.{free_place, left_place}
+use Rattle.shared_hook.specs.OfBalance.Counts.{free_place, left_place}
 use Rattle.shared_hook.specs.declared.counts.PoolCounts.{PoolCounts}
 
 abbrev pub count_of : PoolCounts → Pool → ℕ

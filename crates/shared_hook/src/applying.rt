@@ -7,9 +7,9 @@ ghost use Rattle.filter_state.specs.declared.refusal.Refusal.{Refusal as ARefusa
 ghost use Rattle.filter_state.specs.Lines.{IsLine};
 ghost use Rattle.filter_lists.specs.Edits.{MayStep};
 ghost use Rattle.desk_needs.specs.declared.pool.Pool.{Pool};
-ghost use Rattle.desk_ledger.specs.Kept.{commits};
-ghost use Rattle.desk_plans.specs.Done.{IsDone};
-ghost use Rattle.desk_plans.specs.Plans.{IsPlan, IsReadyFor};
+ghost use Rattle.desk_actions.specs.OfLedgers.Kept.{commits};
+ghost use Rattle.shared_hook.specs.OfPlans.Done.{IsDone};
+ghost use Rattle.shared_hook.specs.OfPlans.Plans.{IsPlan, IsReadyFor};
 ghost use Rattle.shared_hook.specs.declared.fault.ApplyFault.TheVariants as faults;
 ghost use Rattle.shared_hook.specs.Views.{view_of, journal};
 ghost use Rattle.shared_hook.specs.Begun.{IsCounted};

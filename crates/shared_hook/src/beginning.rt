@@ -4,15 +4,15 @@ ghost use Rattle.filter_state.specs.declared.refusal.Refusal.{Refusal as ARefusa
 ghost use Rattle.filter_state.specs.Lines.{IsLine};
 ghost use Rattle.filter_state.specs.Steps.{step};
 ghost use Rattle.filter_lists.specs.Edits.{Stays, MayStep};
-ghost use Rattle.hook_edit_laws.specs.Premises.{now};
-ghost use Rattle.desk_ledger.specs.Kept.{commits};
+ghost use Rattle.hook_store_law.specs.OfEdits.Premises.{now};
+ghost use Rattle.desk_actions.specs.OfLedgers.Kept.{commits};
 ghost use Rattle.desk_parts.specs.Desk.{IsDesk};
 ghost use Rattle.shared_hook.specs.Applied.{IsCause};
 ghost use Rattle.shared_hook.specs.Begun.{IsBegun};
 
+use crate::plans::Plan;
 use desk_needs::Needs;
 use desk_parts::Parts;
-use desk_plans::Plan;
 use filter_lists::Prepared;
 use filter_state::{Edit, Refusal};
 use std::alloc::Global;

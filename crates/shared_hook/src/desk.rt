@@ -1,7 +1,7 @@
 //! The desk.
 
 use crate::counts::PoolCounts;
-use desk_ledger::Ledger;
+use desk_actions::ledgers::Ledger;
 use desk_needs::Pool;
 use desk_parts::Parts;
 use filter_lists::Lists;
@@ -45,7 +45,7 @@ impl Desk {
     ghost use Rattle.hook_meaning.specs.Stated.{hook_meaning};
     ghost use Rattle.hook_meaning.specs.Blocks.{hook_codec};
     ghost use Rattle.hook_law.specs.Keeping.{Keeps, IsAtRest};
-    ghost use Rattle.hook_edit_laws.specs.Premises.{now};
+    ghost use Rattle.hook_store_law.specs.OfEdits.Premises.{now};
     ghost use Rattle.desk_needs.specs.declared.pool.Pool.{Pool};
     ghost use Rattle.desk_needs.specs.Live.{live_of, size_of_pool};
     ghost use Rattle.desk_tidy.specs.Tidied.{IsTwiceIn};

@@ -45,6 +45,7 @@
 #![tactic(auto)]
 
 mod applying;
+mod balance;
 mod beginning;
 mod clearing;
 mod counts;
@@ -53,6 +54,7 @@ mod fault;
 mod making;
 mod named;
 mod passes;
+mod plans;
 mod short;
 
 pub use counts::PoolCounts;

@@ -1,3 +1,4 @@
 pub mod Seats
 pub mod Claims
 pub mod Counters
+pub mod Drawn

@@ -9,7 +9,9 @@
 //!
 //! A total is a fact about all seats at once. So each seat holds a share, and giving a seat back hands its
 //! share and its deeds to another seat. Whoever holds all shares has all deeds in one list, and only there
-//! `totals` and `draw` tell the whole.
+//! `totals` and `draw` tell the whole. Two laws go on from there: that one draw behind all seats tells that no
+//! number was left out (`each_number_once`), and that a sum over drawn numbers doesn't hang on their order
+//! (`sums_over_numbers`).
 //!
 //! `Counters` and `Claims` are shared by `&` among any number of threads. A seat belongs to one thread at a
 //! time, and may move to another. Seats of one making are given out by `take`, before the threads start, by
@@ -23,6 +25,7 @@
 mod claims;
 mod counters;
 mod hand;
+mod laws;
 mod seats;
 mod tally;
 #[cfg(test)]
@@ -31,4 +34,5 @@ mod tests;
 pub use claims::{Claims, make_claims};
 pub use counters::{Counters, make_counters};
 pub use hand::{ClaimSeat, ClaimSeats};
+pub use laws::{each_number_once, sums_over_numbers};
 pub use tally::{CounterSeat, CounterSeats};

@@ -1,6 +1,8 @@
 -- At most one answer is due, and every file that a due answer reads stands.
 use Rattle.std.proofs.Common.{◌≡◌, ◌⊎◌, inl, inr, ◌∙◌, ℕ, List, Option, Some, sym, ap, subst}
 use Rattle.std.specs.Prelude.{is_some}
+use Rattle.batch_run.specs.declared.limit.TheConstants.{COMMANDS_MAX}
+use Rattle.walk_ends.specs.declared.limits.TheConstants.{PACKETS_MAX}
 use Rattle.tc_base.specs.Outside.{Held}
 use Rattle.tc_base.specs.declared.hook.Hook.{Hook}
 use Rattle.pcap_io.specs.declared.capture.Capture.{Capture}
@@ -15,15 +17,17 @@ use Rattle.tool_words.specs.declared.status.Status.{Status}
 use Rattle.tool_words.specs.declared.status.Status.TheVariants as statuses
 use Rattle.tool_words.specs.Command.{Request, Walk, Show, Run, Recheck, Gen, verb_of}
 use Rattle.tool_words.specs.Ends.{status_after}
-use Rattle.tool_run.specs.Holdings.{Holds, HasTooManyLines, HasCommands, HasCapture, HasBreak}
+use Rattle.input_files.specs.Holdings.{Holds, HasTooManyLines, HasCapture, HasBreak}
+use Rattle.input_files.proofs.Readings.{same_past, not_past, not_broken, same_break}
+use Rattle.tool_run.specs.Holdings.{HasCommands}
 use Rattle.tool_run.specs.Work.{BatchEnds, BatchBreaks, Ends, Breaks, IsRead, Stops}
 use Rattle.tool_run.specs.Causes.{DueTo}
-use Rattle.tool_run.proofs.Readings.{same_run, same_past, not_past, not_broken, same_break}
+use Rattle.tool_run.proofs.Readings.{same_run}
 
 -- ---- a batch: it ran, or it passes the limit of commands
 abbrev IsPast : Option Held → List ℕ → Status → Type 0
 IsPast told b status =
-    (place : ℕ) × HasTooManyLines told b place × (status ≡ statuses.BadInput b place kinds.TooManyLines)
+    (place : ℕ) × HasTooManyLines told COMMANDS_MAX b place × (status ≡ statuses.BadInput b place kinds.TooManyLines)
 
 past_due : (told : Option Held) (b name : List ℕ) (place : ℕ) (kind : InputKind)
     → BatchBreaks told b name place kind → IsPast told b (statuses.BadInput name place kind)
@@ -41,16 +45,16 @@ one_end held b x y h k =
 
 one_past : (held : Held) (b : List ℕ) (x y : Status) → IsPast (Some held) b x → IsPast (Some held) b y → x ≡ y
 one_past held b x y h k =
-    h.2 ∙ ap (λ (p : ℕ). statuses.BadInput b p kinds.TooManyLines) (same_past held b h.0 k.0 h.1 k.1)
+    h.2 ∙ ap (λ (p : ℕ). statuses.BadInput b p kinds.TooManyLines) (same_past held COMMANDS_MAX b h.0 k.0 h.1 k.1)
     ∙ sym k.2
 
 ran_within : (held : Held) (b : List ℕ) (x y : Status) → BatchEnds (Some held) b x → IsPast (Some held) b y
     → ⊥
-ran_within held b x y h k = not_past held b h.1.bytes k.0 h.1.batch k.1
+ran_within held b x y h k = not_past held COMMANDS_MAX b h.1.bytes k.0 h.1.batch k.1
 
 read_within : (held : Held) (b : List ℕ) (status : Status) → HasCommands (Some held) b
     → IsPast (Some held) b status → ⊥
-read_within held b status h k = not_past held b h.0 k.0 h.1 k.1
+read_within held b status h k = not_past held COMMANDS_MAX b h.0 k.0 h.1 k.1
 
 -- ---- show
 abbrev ShowDue : Option Held → List ℕ → Status → Type 0
@@ -83,16 +87,16 @@ shown_stands held b status (inr h) = (h.1.bytes, h.1.held)
 -- ---- walk: all input is well formed, or the batch passes the limit, or the capture breaks its form
 abbrev IsBreak : Option Held → List ℕ → List ℕ → Status → Type 0
 IsBreak told b c status =
-    (place : ℕ) × (kind : InputKind) × HasCommands told b × HasBreak told c place kind
+    (place : ℕ) × (kind : InputKind) × HasCommands told b × HasBreak told PACKETS_MAX c place kind
     × (status ≡ statuses.BadInput c place kind)
 
 abbrev WalkDue : Option Held → List ℕ → List ℕ → Status → Type 0
 WalkDue told b c status =
-    (BatchEnds told b status × ((capture : Capture) × HasCapture told c capture)) ⊎ IsPast told b status
+    (BatchEnds told b status × ((capture : Capture) × HasCapture told PACKETS_MAX c capture)) ⊎ IsPast told b status
     ⊎ IsBreak told b c status
 
 break_due : (told : Option Held) (b c name : List ℕ) (place : ℕ) (kind : InputKind)
-    → BatchBreaks told b name place kind ⊎ ((name ≡ c) × HasCommands told b × HasBreak told c place kind)
+    → BatchBreaks told b name place kind ⊎ ((name ≡ c) × HasCommands told b × HasBreak told PACKETS_MAX c place kind)
     → WalkDue told b c (statuses.BadInput name place kind)
 break_due told b c name place kind (inl past) = inr (inl (past_due told b name place kind past))
 break_due told b c name place kind (inr broken) =
@@ -114,14 +118,14 @@ one_walk : (held : Held) (b c : List ℕ) (x y : Status) → WalkDue (Some held)
     → x ≡ y
 one_walk held b c x y (inl h) (inl k) = one_end held b x y h.0 k.0
 one_walk held b c x y (inl h) (inr (inl k)) = absurd (ran_within held b x y h.0 k)
-one_walk held b c x y (inl h) (inr (inr k)) = absurd (not_broken held c h.1.0 k.0 k.1 h.1.1 k.3)
+one_walk held b c x y (inl h) (inr (inr k)) = absurd (not_broken held PACKETS_MAX c h.1.0 k.0 k.1 h.1.1 k.3)
 one_walk held b c x y (inr (inl h)) (inl k) = absurd (ran_within held b y x k.0 h)
 one_walk held b c x y (inr (inl h)) (inr (inl k)) = one_past held b x y h k
 one_walk held b c x y (inr (inl h)) (inr (inr k)) = absurd (read_within held b x k.2 h)
-one_walk held b c x y (inr (inr h)) (inl k) = absurd (not_broken held c k.1.0 h.0 h.1 k.1.1 h.3)
+one_walk held b c x y (inr (inr h)) (inl k) = absurd (not_broken held PACKETS_MAX c k.1.0 h.0 h.1 k.1.1 h.3)
 one_walk held b c x y (inr (inr h)) (inr (inl k)) = absurd (read_within held b y h.2 k)
 one_walk held b c x y (inr (inr h)) (inr (inr k)) =
-    let e = same_break held c h.0 k.0 h.1 k.1 h.3 k.3 in
+    let e = same_break held PACKETS_MAX c h.0 k.0 h.1 k.1 h.3 k.3 in
     h.4 ∙ ap (λ (p : ℕ). statuses.BadInput c p h.1) e.0 ∙ ap (statuses.BadInput c k.0) e.1 ∙ sym k.4
 
 walked_stands : (held : Held) (b c : List ℕ) (status : Status) → WalkDue (Some held) b c status

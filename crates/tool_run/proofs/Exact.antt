@@ -1,6 +1,7 @@
 -- No answer but the one that is due comes, unless a call outside failed or memory ran out.
 use Rattle.std.proofs.Common.{◌≡◌, ◌⊎◌, inl, inr, ℕ, Bool, true, false, List, Option, Some, None, refl, sym, subst}
 use Rattle.std.specs.Prelude.{IsSome, IsSomeAnd, IfSome, is_some}
+use Rattle.batch_run.specs.declared.limit.TheConstants.{COMMANDS_MAX}
 use Rattle.tc_base.specs.Outside.{Held, Rose}
 use Rattle.filter_state.specs.States.{no_state}
 use Rattle.batch_run.specs.Commands.{commands_of}
@@ -11,9 +12,11 @@ use Rattle.tool_words.specs.declared.status.Status.{Status}
 use Rattle.tool_words.specs.declared.status.Status.TheVariants as statuses
 use Rattle.tool_words.specs.Command.{Request, Walk, Show, Run, Recheck, Gen}
 use Rattle.tool_words.specs.Ends.{status_after, IsAllDone}
-use Rattle.tool_run.specs.Holdings.{Holds, HasBatch, HasRun}
+use Rattle.input_files.specs.Holdings.{Holds, HasBatch}
+use Rattle.input_files.specs.Failures.{ReadFails}
+use Rattle.tool_run.specs.Holdings.{HasRun}
 use Rattle.tool_run.specs.Work.{Ends, IsRead}
-use Rattle.tool_run.specs.Causes.{ReadFails, DueTo, DueIn, CausedTo, FailedOutside, IsNotBuilt}
+use Rattle.tool_run.specs.Causes.{DueTo, DueIn, CausedTo, FailedOutside, IsNotBuilt}
 use Rattle.tool_run.specs.Ready.{IsReady}
 use Rattle.tool_run.proofs.Due.{one_due, stands}
 
@@ -104,7 +107,7 @@ batch_owes told r false ends = (statuses.Done, ends, inl tt)
 batch_owes told r true ends = (statuses.LinesRefused 1, ends, inl tt)
 
 -- a batch that stands has a run
-ran : (told : Option Held) (b bytes : List ℕ) → HasBatch told b bytes → (ran : Ran) × HasRun told b ran
+ran : (told : Option Held) (b bytes : List ℕ) → HasBatch told COMMANDS_MAX b bytes → (ran : Ran) × HasRun told b ran
 ran told b bytes batch =
     let some = some_ran no_state 0 (commands_of bytes) in
     (some.0, record { bytes = bytes; batch = batch; runs = some.1 })

@@ -6,6 +6,5 @@ pub mod Lines
 pub mod Making
 pub mod PacketLines
 pub mod Readings
-pub mod TooMany
 pub mod Walking
 pub mod Writing

@@ -8,7 +8,8 @@ use Rattle.std.proofs.Math.Seq.{take-add}
 use Rattle.std.proofs.lemmas.List.Folds.{drop_split}
 use Rattle.std.proofs.lemmas.Grind.{flat_map-append}
 use Rattle.capture_walk.specs.declared.ends.PacketEnd.{PacketEnd}
-use Rattle.batch_walk.specs.Texts.{joined, counted, end_text, packet_line, packet_lines}
+use Rattle.walk_texts.specs.Texts.{joined, counted, end_text}
+use Rattle.batch_walk.specs.Texts.{packet_line, packet_lines}
 use Rattle.tool_run.specs.Endings.{ending_of}
 
 -- a text is what stands before a place, the piece from there, and what stands behind the piece

@@ -3,7 +3,8 @@ use Rattle.std.proofs.Common.{◌≡◌, ℕ, ◌+◌, List, ◌++◌, length, r
 use Rattle.std.specs.Prelude.{codes, decimal}
 use Rattle.std.proofs.lemmas.List.{length-append}
 use Rattle.capture_walk.specs.declared.ends.PacketEnd.{PacketEnd}
-use Rattle.batch_walk.specs.Texts.{counted, packet_line}
+use Rattle.walk_texts.specs.Texts.{counted}
+use Rattle.batch_walk.specs.Texts.{packet_line}
 use Rattle.tool_run.specs.Endings.{ending_of}
 use Rattle.tool_run.proofs.Lines.{line_parts}
 

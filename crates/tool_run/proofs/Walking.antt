@@ -1,5 +1,7 @@
 -- What the input of a walk gives, and how far the walk comes with that.
 use Rattle.std.proofs.Common.{◌≡◌, ◌⊎◌, inl, inr, ℕ, List, Option, ap, subst}
+use Rattle.batch_run.specs.declared.limit.TheConstants.{COMMANDS_MAX}
+use Rattle.walk_ends.specs.declared.limits.TheConstants.{PACKETS_MAX}
 use Rattle.tc_base.specs.Outside.{Held, AppendsUpTo, OthersStay, Stands}
 use Rattle.tc_base.specs.Pieces.{joined}
 use Rattle.tc_base.specs.declared.hook.Hook.{Hook}
@@ -12,13 +14,14 @@ use Rattle.batch_walk.specs.Walked.{IsWalked, told_text}
 use Rattle.tool_words.specs.Requests.{Names}
 use Rattle.tool_words.specs.declared.status.Status.{Status}
 use Rattle.tool_words.specs.Ends.{status_after}
-use Rattle.tool_run.specs.Holdings.{HasBatch, HasCapture, Gives}
+use Rattle.input_files.specs.Holdings.{HasBatch, HasCapture}
+use Rattle.tool_run.specs.Holdings.{Gives}
 use Rattle.tool_run.specs.Delivered.{WalkedSoFar}
 
 -- a batch and a capture that stand give what the walk of the one through the other comes to
 pub walk_gives : (told : Option Held) (hook : Hook) (names : Names) (bytes : List ℕ)
-    (commands : List Command) (capture : Capture) (walk : BatchWalk) → HasBatch told names.batch bytes
-    → commands ≡ commands_of bytes → HasCapture told names.capture capture
+    (commands : List Command) (capture : Capture) (walk : BatchWalk) → HasBatch told COMMANDS_MAX names.batch bytes
+    → commands ≡ commands_of bytes → HasCapture told PACKETS_MAX names.capture capture
     → ((ran : Ran) × IsRun no_state 0 commands ran × IsWalked ran hook capture walk)
     → Gives told hook names (joined walk.output.pieces) (told_text walk.text) (status_after walk.refused)
 walk_gives told hook names bytes commands capture walk batch are stands walked = record {

@@ -1,18 +1,11 @@
 -- Why a run ends as it does.
-use Rattle.std.specs.Prelude.{◌≡◌, ◌⊎◌, ℕ, List, Option, Some, None, IsSomeAnd}
+use Rattle.std.specs.Prelude.{◌≡◌, ◌⊎◌, ℕ, List, Option, Some, None}
 use Rattle.tc_base.specs.Outside.{Held, Rose}
 use Rattle.tool_words.specs.declared.status.Status.{Status}
 use Rattle.tool_words.specs.declared.status.Status.TheVariants as statuses
 use Rattle.tool_words.specs.Command.{Request, request_of}
+use Rattle.input_files.specs.Failures.{ReadFails}
 use Rattle.tool_run.specs.Work.{Ends, Breaks, IsRead, Stops, IsUnlawful}
-
--- a file was not read: the shelf tells that nothing stands under its name, or reads failed in this call, the
--- last of them at this name
-abbrev pub ReadFails : {S : Type 0} → (S → Option Held) → (S → ℕ) → (S → Option (List ℕ)) → S → S → List ℕ
-    → Type 0
-ReadFails held read_faults failed_name old new name =
-    IsSomeAnd (held old) (λ h. h name ≡ None)
-    ⊎ (Rose (read_faults old) (read_faults new) × (failed_name new ≡ Some name))
 
 -- a put or a write failed
 abbrev pub WriteFails : {S O : Type 0} → (S → ℕ) → (O → ℕ) → S → S → O → O → Type 0

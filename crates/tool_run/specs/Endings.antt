@@ -1,7 +1,8 @@
 -- The line of a packet, and what it tells behind its number (this project's own).
 use Rattle.std.specs.Prelude.{◌≡◌, ℕ, List, ◌++◌, length, codes}
 use Rattle.capture_walk.specs.declared.ends.PacketEnd.{PacketEnd}
-use Rattle.batch_walk.specs.Texts.{counted, end_text, packet_line}
+use Rattle.walk_texts.specs.Texts.{counted, end_text}
+use Rattle.batch_walk.specs.Texts.{packet_line}
 use Rattle.tool_run.specs.declared.packet_line.PacketLine.{PacketLine}
 
 -- how the packet ended, to the end of the line

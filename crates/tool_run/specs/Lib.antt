@@ -1,4 +1,3 @@
-pub mod Broken
 pub mod Causes
 pub mod Delivered
 pub mod Endings

@@ -1,21 +1,12 @@
 -- Why the parts of a run answer nothing.
-use Rattle.std.specs.Prelude.{◌≡◌, ℕ, List, Option, Some}
-use Rattle.tc_base.specs.Outside.{Held, Rose}
+use Rattle.std.specs.Prelude.{◌≡◌, ℕ, List, Some}
+use Rattle.tc_base.specs.Outside.{Rose}
 use Rattle.batch_run.specs.Commands.{Command, line_past}
 use Rattle.tool_words.specs.declared.status.InputKind.TheVariants as kinds
 use Rattle.tool_words.specs.declared.status.Status.{Status}
 use Rattle.tool_words.specs.declared.status.Status.TheVariants as statuses
 use Rattle.batch_run.specs.declared.limit.TheConstants.{COMMANDS_MAX}
-use Rattle.tool_run.specs.Holdings.{HasBreak}
-use Rattle.tool_run.specs.Causes.{ReadFails, WriteFails}
-
--- why one file was not loaded
-abbrev pub LoadFails : {S : Type 0} → (S → Option Held) → (S → ℕ) → (S → Option (List ℕ)) → S → S → List ℕ
-    → Status → Type 0
-LoadFails held read_faults failed_name old new name (statuses.ReadFault failed) =
-    (failed ≡ name) × ReadFails held read_faults failed_name old new name
-LoadFails held read_faults failed_name old new name statuses.NoMemory = Unit {0}
-LoadFails held read_faults failed_name old new name status = ⊥
+use Rattle.tool_run.specs.Causes.{WriteFails}
 
 -- why a batch of these commands wasn't applied: they pass the limit at a line
 abbrev pub ApplyingFails : List ℕ → List Command → Status → Type 0
@@ -23,14 +14,6 @@ ApplyingFails name commands (statuses.BadInput file place kind) =
     (file ≡ name) × (line_past COMMANDS_MAX commands ≡ Some place) × (kind ≡ kinds.TooManyLines)
 ApplyingFails name commands statuses.NoMemory = Unit {0}
 ApplyingFails name commands status = ⊥
-
--- why a capture gave no packets
-abbrev pub CaptureFails : {S : Type 0} → (S → Option Held) → (S → ℕ) → (S → Option (List ℕ)) → S → S → List ℕ
-    → Status → Type 0
-CaptureFails held read_faults failed_name old new name (statuses.BadInput file place kind) =
-    (file ≡ name) × HasBreak (held old) name place kind
-CaptureFails held read_faults failed_name old new name status =
-    LoadFails held read_faults failed_name old new name status
 
 -- why a file was not put
 abbrev pub PutFails : {S : Type 0} → (S → ℕ) → S → S → Status → Type 0

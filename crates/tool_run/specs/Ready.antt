@@ -1,25 +1,27 @@
 -- The input of a request that is held and well formed, within the limits.
+use Rattle.batch_run.specs.declared.limit.TheConstants.{COMMANDS_MAX}
+use Rattle.walk_ends.specs.declared.limits.TheConstants.{PACKETS_MAX}
 use Rattle.std.specs.Prelude.{◌≡◌, ℕ, List, Option, Some, IsSome}
 use Rattle.tc_base.specs.Outside.{Held}
 use Rattle.pcap_io.specs.declared.capture.Capture.{Capture}
 use Rattle.tool_words.specs.Command.{Request, Walk, Show, Gen}
-use Rattle.tool_run.specs.Holdings.{HasBatch, HasCapture}
+use Rattle.input_files.specs.Holdings.{HasBatch, HasCapture}
 
 -- the shelf tells what it holds, and the batch stands
 pub record ShowReady (told : Option Held) (name : List ℕ) : Type 0 where
   pub held : Held
   pub tells : told ≡ Some held
   pub bytes : List ℕ
-  pub batch : HasBatch told name bytes
+  pub batch : HasBatch told COMMANDS_MAX name bytes
 
 -- the shelf tells what it holds, both files stand, and the capture is well formed
 pub record WalkReady (told : Option Held) (batch capture : List ℕ) : Type 0 where
   pub held : Held
   pub tells : told ≡ Some held
   pub bytes : List ℕ
-  pub batch_stands : HasBatch told batch bytes
+  pub batch_stands : HasBatch told COMMANDS_MAX batch bytes
   pub packets : Capture
-  pub capture_stands : HasCapture told capture packets
+  pub capture_stands : HasCapture told PACKETS_MAX capture packets
 
 -- `gen` has no input: there it is enough that the shelf tells what it holds
 abbrev pub IsReady : Option Held → Request → Type 0

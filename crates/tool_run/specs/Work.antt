@@ -1,5 +1,7 @@
 -- How the files that a request names let it end. A request's input files have an order: a later one counts
 -- where those before it are held and well formed. `gen` reads no file: what it makes lets it end.
+use Rattle.batch_run.specs.declared.limit.TheConstants.{COMMANDS_MAX}
+use Rattle.walk_ends.specs.declared.limits.TheConstants.{PACKETS_MAX}
 use Rattle.std.specs.Prelude.{◌≡◌, ◌⊎◌, ℕ, List, Option, is_some}
 use Rattle.tc_base.specs.Outside.{Held}
 use Rattle.pcap_io.specs.declared.capture.Capture.{Capture}
@@ -10,7 +12,8 @@ use Rattle.tool_words.specs.declared.status.Status.{Status}
 use Rattle.gen_run.specs.Generated.{IsRunOf}
 use Rattle.tool_words.specs.Command.{Request, Walk, Show, Gen, verb_of}
 use Rattle.tool_words.specs.Ends.{status_after}
-use Rattle.tool_run.specs.Holdings.{HasRun, HasTooManyLines, HasCommands, HasCapture, HasBreak}
+use Rattle.input_files.specs.Holdings.{HasTooManyLines, HasCapture, HasBreak}
+use Rattle.tool_run.specs.Holdings.{HasRun, HasCommands}
 
 -- the batch that a request names ends the run with this status
 abbrev pub BatchEnds : Option Held → List ℕ → Status → Type 0
@@ -20,7 +23,7 @@ BatchEnds told batch status = (ran : Ran) × HasRun told batch ran × (status �
 abbrev pub Ends : Option Held → Request → Status → Type 0
 Ends told (Show b) status = BatchEnds told b status
 Ends told (Walk hook b c o) status =
-    BatchEnds told b status × ((capture : Capture) × HasCapture told c capture)
+    BatchEnds told b status × ((capture : Capture) × HasCapture told PACKETS_MAX c capture)
 Ends told (Gen count front) status =
     (ran : Ran) × IsRunOf count ran × (status ≡ status_after (is_some ran.stop))
 Ends told request status = ⊥
@@ -28,13 +31,13 @@ Ends told request status = ⊥
 -- the batch under its name has too many commands
 abbrev pub BatchBreaks : Option Held → List ℕ → List ℕ → ℕ → InputKind → Type 0
 BatchBreaks told batch name place kind =
-    (name ≡ batch) × HasTooManyLines told batch place × (kind ≡ kinds.TooManyLines)
+    (name ≡ batch) × HasTooManyLines told COMMANDS_MAX batch place × (kind ≡ kinds.TooManyLines)
 
 -- an input file breaks its form, first at this place
 abbrev pub Breaks : Option Held → Request → List ℕ → ℕ → InputKind → Type 0
 Breaks told (Show b) name place kind = BatchBreaks told b name place kind
 Breaks told (Walk hook b c o) name place kind =
-    BatchBreaks told b name place kind ⊎ ((name ≡ c) × HasCommands told b × HasBreak told c place kind)
+    BatchBreaks told b name place kind ⊎ ((name ≡ c) × HasCommands told b × HasBreak told PACKETS_MAX c place kind)
 Breaks told request name place kind = ⊥
 
 -- an input file, with those before it held and well formed

@@ -5,7 +5,7 @@
 //! is at fault, and the bytes put and written are those that the definitions give. `plain` is the same for
 //! the words that run no job.
 //!
-//! Each command has a module of its own. `input` fetches and reads its files in their order, where the first
+//! Each command has a module of its own, which reads its files in their order (`input_files`), where the first
 //! fault ends the run; `run_show`, `run_walk` and `run_gen` work out all that one command asks for, then put,
 //! then write; `text` writes line by line, so that a text of a million lines is never held, and `packet_line`
 //! makes each packet's line of the one before, whose number is counted up where it stands. What is put and

@@ -2,11 +2,11 @@
 ghost use Rattle.std.specs.Prelude.{◌≡◌, ◌++◌, OnOk};
 ghost use Rattle.tool_run.specs.Endings.{ending_of};
 
-use batch_walk::{push_count, push_end};
 use capture_walk::PacketEnd;
 use frame_edit::Meta;
 use std::alloc::{AllocError, Global};
 use walk_rules::Verdict;
+use walk_texts::{push_count, push_end};
 
 /// What stands before a packet's number.
 const LABEL: &str = "packet ";

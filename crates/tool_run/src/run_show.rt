@@ -11,9 +11,10 @@ ghost use Rattle.batch_run.specs.declared.limit.TheConstants.{COMMANDS_MAX};
 ghost use Rattle.tool_run.specs.Parts.{ApplyingFails};
 ghost use Rattle.tool_run.specs.Delivered.{Showed, LeavesAllUnlessRun, CameSoFar};
 
-use crate::input::{batch_lines, load};
+use crate::input::batch_lines;
 use crate::text::write_text;
 use batch_show::{Shown, show_batch};
+use input_files::load;
 use std::alloc::Global;
 use tc_base::{Shelf, Sink};
 use tool_words::Status;

@@ -9,12 +9,14 @@ ghost use Rattle.tool_run.specs.Causes.{CausedTo};
 ghost use Rattle.tool_run.specs.Parts.{DeliveryFails};
 ghost use Rattle.tool_run.specs.Delivered.{Walked, LeavesAllUnlessRun, WalkedSoFar};
 
-use crate::input::{batch_lines, load, load_capture};
+use crate::input::batch_lines;
 use crate::text::write_walk;
 use batch_walk::{BatchWalk, walk_batch};
+use input_files::{load, load_capture};
 use std::alloc::Global;
 use tc_base::{Hook, Shelf, Sink};
 use tool_words::{Status, WalkNames};
+use walk_ends::PACKETS_MAX;
 
 // Puts the output, and writes the text.
 fn deliver<S: Shelf, O: Sink>(
@@ -58,7 +60,7 @@ pub fn run_walk<S: Shelf, O: Sink>(
 {
     let bytes = load(alloc, shelf, names.batch)?;
     let texts = batch_lines(alloc, names.batch, &bytes)?;
-    let capture = load_capture(alloc, shelf, names.capture)?;
+    let capture = load_capture(alloc, shelf, names.capture, PACKETS_MAX)?;
     let walk = walk_batch(alloc, &texts, hook, &capture)?;
     deliver(alloc, &walk, names.output, shelf, out)?;
     Ok(walk.refused)

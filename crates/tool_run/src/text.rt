@@ -1,7 +1,8 @@
 //! Writing texts.
 ghost use Rattle.std.specs.Prelude.{◌≡◌, ◌+◌, ◌<◌, ◌≤◌, ◌^◌, length, OnOk, IsErrOf};
 ghost use Rattle.tc_base.specs.Outside.{Rose, Appended, AppendsUpTo};
-ghost use Rattle.batch_walk.specs.Texts.{joined, packet_line, packet_lines};
+ghost use Rattle.walk_texts.specs.Texts.{joined};
+ghost use Rattle.batch_walk.specs.Texts.{packet_line, packet_lines};
 ghost use Rattle.batch_walk.specs.Walked.{told_text};
 
 use crate::packet_line::PacketLine;

@@ -9,7 +9,7 @@ use Rattle.store_history.specs.Reads.{read_first}
 use Rattle.flow_mask.specs.Sizes.{size_of}
 use Rattle.block_codec.specs.declared.filter.StoredFilter.{StoredFilter}
 use Rattle.block_codec.specs.declared.mask.StoredMask.{StoredMask}
-use Rattle.block_reading.specs.Read.{mask_of_words}
+use Rattle.block_codec.specs.OfReadings.Read.{mask_of_words}
 use Rattle.mask_table.specs.Buckets.{mask_root, bucket_root}
 use Rattle.mask_table.specs.Told.{edits_by, FitsSize, TellsMask, Stood, BucketTold}
 use Rattle.trial_laws.specs.declared.change.Change.{Change}

@@ -11,7 +11,7 @@ use Rattle.store_history.specs.Reads.{read_first}
 use Rattle.store_history.proofs.Lists.{some_is}
 use Rattle.store_history.proofs.Histories.{root_other}
 use Rattle.block_codec.specs.declared.mask.StoredMask.{StoredMask}
-use Rattle.block_reading.specs.Read.{mask_of_words}
+use Rattle.block_codec.specs.OfReadings.Read.{mask_of_words}
 use Rattle.mask_table.specs.Buckets.{mask_root, bucket_root}
 use Rattle.trial_laws.specs.declared.change.Change.{Change}
 use Rattle.trial_laws.specs.Lone.{IsRecord, WasUsed, IsRaise, Follows, Keeps}

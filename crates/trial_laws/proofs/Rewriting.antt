@@ -16,14 +16,14 @@ use Rattle.pin_store.specs.declared.shape.Shape.{Shape}
 use Rattle.block_codec.specs.declared.filter.StoredFilter.{StoredFilter}
 use Rattle.block_codec.specs.declared.mask.StoredMask.{StoredMask}
 use Rattle.block_codec.specs.Blocks.{IsLink}
-use Rattle.block_reading.specs.Read.{filter_in}
+use Rattle.block_codec.specs.OfReadings.Read.{filter_in}
 use Rattle.mask_table.specs.Buckets.{IsAmong, bucket_root, bucket_for, bucket_of}
-use Rattle.mask_mirror.proofs.Keeping.{some_buckets}
-use Rattle.mask_mirror.specs.declared.mirror.Mirror.{Mirror}
-use Rattle.mask_mirror.specs.declared.mirror.KeptMask.{KeptMask}
-use Rattle.mask_mirror.specs.Kept.{Stands, IsKept}
-use Rattle.mask_mirror.specs.Lists.{HasFilters}
-use Rattle.mask_mirror.specs.Changing.{FilterAt, root_for, insert_at, remove_at}
+use Rattle.mask_table.proofs.OfMirrors.Keeping.{some_buckets}
+use Rattle.mask_table.specs.declared.mirrors.mirror.Mirror.{Mirror}
+use Rattle.mask_table.specs.declared.mirrors.mirror.KeptMask.{KeptMask}
+use Rattle.mask_table.specs.OfMirrors.Kept.{Stands, IsKept}
+use Rattle.mask_table.specs.OfMirrors.Lists.{HasFilters}
+use Rattle.mask_table.specs.OfMirrors.Changing.{FilterAt, root_for, insert_at, remove_at}
 use Rattle.mask_order.specs.Fitting.{FitsBlock}
 use Rattle.mask_order.proofs.ChainsRead.{inserted_reads, read_behind, read_split}
 use Rattle.mask_order.proofs.KeptChains.{kept_reads, kept_fit, kept_link}

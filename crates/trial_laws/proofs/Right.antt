@@ -15,7 +15,7 @@ use Rattle.hook_law.proofs.Growing.{root_same, edits_still}
 use Rattle.flow_mask.specs.Sizes.{size_of}
 use Rattle.block_codec.specs.declared.filter.StoredFilter.{StoredFilter}
 use Rattle.block_codec.specs.declared.mask.StoredMask.{StoredMask}
-use Rattle.block_reading.specs.Read.{filter_in, mask_of_words}
+use Rattle.block_codec.specs.OfReadings.Read.{filter_in, mask_of_words}
 use Rattle.mask_table.specs.Buckets.{mask_root, bucket_root, bucket_of}
 use Rattle.mask_table.specs.Told.{FitsSize, TellsBucket}
 use Rattle.trial_laws.specs.declared.change.Change.{Change}

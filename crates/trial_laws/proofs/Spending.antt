@@ -18,15 +18,15 @@ use Rattle.block_codec.specs.declared.mask.StoredMask.{StoredMask}
 use Rattle.block_codec.specs.Blocks.{block}
 use Rattle.block_codec.specs.Filters.{filter_words}
 use Rattle.block_codec.specs.Masks.{mask_words, IsStorableMask}
-use Rattle.block_reading.specs.Read.{mask_of_words}
+use Rattle.block_codec.specs.OfReadings.Read.{mask_of_words}
 use Rattle.mask_table.specs.Buckets.{mask_root, bucket_root, bucket_for}
-use Rattle.mask_mirror.specs.Linked.{Placed, placed, placed_in, linked, bucket_commit, mask_commit, bucket_commits, raise_commits}
-use Rattle.mask_mirror.specs.Changing.{insert_at, remove_at}
+use Rattle.mask_table.specs.OfMirrors.Linked.{Placed, placed, placed_in, linked, bucket_commit, mask_commit, bucket_commits, raise_commits}
+use Rattle.mask_table.specs.OfMirrors.Changing.{insert_at, remove_at}
 use Rattle.trial_laws.specs.declared.change.Change.{Change}
 use Rattle.trial_laws.specs.Lone.{IsRecord, WasUsed}
 use Rattle.trial_laws.proofs.Right.{not_the_slot, used_now, record_before}
 use Rattle.trial_laws.specs.Ledger.{AreBelow, RowsBelow}
-use Rattle.block_reading.proofs.MaskReads.{mask_block_reads}
+use Rattle.block_codec.proofs.OfReadings.MaskReads.{mask_block_reads}
 
 -- ---- commits one after the other
 -- what each commit of a kind leaves so, all of them do

@@ -17,16 +17,16 @@ use Rattle.hook_law.proofs.Growing.{edits_still}
 use Rattle.block_codec.specs.declared.filter.StoredFilter.{StoredFilter}
 use Rattle.block_codec.specs.declared.mask.StoredMask.{StoredMask}
 use Rattle.block_codec.specs.Masks.{IsStorableMask}
-use Rattle.block_reading.specs.Read.{filter_in, mask_of_words}
+use Rattle.block_codec.specs.OfReadings.Read.{filter_in, mask_of_words}
 use Rattle.mask_table.specs.Buckets.{mask_root, bucket_root, bucket_of}
-use Rattle.mask_mirror.specs.Linked.{Placed, placed, bucket_commit, mask_commit, bucket_commits, raise_commits}
+use Rattle.mask_table.specs.OfMirrors.Linked.{Placed, placed, bucket_commit, mask_commit, bucket_commits, raise_commits}
 use Rattle.mask_order.specs.Fitting.{FitInto}
 use Rattle.mask_order.proofs.Placing.{placed_chain_reads}
 use Rattle.trial_laws.specs.declared.change.Change.{Change}
 use Rattle.trial_laws.specs.Lone.{start, run, lone_words, point_of, now, IsRecord, WasUsed, Follows, Keeps}
 use Rattle.trial_laws.proofs.Growing.{keeps_take, keeps_more}
 use Rattle.trial_laws.proofs.Right.{not_the_slot}
-use Rattle.block_reading.proofs.MaskReads.{mask_block_reads}
+use Rattle.block_codec.proofs.OfReadings.MaskReads.{mask_block_reads}
 use Rattle.trial_laws.proofs.Spending.{along_all, each_commit, used_before}
 
 -- ---- the edits

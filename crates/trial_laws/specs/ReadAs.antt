@@ -7,7 +7,7 @@ use Rattle.block_codec.specs.declared.filter.StoredFilter.{StoredFilter}
 use Rattle.block_codec.specs.declared.mask.StoredMask.{StoredMask}
 use Rattle.block_codec.specs.Blocks.{IsLink}
 use Rattle.block_codec.specs.Masks.{IsStorableMask}
-use Rattle.block_reading.specs.Read.{filter_in, mask_of_words}
+use Rattle.block_codec.specs.OfReadings.Read.{filter_in, mask_of_words}
 use Rattle.mask_table.specs.Buckets.{mask_root, bucket_root, bucket_of}
 use Rattle.mask_order.specs.Fitting.{FitsBlock}
 

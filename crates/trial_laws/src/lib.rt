@@ -17,9 +17,9 @@
 //!
 //! # How a writer's commits keep it
 //!
-//! `mask_mirror` says which commits a writer of masks makes: one for a filter that is put in, one for a
-//! filter that is taken out, and a list of them for a whole mask. That each may follow is said here once, for
-//! whoever drives a writer under this law.
+//! `mirrors` of `mask_table` says which commits a writer of masks makes: one for a filter that is put in, one
+//! for a filter that is taken out, and a list of them for a whole mask. That each may follow is said here
+//! once, for whoever drives a writer under this law.
 //!
 //! - The law speaks of the record that slot 0's root names, and a writer of the mask that it keeps: they are
 //!   the same (`record`).

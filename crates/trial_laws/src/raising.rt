@@ -7,7 +7,7 @@ ghost use Rattle.flow_mask.specs.Sizes.{size_of};
 ghost use Rattle.block_codec.specs.declared.mask.StoredMask.{StoredMask};
 ghost use Rattle.block_codec.specs.Masks.{IsStorableMask};
 ghost use Rattle.mask_table.specs.Buckets.{bucket_root};
-ghost use Rattle.mask_mirror.specs.Linked.{Placed, placed, raise_commits};
+ghost use Rattle.mask_table.specs.OfMirrors.Linked.{Placed, placed, raise_commits};
 ghost use Rattle.mask_order.specs.Fitting.{FitInto};
 ghost use Rattle.trial_laws.specs.declared.change.Change.{Change};
 ghost use Rattle.trial_laws.specs.Lone.{lone_words, point_of, now, IsRecord, WasUsed, Keeps};

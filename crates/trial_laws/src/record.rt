@@ -3,9 +3,9 @@ ghost use Rattle.std.specs.Prelude.{ℕ, List};
 ghost use Rattle.store_history.specs.declared.history.Commit.{Commit};
 ghost use Rattle.store_history.specs.History.{root_of};
 ghost use Rattle.pin_store.specs.declared.shape.Shape.{Shape};
-ghost use Rattle.mask_mirror.specs.declared.mirror.Mirror.{Mirror};
-ghost use Rattle.mask_mirror.specs.declared.mirror.KeptMask.{KeptMask};
-ghost use Rattle.mask_mirror.specs.Kept.{Stands, IsKept};
+ghost use Rattle.mask_table.specs.declared.mirrors.mirror.Mirror.{Mirror};
+ghost use Rattle.mask_table.specs.declared.mirrors.mirror.KeptMask.{KeptMask};
+ghost use Rattle.mask_table.specs.OfMirrors.Kept.{Stands, IsKept};
 ghost use Rattle.trial_laws.specs.declared.change.Change.{Change};
 ghost use Rattle.trial_laws.specs.Lone.{IsRecord};
 

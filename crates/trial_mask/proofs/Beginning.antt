@@ -9,7 +9,7 @@ use Rattle.block_codec.specs.declared.mask.StoredMask.{StoredMask}
 use Rattle.block_codec.specs.Masks.{IsStorableMask}
 use Rattle.mask_table.specs.Buckets.{bucket_root}
 use Rattle.mask_writer.specs.Masks.{Masks}
-use Rattle.mask_mirror.specs.Linked.{placed, raise_commits}
+use Rattle.mask_table.specs.OfMirrors.Linked.{placed, raise_commits}
 use Rattle.mask_order.specs.Fitting.{FitsBlock}
 use Rattle.trial_laws.specs.declared.change.Change.{Change}
 use Rattle.trial_laws.specs.Lone.{lone_words, first_filter, start, Keeps}

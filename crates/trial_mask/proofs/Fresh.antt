@@ -5,7 +5,7 @@ use Rattle.std.proofs.lemmas.Bool.{ne_eqb}
 use Rattle.std.proofs.lemmas.Map.Keys.{IsDistinct-cons}
 use Rattle.store_history.specs.declared.history.Commit.{Commit}
 use Rattle.store_history.specs.History.{IsNamed}
-use Rattle.mask_mirror.specs.Given.{AreGiven}
+use Rattle.mask_table.specs.OfMirrors.Given.{AreGiven}
 use Rattle.trial_laws.specs.declared.change.Change.{Change}
 use Rattle.trial_laws.specs.Ledger.{AreBelow}
 

@@ -14,10 +14,10 @@ use Rattle.flow_mask.specs.Sizes.{size_of}
 use Rattle.block_codec.specs.declared.filter.StoredFilter.{StoredFilter}
 use Rattle.mask_table.specs.Buckets.{bucket_for}
 use Rattle.mask_writer.specs.Masks.{Masks}
-use Rattle.mask_mirror.specs.declared.mirror.KeptMask.{KeptMask}
+use Rattle.mask_table.specs.declared.mirrors.mirror.KeptMask.{KeptMask}
 use Rattle.mask_writer.specs.Standing.{masks_of, StandsAt, Holds, AreNamed}
-use Rattle.mask_mirror.specs.Changing.{root_for, insert_at}
-use Rattle.mask_mirror.proofs.Keeping.{same_base}
+use Rattle.mask_table.specs.OfMirrors.Changing.{root_for, insert_at}
+use Rattle.mask_table.proofs.OfMirrors.Keeping.{same_base}
 use Rattle.mask_order.specs.Fitting.{FitsBlock}
 use Rattle.store_history.proofs.Lists.{get_last}
 use Rattle.trial_laws.specs.declared.change.Change.{Change}

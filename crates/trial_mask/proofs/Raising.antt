@@ -14,11 +14,11 @@ use Rattle.block_codec.specs.declared.filter.StoredFilter.{StoredFilter}
 use Rattle.block_codec.specs.declared.mask.StoredMask.{StoredMask}
 use Rattle.block_codec.specs.Masks.{IsStorableMask}
 use Rattle.mask_writer.specs.Masks.{Masks}
-use Rattle.mask_mirror.specs.declared.mirror.KeptMask.{KeptMask}
+use Rattle.mask_table.specs.declared.mirrors.mirror.KeptMask.{KeptMask}
 use Rattle.mask_writer.proofs.Standing.{slots_count}
 use Rattle.mask_writer.specs.Standing.{masks_of, Holds, AreNamed}
-use Rattle.mask_mirror.specs.Linked.{placed, raise_commits}
-use Rattle.mask_mirror.proofs.Keeping.{same_base}
+use Rattle.mask_table.specs.OfMirrors.Linked.{placed, raise_commits}
+use Rattle.mask_table.proofs.OfMirrors.Keeping.{same_base}
 use Rattle.mask_order.specs.Fitting.{FitsBlock}
 use Rattle.trial_laws.specs.declared.change.Change.{Change}
 use Rattle.trial_laws.specs.Lone.{lone_words, start, run, point_of, now, Keeps, HaveOwnKeys}

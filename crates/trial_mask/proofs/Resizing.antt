@@ -20,9 +20,9 @@ use Rattle.block_codec.specs.declared.mask.StoredMask.{StoredMask}
 use Rattle.block_codec.specs.Masks.{IsStorableMask}
 use Rattle.mask_table.specs.Buckets.{IsAmong}
 use Rattle.mask_writer.specs.Masks.{Masks}
-use Rattle.mask_mirror.specs.declared.mirror.KeptMask.{KeptMask}
+use Rattle.mask_table.specs.declared.mirrors.mirror.KeptMask.{KeptMask}
 use Rattle.mask_writer.specs.Standing.{masks_of, StandsAt, Holds, AreNamed, AreFree}
-use Rattle.mask_mirror.specs.Linked.{placed, resized, raise_commits}
+use Rattle.mask_table.specs.OfMirrors.Linked.{placed, resized, raise_commits}
 use Rattle.mask_writer.proofs.Standing.{one_mask, one_list, record_read}
 use Rattle.mask_order.specs.Fitting.{FitInto}
 use Rattle.trial_laws.specs.declared.change.Change.{Change}

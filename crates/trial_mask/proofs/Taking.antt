@@ -14,12 +14,12 @@ use Rattle.flow_mask.specs.Sizes.{size_of}
 use Rattle.block_codec.specs.declared.filter.StoredFilter.{StoredFilter}
 use Rattle.mask_table.specs.Buckets.{bucket_for, bucket_of}
 use Rattle.mask_writer.specs.Masks.{Masks}
-use Rattle.mask_mirror.specs.declared.mirror.KeptMask.{KeptMask}
+use Rattle.mask_table.specs.declared.mirrors.mirror.KeptMask.{KeptMask}
 use Rattle.mask_writer.specs.Standing.{masks_of, StandsAt, Holds, AreNamed}
 use Rattle.mask_writer.proofs.Standing.{held_later}
-use Rattle.mask_mirror.proofs.Keeping.{same_base}
+use Rattle.mask_table.proofs.OfMirrors.Keeping.{same_base}
 use Rattle.mask_order.specs.Fitting.{FitsBlock}
-use Rattle.mask_mirror.specs.Changing.{FilterAt, HasNone, remove_at}
+use Rattle.mask_table.specs.OfMirrors.Changing.{FilterAt, HasNone, remove_at}
 use Rattle.trial_laws.specs.declared.change.Change.{Change}
 use Rattle.trial_laws.specs.declared.change.Change.TheVariants as changes
 use Rattle.trial_laws.specs.Lone.{point_of, now, changed, Keeps, Follows, HaveOwnKeys}

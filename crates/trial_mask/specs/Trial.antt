@@ -10,7 +10,7 @@ use Rattle.pin_store.specs.Calls.{seen_by, sheet_of}
 use Rattle.flow_mask.specs.Sizes.{size_of}
 use Rattle.block_codec.specs.declared.filter.StoredFilter.{StoredFilter}
 use Rattle.mask_writer.specs.Masks.{Masks}
-use Rattle.mask_mirror.specs.declared.mirror.KeptMask.{KeptMask}
+use Rattle.mask_table.specs.declared.mirrors.mirror.KeptMask.{KeptMask}
 use Rattle.mask_writer.specs.Standing.{StandsAt, Holds, AreNamed}
 use Rattle.mask_order.specs.Fitting.{FitsBlock}
 use Rattle.trial_laws.specs.declared.change.Change.{Change}

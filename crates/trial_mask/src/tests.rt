@@ -10,7 +10,7 @@ use crate::trial::Trial;
 use block_chain::Walk;
 use block_codec::StoredFilter;
 use block_codec::places::{BLOCK_WORDS, BLOCKS, MASK_ROOTS, READERS, ROOTS};
-use block_reading::mask_in;
+use block_codec::readings::mask_in;
 use flow_fields::Key;
 use mask_table::lookup;
 use pin_store::{Reader, Shape, Steps, Store, Writer, make_store};

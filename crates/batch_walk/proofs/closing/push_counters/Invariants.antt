@@ -1,5 +1,6 @@
 use Rattle.std.proofs.Common.{◌≡◌, ◌++◌, take}
-use Rattle.batch_walk.specs.Texts.{joined, counter_lines}
+use Rattle.walk_texts.specs.Texts.{joined}
+use Rattle.batch_walk.specs.Texts.{counter_lines}
 use Rattle.batch_walk.proofs.closing.push_counters.Given as goal
 
 abbrev pub invariant-loop-action : goal.invariant-loop-action

@@ -5,7 +5,7 @@ use Rattle.store_history.specs.History.{root_of}
 use Rattle.store_history.proofs.Lists.{get_drop}
 use Rattle.pin_store.specs.Calls.{seen_by}
 use Rattle.block_codec.specs.declared.filter.StoredFilter.{StoredFilter}
-use Rattle.block_reading.specs.Read.{filter_in}
+use Rattle.block_codec.specs.OfReadings.Read.{filter_in}
 use Rattle.block_chain.specs.Ways.{IsBefore}
 use Rattle.block_chain.proofs.Still.{still, still_named}
 use Rattle.block_chain.proofs.Chains.{all_passed, read_at, read_length}

@@ -2,7 +2,7 @@ use Rattle.std.proofs.Common.{ℕ, ◌∙◌, sym, ap, subst, map, take, List, a
 use Rattle.std.proofs.lemmas.List.{take_all}
 use Rattle.filter_state.specs.Sound.{Each}
 use Rattle.walk_steps.specs.Told.{execution}
-use Rattle.capture_walk.specs.declared.counts.Count.{Count}
+use Rattle.walk_ends.specs.declared.counts.Count.{Count}
 use Rattle.capture_walk.specs.Captures.{each_added}
 use Rattle.capture_walk.specs.Room.{HasRoom}
 use Rattle.capture_walk.proofs.Counting.{added-none, added-more, run-taken, room-left}

@@ -7,7 +7,8 @@ use Rattle.pcap_io.specs.Written.{packet_bytes}
 use Rattle.walk_rules.specs.declared.verdict.Verdict.{Verdict}
 use Rattle.walk_rules.specs.declared.verdict.Verdict.TheVariants as verdicts
 use Rattle.plain_walk.specs.Walked.{walked_from}
-use Rattle.capture_walk.specs.Captures.{passed_one, passed_by, walked_packet}
+use Rattle.walk_ends.specs.Passing.{passed_by}
+use Rattle.capture_walk.specs.Captures.{passed_one, walked_packet}
 use Rattle.capture_walk.proofs.Walked.{same_passed}
 use Rattle.capture_walk.proofs.walking.keep.Goals as goal
 

@@ -4,7 +4,7 @@ use Rattle.pcap_io.specs.Places.{packet_of}
 use Rattle.pcap_io.specs.Written.{header_bytes}
 use Rattle.pcap_io.specs.declared.capture.Packet.{Packet}
 use Rattle.pcap_io.specs.declared.capture.Capture.{Capture}
-use Rattle.capture_walk.specs.declared.counts.Count.{Count}
+use Rattle.walk_ends.specs.declared.counts.Count.{Count}
 use Rattle.capture_walk.specs.Captures.{no_counts, AreFew}
 use Rattle.capture_walk.specs.Adding.{IsAdded}
 use Rattle.capture_walk.proofs.Counting.{few-none, room-for-run}

@@ -11,11 +11,11 @@ use Rattle.filter_state.specs.Actions.{is_live, is_named}
 use Rattle.filter_state.specs.Tables.{first_where}
 use Rattle.filter_state.specs.Steps.{step}
 use Rattle.filter_lists.specs.Edits.{IsFinished}
-use Rattle.hook_edit_laws.specs.Premises.{now}
+use Rattle.hook_store_law.specs.OfEdits.Premises.{now}
 use Rattle.desk_pools.specs.declared.pools.Pools.{Pools}
 use Rattle.desk_pools.specs.Pools.{gone_roots, ArePools}
-use Rattle.desk_ledger.specs.Ledger.{IsLedger}
-use Rattle.desk_ledger.specs.Kept.{commits, base}
+use Rattle.desk_actions.specs.OfLedgers.Ledger.{IsLedger}
+use Rattle.desk_actions.specs.OfLedgers.Kept.{commits, base}
 use Rattle.action_plan.specs.Entries.{actions_of}
 use Rattle.block_codec.specs.declared.action.StoredAction.{StoredAction}
 use Rattle.block_codec.specs.Actions.{IsStorableAction}

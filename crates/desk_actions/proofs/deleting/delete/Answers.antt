@@ -11,15 +11,15 @@ use Rattle.filter_state.specs.Actions.{is_live, is_named}
 use Rattle.filter_state.specs.Tables.{first_where}
 use Rattle.pin_store.specs.declared.view.Sheet.{Sheet}
 use Rattle.pin_store.specs.Sheets.{base_of}
-use Rattle.hook_edit_laws.specs.Premises.{now, IsAccepted}
+use Rattle.hook_store_law.specs.OfEdits.Premises.{now, IsAccepted}
 use Rattle.hook_law.specs.Standing.{IsIn}
 use Rattle.root_pool_laws.specs.Blocks.{IsLeft}
 use Rattle.root_pool_laws.proofs.Apart.{in_right}
 use Rattle.desk_pools.specs.declared.pools.Pools.{Pools}
 use Rattle.desk_pools.specs.Pools.{gone_roots, IsLeftAt, ArePools}
 use Rattle.desk_pools.specs.Steps.{IsInPool}
-use Rattle.desk_ledger.specs.Ledger.{mark_at}
-use Rattle.desk_ledger.specs.Kept.{commits, base}
+use Rattle.desk_actions.specs.OfLedgers.Ledger.{mark_at}
+use Rattle.desk_actions.specs.OfLedgers.Kept.{commits, base}
 use Rattle.desk_actions.specs.Places.{slot_of, block_of, AreHere}
 use Rattle.desk_actions.proofs.Gone.{named_live, serial_small, delete_here, slot_small, slot_left, alone, delete_pools, slot_apart, block_apart, block_left}
 use Rattle.desk_actions.proofs.deleting.delete.Goals as goal

@@ -10,12 +10,12 @@ use Rattle.pin_store.specs.Calls.{seen_by, sheet_of}
 use Rattle.filter_state.specs.declared.edit.Edit.{Edit}
 use Rattle.filter_state.specs.Steps.{step}
 use Rattle.filter_lists.specs.Edits.{IsFinished}
-use Rattle.hook_edit_laws.specs.Premises.{now}
+use Rattle.hook_store_law.specs.OfEdits.Premises.{now}
 use Rattle.desk_pools.specs.declared.pools.Pools.{Pools}
 use Rattle.desk_pools.specs.Pools.{ArePools}
 use Rattle.desk_pools.specs.Steps.{IsInPool}
-use Rattle.desk_ledger.specs.Ledger.{IsLedger}
-use Rattle.desk_ledger.specs.Kept.{commits, base}
+use Rattle.desk_actions.specs.OfLedgers.Ledger.{IsLedger}
+use Rattle.desk_actions.specs.OfLedgers.Kept.{commits, base}
 use Rattle.desk_actions.specs.Places.{AreHere, put_at}
 use Rattle.desk_actions.proofs.Stepping.{made_one, can, same_base, slot_unused, next_lawful, next_ledger, next_here, next_pools}
 use Rattle.desk_actions.proofs.making.make.Goals as goal

@@ -3,19 +3,19 @@ use Rattle.pin_store.specs.declared.shape.Shape.{Shape}
 use Rattle.pin_store.specs.Calls.{seen_by, sheet_of}
 use Rattle.filter_state.specs.declared.refusal.Done.TheVariants as dones
 use Rattle.mask_table.specs.Buckets.{bucket_for}
-use Rattle.mask_mirror.proofs.Keeping.{same_base}
-use Rattle.hook_edit_laws.specs.Premises.{next, filter_of_line}
-use Rattle.hook_edit_laws.proofs.OneMask.{gains_after}
-use Rattle.desk_ledger.specs.Kept.{commits, base}
+use Rattle.mask_table.proofs.OfMirrors.Keeping.{same_base}
+use Rattle.hook_store_law.specs.OfEdits.Premises.{next, filter_of_line}
+use Rattle.hook_store_law.proofs.OfEdits.OneMask.{gains_after}
+use Rattle.desk_actions.specs.OfLedgers.Kept.{commits, base}
 use Rattle.desk_masks.specs.Masks.{HasMasks}
 use Rattle.desk_parts.specs.Desk.{hook_shape, cells}
-use Rattle.filter_commit_laws.proofs.Locating.{own_serial, home_less}
-use Rattle.desk_filter_names.proofs.Answering.{stands_last}
+use Rattle.desk_masks.proofs.OfFilterCommits.Locating.{own_serial, home_less}
+use Rattle.desk_parts.proofs.OfFilterNames.Answering.{stands_last}
 use Rattle.desk_edits.specs.Ahead.{IsUnsettled}
 use Rattle.desk_edits.proofs.Taken.{accepted_as, can_be_named, are_given, are_taken, still_sized, one_more}
 use Rattle.desk_edits.proofs.Rewritten.{now_after, unsettled, goes_on_aside}
 use Rattle.desk_edits.proofs.Settled.{size_before}
-use Rattle.desk_resize.specs.Refit.{count_now}
+use Rattle.desk_masks.specs.OfResizes.Refit.{count_now}
 use Rattle.desk_edits.proofs.adding.add_to_mask.Goals as goal
 
 -- src/adding.rt:62:18

@@ -2,8 +2,8 @@ use Rattle.std.proofs.Common.{◌∙◌, ◌+◌, [], ◌∷◌, refl, sym, subs
 use Rattle.pin_store.specs.declared.shape.Shape.{Shape}
 use Rattle.miniq_pair.specs.Pairs.{other_place, swap_commit}
 use Rattle.desk_pools.specs.Steps.{turned}
-use Rattle.desk_ledger.specs.declared.ledger.Ledger.{Ledger}
-use Rattle.desk_ledger.specs.Kept.{commits}
+use Rattle.desk_actions.specs.declared.ledgers.ledger.Ledger.{Ledger}
+use Rattle.desk_actions.specs.OfLedgers.Kept.{commits}
 use Rattle.desk_masks.specs.Masks.{HasMasks}
 use Rattle.desk_parts.specs.Desk.{cells}
 use Rattle.desk_heads.specs.Closes.{HoldsMasks}

@@ -5,15 +5,15 @@ use Rattle.pin_store.specs.Sheets.{base_of}
 use Rattle.pin_store.specs.Calls.{seen_by, sheet_of}
 use Rattle.hook_law.specs.Records.{StatedFilter}
 use Rattle.hook_meaning.specs.Stated.{filters_at}
-use Rattle.hook_edit_laws.specs.Premises.{now, next}
+use Rattle.hook_store_law.specs.OfEdits.Premises.{now, next}
 use Rattle.mask_table.specs.Buckets.{bucket_for}
-use Rattle.mask_mirror.specs.declared.mirror.KeptMask.{KeptMask}
-use Rattle.mask_mirror.proofs.Keeping.{same_base}
-use Rattle.desk_ledger.specs.Kept.{commits, base}
+use Rattle.mask_table.specs.declared.mirrors.mirror.KeptMask.{KeptMask}
+use Rattle.mask_table.proofs.OfMirrors.Keeping.{same_base}
+use Rattle.desk_actions.specs.OfLedgers.Kept.{commits, base}
 use Rattle.desk_masks.specs.Masks.{HasMasks}
 use Rattle.desk_parts.specs.Desk.{hook_shape, cells}
-use Rattle.filter_commit_laws.specs.Edits.{HasLater}
-use Rattle.filter_commit_laws.proofs.Locating.{home_less}
+use Rattle.desk_masks.specs.OfFilterCommits.Edits.{HasLater}
+use Rattle.desk_masks.proofs.OfFilterCommits.Locating.{home_less}
 use Rattle.desk_edits.proofs.Exchanged.{new_can_be_named, exchanges, fits_still}
 use Rattle.desk_edits.proofs.Left.{few_free, may_leave, room_for, others_twice}
 use Rattle.desk_edits.proofs.Settled.{size_now, desk_settled}

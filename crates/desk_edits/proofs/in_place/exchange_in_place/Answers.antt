@@ -2,16 +2,16 @@ use Rattle.std.proofs.Common.{◌≡◌, ◌∙◌, ℕ, ◌+◌, List, length, 
 use Rattle.pin_store.specs.Calls.{sheet_of}
 use Rattle.filter_state.specs.declared.edit.FilterLine.{FilterLine}
 use Rattle.filter_state.specs.States.{State}
-use Rattle.mask_mirror.proofs.Keeping.{same_base}
-use Rattle.hook_edit_laws.specs.Premises.{now, next, named_row}
+use Rattle.mask_table.proofs.OfMirrors.Keeping.{same_base}
+use Rattle.hook_store_law.specs.OfEdits.Premises.{now, next, named_row}
 use Rattle.number_pools.specs.Numbers.{PoolNumbers}
-use Rattle.desk_ledger.specs.declared.ledger.Ledger.{Ledger}
-use Rattle.desk_ledger.specs.Kept.{commits, base}
+use Rattle.desk_actions.specs.declared.ledgers.ledger.Ledger.{Ledger}
+use Rattle.desk_actions.specs.OfLedgers.Kept.{commits, base}
 use Rattle.desk_actions.specs.Effects.{IsCounted}
-use Rattle.desk_line_actions.specs.Gone.{serials_gone}
+use Rattle.desk_parts.specs.OfLineActions.Gone.{serials_gone}
 use Rattle.desk_edits.proofs.Behind.{fewer_may_go}
 use Rattle.desk_edits.proofs.Passing.{may_go}
-use Rattle.desk_ways.specs.declared.way.Way.TheVariants as ways
+use Rattle.desk_parts.specs.declared.ways.way.Way.TheVariants as ways
 use Rattle.desk_edits.specs.Spent.{made_by, needed, LeftWithActions}
 use Rattle.desk_edits.proofs.Answers.{exchanged}
 use Rattle.desk_edits.proofs.Counts.{counted_with, enough_with}

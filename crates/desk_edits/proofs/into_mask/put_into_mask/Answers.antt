@@ -4,9 +4,9 @@ use Rattle.filter_state.specs.States.{State}
 use Rattle.filter_state.specs.Tables.{mask_row}
 use Rattle.flow_mask.specs.Sizes.{size_of}
 use Rattle.number_pools.specs.Numbers.{PoolNumbers}
-use Rattle.hook_edit_laws.specs.Premises.{now, next}
+use Rattle.hook_store_law.specs.OfEdits.Premises.{now, next}
 use Rattle.desk_need_laws.specs.Told.{blocks_anew, rows_anew}
-use Rattle.desk_ledger.specs.Kept.{commits}
+use Rattle.desk_actions.specs.OfLedgers.Kept.{commits}
 use Rattle.desk_actions.specs.Effects.{IsCounted}
 use Rattle.desk_edits.specs.Spent.{made_by}
 use Rattle.desk_edits.proofs.Answers.{answered}

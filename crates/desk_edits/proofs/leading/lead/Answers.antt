@@ -1,8 +1,8 @@
 use Rattle.std.proofs.Common.{◌∙◌, ◌-◌, length, refl, sym, ap, subst}
 use Rattle.pin_store.specs.declared.shape.Shape.{Shape}
 use Rattle.pin_store.specs.Calls.{sheet_of}
-use Rattle.hook_edit_laws.specs.Premises.{now}
-use Rattle.desk_ledger.specs.Kept.{commits, base}
+use Rattle.hook_store_law.specs.OfEdits.Premises.{now}
+use Rattle.desk_actions.specs.OfLedgers.Kept.{commits, base}
 use Rattle.desk_actions.specs.Effects.{KeepsBlocks}
 use Rattle.desk_actions.proofs.Stepping.{same_base}
 use Rattle.desk_edits.proofs.Led.{IsFirst, first_is, so_many, some_many, enough_for, is_ahead}

@@ -1,5 +1,5 @@
-use Rattle.hook_edit_laws.specs.Premises.{now}
-use Rattle.desk_ledger.specs.Kept.{commits, base}
+use Rattle.hook_store_law.specs.OfEdits.Premises.{now}
+use Rattle.desk_actions.specs.OfLedgers.Kept.{commits, base}
 use Rattle.desk_edits.proofs.Led.{IsFirst, first_is}
 use Rattle.desk_edits.proofs.Removed.{is_ahead_removal}
 use Rattle.desk_edits.proofs.leading.lead_removal.Goals as goal

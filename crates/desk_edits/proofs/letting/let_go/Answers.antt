@@ -1,4 +1,4 @@
-use Rattle.desk_ledger.specs.Kept.{commits, base}
+use Rattle.desk_actions.specs.OfLedgers.Kept.{commits, base}
 use Rattle.desk_edits.proofs.Behind.{desk_dropped}
 use Rattle.desk_edits.proofs.letting.let_go.Goals as goal
 

@@ -1,9 +1,9 @@
 use Rattle.std.proofs.Common.{◌∙◌, ◌+◌, refl, sym, ap, subst, arith}
 use Rattle.filter_state.specs.declared.refusal.Done.{Done}
 use Rattle.number_pools.specs.Numbers.{PoolNumbers}
-use Rattle.hook_edit_laws.specs.Premises.{now, next}
+use Rattle.hook_store_law.specs.OfEdits.Premises.{now, next}
 use Rattle.desk_pools.specs.declared.pools.Pools.{Pools}
-use Rattle.desk_ledger.specs.Kept.{commits, base}
+use Rattle.desk_actions.specs.OfLedgers.Kept.{commits, base}
 use Rattle.desk_actions.specs.Effects.{IsCounted}
 use Rattle.desk_edits.specs.Ahead.{IsAhead}
 use Rattle.desk_edits.specs.Lines.{IsLineMask}

@@ -1,8 +1,8 @@
 use Rattle.std.proofs.Common.{◌∙◌, ◌+◌, [], ◌∷◌, ◌++◌, get_or, refl, sym}
 use mathlib.Core.List.{append_assoc}
-use Rattle.mask_mirror.specs.Linked.{placed, raise_commits}
+use Rattle.mask_table.specs.OfMirrors.Linked.{placed, raise_commits}
 use Rattle.miniq_pair.specs.Pairs.{other_place, swap_commit}
-use Rattle.desk_ledger.specs.Kept.{commits}
+use Rattle.desk_actions.specs.OfLedgers.Kept.{commits}
 use Rattle.desk_edits.proofs.Commits.{aside_append, raise_aside, swap_aside}
 use Rattle.desk_edits.proofs.Swapping.{may_fill, swaps}
 use Rattle.desk_edits.proofs.opening.open_on.Goals as goal

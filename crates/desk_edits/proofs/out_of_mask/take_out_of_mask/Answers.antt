@@ -5,24 +5,24 @@ use Rattle.filter_state.specs.States.{State}
 use Rattle.filter_state.specs.Steps.{step}
 use Rattle.filter_state.specs.Tables.{filter_row}
 use Rattle.flow_mask.specs.Sizes.{size_of}
-use Rattle.edit_effect_laws.specs.Parts.{Stands}
-use Rattle.mask_mirror.proofs.Keeping.{same_base}
+use Rattle.hook_meaning.specs.OfEffects.Parts.{Stands}
+use Rattle.mask_table.proofs.OfMirrors.Keeping.{same_base}
 use Rattle.hook_meaning.specs.Stated.{filters_at}
-use Rattle.hook_edit_laws.specs.Premises.{now, next}
+use Rattle.hook_store_law.specs.OfEdits.Premises.{now, next}
 use Rattle.number_pools.specs.Numbers.{PoolNumbers}
-use Rattle.filter_commit_laws.specs.Edits.{HasLater}
+use Rattle.desk_masks.specs.OfFilterCommits.Edits.{HasLater}
 use Rattle.desk_needs.specs.Live.{count_of}
 use Rattle.desk_need_laws.specs.Told.{blocks_anew}
 use Rattle.desk_pools.specs.declared.pools.Pools.{Pools}
-use Rattle.desk_ledger.specs.declared.ledger.Ledger.{Ledger}
-use Rattle.desk_ledger.specs.Kept.{commits, base}
+use Rattle.desk_actions.specs.declared.ledgers.ledger.Ledger.{Ledger}
+use Rattle.desk_actions.specs.OfLedgers.Kept.{commits, base}
 use Rattle.desk_actions.specs.Effects.{IsCounted}
-use Rattle.desk_line_actions.specs.Gone.{serials_gone}
-use Rattle.desk_resize.specs.Refit.{count_now}
+use Rattle.desk_parts.specs.OfLineActions.Gone.{serials_gone}
+use Rattle.desk_masks.specs.OfResizes.Refit.{count_now}
 use Rattle.desk_edits.proofs.Behind.{fewer_may_go}
 use Rattle.desk_edits.proofs.Passing.{may_go}
-use Rattle.desk_ways.specs.declared.way.Way.TheVariants as ways
-use Rattle.desk_ways.proofs.Looked.{sound}
+use Rattle.desk_parts.specs.declared.ways.way.Way.TheVariants as ways
+use Rattle.desk_parts.proofs.OfWays.Looked.{sound}
 use Rattle.desk_edits.specs.Spent.{needed, LeftWithActions}
 use Rattle.desk_edits.proofs.AsideThen.{aside_then}
 use Rattle.desk_edits.proofs.Counts.{counted_same, counted_then, one_less_is}

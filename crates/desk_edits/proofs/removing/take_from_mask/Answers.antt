@@ -2,8 +2,8 @@ use Rattle.std.proofs.Common.{◌≡◌, ◌∙◌, ℕ, ◌+◌, refl, sym, sub
 use Rattle.pin_store.specs.declared.shape.Shape.{Shape}
 use Rattle.pin_store.specs.Sheets.{base_of}
 use Rattle.pin_store.specs.Calls.{seen_by, sheet_of}
-use Rattle.mask_mirror.proofs.Keeping.{same_base}
-use Rattle.desk_ledger.specs.Kept.{commits, base}
+use Rattle.mask_table.proofs.OfMirrors.Keeping.{same_base}
+use Rattle.desk_actions.specs.OfLedgers.Kept.{commits, base}
 use Rattle.desk_masks.specs.Masks.{HasMasks}
 use Rattle.desk_parts.specs.Desk.{hook_shape, cells}
 use Rattle.desk_edits.specs.Ahead.{IsUnsettled}
@@ -11,11 +11,11 @@ use Rattle.desk_edits.proofs.Left.{may_leave, room_for, others_twice}
 use Rattle.desk_edits.proofs.Taken.{are_given, accepted, are_taken, still_sized, one_fewer}
 use Rattle.desk_edits.proofs.Rewritten.{IsRewritten, now_after, unsettled, goes_on_aside}
 use Rattle.desk_edits.proofs.Settled.{size_before}
-use Rattle.desk_resize.specs.Refit.{count_now}
+use Rattle.desk_masks.specs.OfResizes.Refit.{count_now}
 use Rattle.filter_state.specs.declared.edit.Edit.{Edit}
-use Rattle.hook_edit_laws.specs.Premises.{now, next, IsAccepted, Loses}
-use Rattle.hook_edit_laws.proofs.OneMask.{loses_after}
-use Rattle.filter_commit_laws.proofs.Locating.{own_serial}
+use Rattle.hook_store_law.specs.OfEdits.Premises.{now, next, IsAccepted, Loses}
+use Rattle.hook_store_law.proofs.OfEdits.OneMask.{loses_after}
+use Rattle.desk_masks.proofs.OfFilterCommits.Locating.{own_serial}
 use Rattle.desk_edits.proofs.removing.take_from_mask.Goals as goal
 
 pub remove_filter-requires-clause-given : goal.remove_filter-requires-clause-given

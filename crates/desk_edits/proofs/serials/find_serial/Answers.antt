@@ -5,7 +5,7 @@ use Rattle.filter_tables.specs.Places.{item_at}
 use Rattle.filter_tables.specs.Seen.{plain_table}
 use Rattle.filter_tables.specs.SeenMask.{plain_mask}
 use Rattle.hook_lists.proofs.Sought.{place_within, its_names}
-use Rattle.desk_finding.proofs.Finding.{no_mask, lacks_mask, has_mask}
+use Rattle.desk_parts.proofs.OfFinding.Finding.{no_mask, lacks_mask, has_mask}
 use Rattle.desk_edits.proofs.serials.find_serial.Goals as goal
 
 pub returns-in_err-place-clause-none : goal.returns-in_err-place-clause-none

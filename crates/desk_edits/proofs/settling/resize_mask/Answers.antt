@@ -6,11 +6,11 @@ use Rattle.flow_mask.specs.Sizes.{size_of}
 use Rattle.block_codec.proofs.Masking.{sized}
 use Rattle.mask_writer.proofs.Standing.{mask_storable}
 use Rattle.desk_pools.specs.declared.pools.Pools.{Pools}
-use Rattle.desk_ledger.specs.Kept.{commits, base}
+use Rattle.desk_actions.specs.OfLedgers.Kept.{commits, base}
 use Rattle.desk_actions.specs.Effects.{IsCounted}
 use Rattle.desk_masks.specs.Masks.{HasMasks}
 use Rattle.desk_parts.specs.Desk.{hook_shape, cells}
-use Rattle.desk_resize.specs.Refit.{count_now, MayRefit}
+use Rattle.desk_masks.specs.OfResizes.Refit.{count_now, MayRefit}
 use Rattle.desk_edits.proofs.Left.{few_free, counted_on}
 use Rattle.desk_edits.proofs.Refitted.{may_refit, are_out, refit_aside, desk_refitted}
 use Rattle.desk_edits.proofs.settling.resize_mask.Goals as goal

@@ -3,12 +3,12 @@ use Rattle.filter_state.specs.declared.edit.FilterLine.{FilterLine}
 use Rattle.filter_state.specs.States.{State}
 use Rattle.filter_state.specs.Tables.{mask_row}
 use Rattle.number_pools.specs.Numbers.{PoolNumbers}
-use Rattle.hook_edit_laws.specs.Premises.{now, next}
+use Rattle.hook_store_law.specs.OfEdits.Premises.{now, next}
 use Rattle.desk_pools.specs.declared.pools.IdlePlace.{IdlePlace}
-use Rattle.desk_ledger.specs.Kept.{commits}
+use Rattle.desk_actions.specs.OfLedgers.Kept.{commits}
 use Rattle.desk_actions.specs.Effects.{IsCounted}
 use Rattle.desk_edits.specs.Spent.{made_by}
-use Rattle.desk_ways.proofs.Needed.{answered}
+use Rattle.desk_parts.proofs.OfWays.Needed.{answered}
 use Rattle.desk_edits.proofs.Counts.{counted_then, enough_left}
 use Rattle.desk_edits.proofs.Found.{same_now}
 use Rattle.desk_edits.proofs.Kept.{masks_led, rows_led, masks_led_pools, idle_led, actions_turned}

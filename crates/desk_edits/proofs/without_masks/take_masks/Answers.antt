@@ -2,16 +2,16 @@ use Rattle.std.proofs.Common.{◌≡◌, ◌∙◌, ℕ, List, length, sym, subs
 use Rattle.store_history.specs.declared.history.Commit.{Commit}
 use Rattle.pin_store.specs.Calls.{sheet_of}
 use Rattle.filter_state.specs.declared.edit.Edit.{Edit}
-use Rattle.mask_mirror.proofs.Keeping.{same_base}
-use Rattle.hook_edit_laws.specs.Premises.{now, next}
+use Rattle.mask_table.proofs.OfMirrors.Keeping.{same_base}
+use Rattle.hook_store_law.specs.OfEdits.Premises.{now, next}
 use Rattle.desk_needs.specs.Live.{count_of}
 use Rattle.desk_pools.specs.declared.pools.Pools.{Pools}
 use Rattle.desk_pools.specs.Steps.{turned}
-use Rattle.desk_ledger.specs.declared.ledger.Ledger.{Ledger}
-use Rattle.desk_ledger.specs.Kept.{commits, base}
+use Rattle.desk_actions.specs.declared.ledgers.ledger.Ledger.{Ledger}
+use Rattle.desk_actions.specs.OfLedgers.Kept.{commits, base}
 use Rattle.desk_actions.specs.Places.{Placed}
-use Rattle.desk_line_actions.specs.Dropped.{AreDropped}
-use Rattle.desk_line_actions.specs.Gone.{serials_gone}
+use Rattle.desk_parts.specs.OfLineActions.Dropped.{AreDropped}
+use Rattle.desk_parts.specs.OfLineActions.Gone.{serials_gone}
 use Rattle.desk_edits.specs.Goes.{AreGone}
 use Rattle.desk_edits.specs.Parting.{HaveLeft}
 use Rattle.desk_edits.proofs.Behind.{fewer_may_go}

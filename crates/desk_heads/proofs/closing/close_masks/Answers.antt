@@ -2,7 +2,7 @@ use Rattle.std.proofs.Common.{ℕ, ◌+◌, [], refl, ap, arith}
 use Rattle.pin_store.specs.Sheets.{base_of}
 use Rattle.pin_store.specs.Calls.{seen_by, sheet_of}
 use Rattle.miniq_pair.specs.Pairs.{other_place}
-use Rattle.mask_mirror.proofs.Keeping.{same_base}
+use Rattle.mask_table.proofs.OfMirrors.Keeping.{same_base}
 use Rattle.desk_heads.proofs.CloseSteps.{lent_gives, gone_lawful, gone_rests, gone_journal, gone_others, gone_stays, gone_only, gone_holds, gone_gone, gone_pools}
 use Rattle.desk_heads.proofs.closing.close_masks.Goals as goal
 

@@ -6,9 +6,9 @@ use Rattle.block_codec.specs.declared.table.StoredTable.{StoredTable}
 use Rattle.miniq_pair.specs.Pairs.{first_block_of, other_place, swap_commit}
 use Rattle.hook_law.specs.Records.{StatedTable}
 use Rattle.hook_meaning.specs.Stated.{TableNames}
-use Rattle.hook_edit_laws.specs.Premises.{next}
-use Rattle.head_commit_laws.specs.Listed.{HasSerial}
-use Rattle.head_commit_laws.specs.Built.{IsGiven}
+use Rattle.hook_store_law.specs.OfEdits.Premises.{next}
+use Rattle.desk_heads.specs.OfHeadCommits.Listed.{HasSerial}
+use Rattle.desk_heads.specs.OfHeadCommits.Built.{IsGiven}
 use Rattle.desk_masks.specs.Tables.{HasTables}
 use Rattle.desk_heads.specs.Slots.{HasSlotIn}
 use Rattle.desk_heads.proofs.Tables.{tables_swapped}

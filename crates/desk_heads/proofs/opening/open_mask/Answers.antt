@@ -3,7 +3,7 @@ use Rattle.std.proofs.Common.{subst, arith}
 use Rattle.pin_store.specs.Sheets.{base_of}
 use Rattle.pin_store.specs.Calls.{seen_by, sheet_of}
 use Rattle.miniq_pair.specs.Pairs.{other_place}
-use Rattle.mask_mirror.proofs.Keeping.{same_base}
+use Rattle.mask_table.proofs.OfMirrors.Keeping.{same_base}
 use Rattle.mask_order.specs.Fitting.{FitsBlock}
 use Rattle.desk_heads.proofs.OpenMasks.{slot_empty, rows_free}
 use Rattle.desk_heads.proofs.OpenSteps.{step_lawful, first_lawful, first_number, first_gives, first_lists, first_tables, first_idle, last_lawful, last_rests, last_others, last_pools, last_journal, last_masks}

@@ -1,6 +1,6 @@
 use Rattle.std.proofs.Common.{◌≡◌, ℕ, ◌<◌, Some, slice_get}
 use Rattle.block_codec.specs.declared.table.StoredTable.{StoredTable}
-use Rattle.head_commit_laws.specs.Built.{IsBuilt}
+use Rattle.desk_heads.specs.OfHeadCommits.Built.{IsBuilt}
 use Rattle.desk_heads.proofs.slots.search_slot.Given as goal
 
 -- none of the tables so far has the mask

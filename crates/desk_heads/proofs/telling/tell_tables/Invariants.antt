@@ -1,7 +1,7 @@
 use Rattle.std.proofs.Common.{◌≡◌, map, take}
 use Rattle.std.specs.Prelude.{All}
 use Rattle.block_codec.specs.declared.table.StoredTable.{StoredTable}
-use Rattle.head_chain_laws.specs.Chains.{stated_of}
+use Rattle.desk_masks.specs.OfHeadChains.Chains.{stated_of}
 use Rattle.desk_heads.specs.Slots.{AreInSlots, FitsNumbers}
 use Rattle.desk_heads.proofs.Told.{told}
 use Rattle.desk_heads.proofs.telling.tell_tables.Given as goal

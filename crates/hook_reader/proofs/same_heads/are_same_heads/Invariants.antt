@@ -1,5 +1,5 @@
-use Rattle.std.proofs.Common.{◌≡◌, take}
+use Rattle.std.proofs.Common.{◌≡◌, length, take}
 use Rattle.hook_reader.proofs.same_heads.are_same_heads.Given as goal
 
-abbrev pub invariant-loop-place : goal.invariant-loop-place
-invariant-loop-place l = take l.place l.heads ≡ take l.place l.others
+abbrev pub invariant-loop-head : goal.invariant-loop-head
+invariant-loop-head l = take (length l.yielded) l.heads ≡ take (length l.yielded) l.others

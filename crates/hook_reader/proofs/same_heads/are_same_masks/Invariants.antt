@@ -1,5 +1,5 @@
-use Rattle.std.proofs.Common.{◌≡◌, take}
+use Rattle.std.proofs.Common.{◌≡◌, length, take}
 use Rattle.hook_reader.proofs.same_heads.are_same_masks.Given as goal
 
-abbrev pub invariant-loop-place : goal.invariant-loop-place
-invariant-loop-place l = take l.place l.names ≡ take l.place l.others
+abbrev pub invariant-loop-name : goal.invariant-loop-name
+invariant-loop-name l = take (length l.yielded) l.names ≡ take (length l.yielded) l.others

@@ -5,7 +5,7 @@ use Rattle.store_history.specs.History.{root_of}
 use Rattle.store_history.specs.Reads.{read_all}
 use Rattle.filter_state.specs.declared.edit.Edit.{Edit}
 use Rattle.pin_store.specs.Calls.{seen_by}
-use Rattle.block_reading.specs.Read.{filter_in}
+use Rattle.block_codec.specs.OfReadings.Read.{filter_in}
 use Rattle.kept_records.specs.Keeping.{IsKnown}
 use Rattle.kept_records.proofs.Chains.{at_start}
 use Rattle.kept_records.proofs.Kept.{right_again, known_kept}

@@ -1,5 +1,5 @@
 use Rattle.std.proofs.Common.{◌∙◌, sym}
-use Rattle.block_reading.specs.Read.{action_of_words}
+use Rattle.block_codec.specs.OfReadings.Read.{action_of_words}
 use Rattle.kept_records.proofs.Chains.{read_words}
 use Rattle.kept_records.proofs.renewing.action_of.Goals as goal
 

@@ -1,5 +1,5 @@
 use Rattle.std.proofs.Common.{◌∙◌, sym}
-use Rattle.block_reading.specs.Read.{mask_of_words}
+use Rattle.block_codec.specs.OfReadings.Read.{mask_of_words}
 use Rattle.kept_records.proofs.Chains.{read_words}
 use Rattle.kept_records.proofs.renewing.mask_of.Goals as goal
 

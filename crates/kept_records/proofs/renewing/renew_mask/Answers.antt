@@ -5,7 +5,7 @@ use Rattle.store_history.specs.History.{root_of}
 use Rattle.store_history.specs.Reads.{read_first}
 use Rattle.filter_state.specs.declared.edit.Edit.{Edit}
 use Rattle.pin_store.specs.Calls.{seen_by}
-use Rattle.block_reading.specs.Read.{mask_of_words}
+use Rattle.block_codec.specs.OfReadings.Read.{mask_of_words}
 use Rattle.kept_records.proofs.Kept.{again, read_now, lent_some}
 use Rattle.kept_records.proofs.renewing.renew_mask.Goals as goal
 

@@ -6,8 +6,8 @@ use Rattle.pin_store.specs.Calls.{seen_by, sheet_of}
 use Rattle.pin_store.specs.Sheets.{base_of}
 use Rattle.pin_store.proofs.Sound.{base_same}
 use Rattle.block_codec.specs.declared.filter.StoredFilter.{StoredFilter}
-use Rattle.mask_mirror.specs.Lists.{kept_in}
-use Rattle.mask_mirror.proofs.Lasting.{kept_same}
+use Rattle.mask_table.specs.OfMirrors.Lists.{kept_in}
+use Rattle.mask_table.proofs.OfMirrors.Lasting.{kept_same}
 use Rattle.mask_bucket_edits.specs.Putting.{AreApart, ArePut}
 use Rattle.mask_bucket_edits.proofs.Among.{among_take, among_one, different_apart}
 use Rattle.mask_bucket_edits.proofs.Putting.{put_one, put_both, still_has, given_ends, given_first}

@@ -3,7 +3,7 @@ use Rattle.std.proofs.lemmas.Option.{slice_get-get_or}
 use Rattle.pin_store.specs.Calls.{seen_by, sheet_of}
 use Rattle.pin_store.specs.Sheets.{base_of}
 use Rattle.pin_store.proofs.Sound.{base_same, same_cells}
-use Rattle.mask_mirror.specs.Lists.{kept_in}
+use Rattle.mask_table.specs.OfMirrors.Lists.{kept_in}
 use Rattle.mask_bucket_edits.specs.Putting.{ArePut}
 use Rattle.mask_bucket_edits.proofs.Among.{among_drop}
 use Rattle.mask_bucket_edits.proofs.Putting.{put_step, still_has, still_free}

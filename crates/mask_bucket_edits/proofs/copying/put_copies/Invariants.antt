@@ -3,8 +3,8 @@ use Rattle.store_history.specs.History.{root_of}
 use Rattle.pin_store.specs.Sheets.{IsSameButCells}
 use Rattle.pin_store.specs.Calls.{seen_by, sheet_of, IsSeatOf}
 use Rattle.block_codec.specs.declared.filter.StoredFilter.{StoredFilter}
-use Rattle.mask_mirror.specs.Kept.{IsKept}
-use Rattle.mask_mirror.specs.Lists.{kept_in, HasFilters}
+use Rattle.mask_table.specs.OfMirrors.Kept.{IsKept}
+use Rattle.mask_table.specs.OfMirrors.Lists.{kept_in, HasFilters}
 use Rattle.mask_bucket_edits.specs.Putting.{ArePut}
 use Rattle.mask_bucket_edits.proofs.copying.put_copies.Given as goal
 

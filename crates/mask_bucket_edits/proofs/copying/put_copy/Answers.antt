@@ -2,7 +2,7 @@ use Rattle.std.proofs.Common.{◌≡◌, ◌∙◌, ℕ, ◌+◌, ◌<◌, [], �
 use Rattle.std.proofs.lemmas.List.{get_or_default}
 use Rattle.pin_store.specs.Calls.{sheet_of}
 use Rattle.block_codec.specs.declared.filter.StoredFilter.{StoredFilter}
-use Rattle.mask_mirror.specs.Lists.{kept_in}
+use Rattle.mask_table.specs.OfMirrors.Lists.{kept_in}
 use Rattle.mask_bucket_edits.specs.Putting.{ArePut}
 use Rattle.mask_bucket_edits.proofs.Putting.{put_one}
 use Rattle.mask_bucket_edits.proofs.copying.put_copy.Goals as goal

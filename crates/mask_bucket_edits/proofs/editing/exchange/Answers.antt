@@ -6,9 +6,9 @@ use Rattle.pin_store.specs.Sheets.{base_of}
 use Rattle.pin_store.specs.Calls.{seen_by, sheet_of}
 use Rattle.block_codec.specs.declared.filter.StoredFilter.{StoredFilter}
 use Rattle.mask_table.specs.Buckets.{bucket_for, IsAmong}
-use Rattle.mask_mirror.specs.declared.mirror.KeptMask.{KeptMask}
-use Rattle.mask_mirror.specs.Changing.{FilterAt, root_for}
-use Rattle.mask_mirror.proofs.Keeping.{at_root, same_kept}
+use Rattle.mask_table.specs.declared.mirrors.mirror.KeptMask.{KeptMask}
+use Rattle.mask_table.specs.OfMirrors.Changing.{FilterAt, root_for}
+use Rattle.mask_table.proofs.OfMirrors.Keeping.{at_root, same_kept}
 use Rattle.mask_bucket_edits.proofs.Among.{among_one}
 use Rattle.mask_bucket_edits.specs.Finding.{IsFound}
 use Rattle.mask_bucket_edits.proofs.Buckets.{front_read, front_is, blocks_left}

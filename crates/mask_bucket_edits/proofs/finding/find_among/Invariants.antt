@@ -1,5 +1,5 @@
 use Rattle.std.proofs.Common.{ℕ, ◌<◌}
-use Rattle.mask_bucket_edits.proofs.Buckets.{IsInBucket}
+use Rattle.mask_bucket_edits.specs.Finding.{IsInBucket}
 use Rattle.mask_bucket_edits.proofs.finding.find_among.Given as goal
 
 abbrev pub invariant-loop-bucket : goal.invariant-loop-bucket

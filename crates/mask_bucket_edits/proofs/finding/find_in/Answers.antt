@@ -1,6 +1,6 @@
 use Rattle.std.proofs.Common.{◌≡◌, ℕ, ◌+◌, List, get_or, slice_get, Some, sym, subst, arith}
-use Rattle.mask_mirror.specs.Kept.{bucket_at, Spells}
-use Rattle.mask_mirror.proofs.Keeping.{at_root}
+use Rattle.mask_table.specs.OfMirrors.Kept.{bucket_at, Spells}
+use Rattle.mask_table.proofs.OfMirrors.Keeping.{at_root}
 use Rattle.mask_bucket_edits.proofs.Buckets.{is_kept, is_found}
 use Rattle.mask_bucket_edits.proofs.finding.find_in.Goals as goal
 

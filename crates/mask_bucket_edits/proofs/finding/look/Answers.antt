@@ -1,9 +1,9 @@
 use Rattle.std.proofs.Common.{◌≡◌, ◌∙◌, ℕ, ◌<◌, List, ◌++◌, length, get_or, slice_get, Some, sym, ap, subst, arith}
 use Rattle.std.proofs.lemmas.List.{get_or_default}
 use Rattle.std.proofs.lemmas.Option.{slice_get-get_or}
-use Rattle.mask_mirror.specs.Kept.{Spells}
-use Rattle.mask_mirror.proofs.Spelling.{few_blocks}
-use Rattle.mask_mirror.proofs.Chains.{spelled_low}
+use Rattle.mask_table.specs.OfMirrors.Kept.{Spells}
+use Rattle.mask_table.proofs.OfMirrors.Spelling.{few_blocks}
+use Rattle.mask_table.proofs.OfMirrors.Chains.{spelled_low}
 use Rattle.mask_bucket_edits.proofs.finding.look.Goals as goal
 
 pub gather-requires-clause-few : goal.gather-requires-clause-few

@@ -4,8 +4,8 @@ use Rattle.store_history.specs.History.{root_of}
 use Rattle.pin_store.specs.declared.view.Sheet.{Sheet}
 use Rattle.pin_store.specs.Layout.{commit_of}
 use Rattle.pin_store.specs.Calls.{seen_by, sheet_of}
-use Rattle.mask_mirror.specs.Kept.{IsKept}
-use Rattle.mask_mirror.proofs.Keeping.{kept_renamed}
+use Rattle.mask_table.specs.OfMirrors.Kept.{IsKept}
+use Rattle.mask_table.proofs.OfMirrors.Keeping.{kept_renamed}
 use Rattle.mask_bucket_edits.proofs.renaming.rename.Goals as goal
 
 pub returns-clause-kept : goal.returns-clause-kept

@@ -9,9 +9,9 @@ use Rattle.pin_store.specs.Calls.{seen_by, sheet_of}
 use Rattle.pin_store.proofs.Sound.{base_low, base_same}
 use Rattle.block_codec.specs.declared.filter.StoredFilter.{StoredFilter}
 use Rattle.mask_table.specs.Buckets.{IsAmong}
-use Rattle.mask_mirror.specs.Kept.{HoldsChain, BucketAt, AreOwn}
-use Rattle.mask_mirror.specs.Lists.{kept_in}
-use Rattle.mask_mirror.proofs.Keeping.{unnamed_now}
+use Rattle.mask_table.specs.OfMirrors.Kept.{HoldsChain, BucketAt, AreOwn}
+use Rattle.mask_table.specs.OfMirrors.Lists.{kept_in}
+use Rattle.mask_table.proofs.OfMirrors.Keeping.{unnamed_now}
 use Rattle.mask_bucket_edits.specs.Putting.{listed, aged, ArePut}
 use Rattle.mask_bucket_edits.proofs.Among.{among_take}
 use Rattle.mask_bucket_edits.proofs.Buckets.{front_read}

@@ -1,6 +1,6 @@
 use Rattle.std.proofs.Common.{◌≢◌, ◌∙◌, sym, ap, arith}
-use Rattle.mask_mirror.specs.Kept.{bucket_at}
-use Rattle.mask_mirror.specs.Changes.{IsRenamed}
+use Rattle.mask_table.specs.OfMirrors.Kept.{bucket_at}
+use Rattle.mask_table.specs.OfMirrors.Changes.{IsRenamed}
 use Rattle.mask_build.proofs.Aside.{place_aside, free_rows_same, zero_at, kept_aside, has_aside}
 use Rattle.mask_build.proofs.Stacking.{laid_none}
 use Rattle.mask_build.proofs.clearing.clear_buckets.Goals as goal

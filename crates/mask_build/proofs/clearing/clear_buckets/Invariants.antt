@@ -2,8 +2,8 @@ use Rattle.std.proofs.Common.{◌≡◌, ℕ, ◌<◌, List, get_or}
 use Rattle.store_history.specs.declared.history.Named.{Named}
 use Rattle.pin_store.specs.declared.shape.Shape.{Shape}
 use Rattle.block_codec.specs.declared.filter.StoredFilter.{StoredFilter}
-use Rattle.mask_mirror.specs.Kept.{bucket_at, IsKept}
-use Rattle.mask_mirror.specs.Lists.{HasFilters}
+use Rattle.mask_table.specs.OfMirrors.Kept.{bucket_at, IsKept}
+use Rattle.mask_table.specs.OfMirrors.Lists.{HasFilters}
 use Rattle.mask_build.proofs.clearing.clear_buckets.Given as goal
 
 abbrev pub invariant-loop-bucket : goal.invariant-loop-bucket

@@ -4,8 +4,8 @@ use Rattle.store_history.specs.declared.history.Commit.{Commit}
 use Rattle.pin_store.specs.Sheets.{base_of}
 use Rattle.pin_store.specs.Calls.{seen_by, sheet_of, IsUnnamed}
 use Rattle.std.proofs.lemmas.List.{take_all}
-use Rattle.mask_mirror.specs.Lists.{Dated}
-use Rattle.mask_mirror.proofs.Keeping.{same_base}
+use Rattle.mask_table.specs.OfMirrors.Lists.{Dated}
+use Rattle.mask_table.proofs.OfMirrors.Keeping.{same_base}
 use Rattle.mask_build.specs.Laid.{laid_in, dated_by, IsLaid}
 use Rattle.mask_build.proofs.Aside.{free_rows_same}
 use Rattle.mask_build.proofs.Bringing.{few_given, laid_first, laid_next, laid_apart, brought_long, brought_at}

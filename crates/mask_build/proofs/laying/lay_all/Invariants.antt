@@ -5,8 +5,8 @@ use Rattle.pin_store.specs.Sheets.{IsSameButCells}
 use Rattle.pin_store.specs.Calls.{seen_by, sheet_of, IsSeatOf}
 use Rattle.block_codec.specs.declared.filter.StoredFilter.{StoredFilter}
 use Rattle.mask_table.specs.Buckets.{IsAmong}
-use Rattle.mask_mirror.specs.Kept.{IsKept}
-use Rattle.mask_mirror.specs.Lists.{HasFilters}
+use Rattle.mask_table.specs.OfMirrors.Kept.{IsKept}
+use Rattle.mask_table.specs.OfMirrors.Lists.{HasFilters}
 use Rattle.mask_build.specs.Laid.{laid_in, dated_by, IsLaid}
 use Rattle.mask_build.proofs.laying.lay_all.Given as goal
 

@@ -4,11 +4,11 @@ use Rattle.store_history.specs.declared.history.Commit.{Commit}
 use Rattle.pin_store.specs.Sheets.{base_of}
 use Rattle.pin_store.specs.Calls.{seen_by, sheet_of}
 use Rattle.block_codec.specs.declared.mask.StoredMask.{StoredMask}
-use Rattle.mask_mirror.specs.Linked.{raise_commits}
-use Rattle.mask_mirror.specs.Lists.{age_of, Rises, HasFilters}
-use Rattle.mask_mirror.specs.Given.{AreFreeRows}
-use Rattle.mask_mirror.proofs.Dates.{rises_lower}
-use Rattle.mask_mirror.proofs.Keeping.{same_base}
+use Rattle.mask_table.specs.OfMirrors.Linked.{raise_commits}
+use Rattle.mask_table.specs.OfMirrors.Lists.{age_of, Rises, HasFilters}
+use Rattle.mask_table.specs.OfMirrors.Given.{AreFreeRows}
+use Rattle.mask_table.proofs.OfMirrors.Dates.{rises_lower}
+use Rattle.mask_table.proofs.OfMirrors.Keeping.{same_base}
 use Rattle.mask_build.specs.Laid.{places, laid_in, dated_by, IsLaid}
 use Rattle.mask_build.proofs.Aside.{free_rows_same}
 use Rattle.mask_build.proofs.Bringing.{few_given, laid_ready, laid_commits, filters_laid, dates_laid, brought_filters, brought_long, brought_rise}

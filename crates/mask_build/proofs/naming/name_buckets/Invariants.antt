@@ -1,6 +1,6 @@
 use Rattle.std.proofs.Common.{◌≡◌, ◌++◌, List}
 use Rattle.pin_store.specs.Calls.{seen_by, sheet_of, IsSeatOf}
-use Rattle.mask_mirror.specs.Linked.{bucket_commits}
+use Rattle.mask_table.specs.OfMirrors.Linked.{bucket_commits}
 use Rattle.mask_build.specs.Laid.{Laid, places, IsLaid}
 use Rattle.mask_build.proofs.naming.name_buckets.Given as goal
 

@@ -7,9 +7,9 @@ use Rattle.pin_store.specs.Sheets.{base_of}
 use Rattle.pin_store.specs.Calls.{seen_by, sheet_of}
 use Rattle.pin_store.proofs.Sound.{base_low}
 use Rattle.block_codec.specs.Masks.{IsMaskBlock}
-use Rattle.mask_mirror.specs.Kept.{IsKept}
-use Rattle.mask_mirror.specs.Linked.{bucket_commits, mask_commit}
-use Rattle.mask_mirror.proofs.Keeping.{same_base}
+use Rattle.mask_table.specs.OfMirrors.Kept.{IsKept}
+use Rattle.mask_table.specs.OfMirrors.Linked.{bucket_commits, mask_commit}
+use Rattle.mask_table.proofs.OfMirrors.Keeping.{same_base}
 use Rattle.mask_build.specs.Laid.{places}
 use Rattle.mask_build.proofs.Committing.{commits_first, commits_all, commits_last}
 use Rattle.mask_build.proofs.Standing.{laid_still, kept_raised, others_have, new_has}

@@ -6,8 +6,8 @@ use Rattle.pin_store.specs.Sheets.{base_of}
 use Rattle.pin_store.specs.Calls.{seen_by, sheet_of, IsUnnamed}
 use Rattle.block_codec.specs.declared.filter.StoredFilter.{StoredFilter}
 use Rattle.block_codec.specs.Filters.{IsStorableFilter}
-use Rattle.mask_mirror.specs.Lists.{Dated, kept_in, kept_as}
-use Rattle.mask_mirror.proofs.Keeping.{same_base}
+use Rattle.mask_table.specs.OfMirrors.Lists.{Dated, kept_in, kept_as}
+use Rattle.mask_table.proofs.OfMirrors.Keeping.{same_base}
 use Rattle.mask_build.specs.Laid.{laid_in, IsLaid}
 use Rattle.mask_build.proofs.Aside.{free_rows_same}
 use Rattle.store_history.proofs.Lists.{some_is}

@@ -5,8 +5,8 @@ use Rattle.pin_store.specs.Sheets.{IsSameButCells}
 use Rattle.pin_store.specs.Calls.{seen_by, sheet_of, IsSeatOf}
 use Rattle.block_codec.specs.declared.filter.StoredFilter.{StoredFilter}
 use Rattle.mask_table.specs.Buckets.{IsAmong}
-use Rattle.mask_mirror.specs.Kept.{IsKept}
-use Rattle.mask_mirror.specs.Lists.{Dated, kept_in, kept_as, HasFilters}
+use Rattle.mask_table.specs.OfMirrors.Kept.{IsKept}
+use Rattle.mask_table.specs.OfMirrors.Lists.{Dated, kept_in, kept_as, HasFilters}
 use Rattle.mask_build.specs.Laid.{laid_in, IsLaid}
 use Rattle.mask_build.proofs.relaying.lay_copies.Given as goal
 

@@ -2,8 +2,8 @@ use Rattle.std.proofs.Common.{ℕ, ◌+◌, ◌<◌, ◌∙◌, ◌++◌, List, 
 use Rattle.std.specs.List.{All}
 use Rattle.std.specs.List.Sorted.{IsPermutation, IsNonDecreasingBy}
 use Rattle.std.proofs.lemmas.List.Sorted.{All-permutation}
-use Rattle.mask_mirror.specs.Lists.{age_of, kept_as, kept_in}
-use Rattle.mask_mirror.proofs.Forgetting.{few_gathered}
+use Rattle.mask_table.specs.OfMirrors.Lists.{age_of, kept_as, kept_in}
+use Rattle.mask_table.proofs.OfMirrors.Forgetting.{few_gathered}
 use Rattle.mask_order.proofs.Orders.{sorted_as}
 use Rattle.mask_order.proofs.Buckets.{all_low, all_dated}
 use Rattle.mask_order.proofs.ordering.in_order.Goals as goal

@@ -1,6 +1,6 @@
 use Rattle.std.proofs.Common.{◌∙◌, ◌+◌, [], ◌∷◌, ◌++◌, length, drop, Some, ap, append_assoc}
 use Rattle.store_history.specs.History.{root_of}
-use Rattle.block_reading.specs.Read.{filter_in}
+use Rattle.block_codec.specs.OfReadings.Read.{filter_in}
 use Rattle.mask_order.proofs.ChainsRead.{read_behind, read_split, inserted_reads}
 use Rattle.mask_order.proofs.Placing.{rewritten_reads}
 use Rattle.mask_order.proofs.reading.changed_chains_read.Goals as goal

@@ -7,7 +7,7 @@ use Rattle.store_history.proofs.Histories.{prefix_length, prefix_take}
 use Rattle.pin_store.specs.Calls.{seen_by, floor_start, start_in, loads_of}
 use Rattle.flow_mask.specs.Masks.{each_and}
 use Rattle.block_codec.specs.declared.filter.StoredFilter.{StoredFilter}
-use Rattle.block_reading.specs.Read.{filter_in, mask_of_words}
+use Rattle.block_codec.specs.OfReadings.Read.{filter_in, mask_of_words}
 use Rattle.mask_table.specs.Buckets.{mask_root, bucket_root, bucket_for, key_root, IsAnswer}
 use Rattle.mask_table.proofs.Limits.{within, root_low}
 use Rattle.mask_table.proofs.Looking.{looked_up, one_of}

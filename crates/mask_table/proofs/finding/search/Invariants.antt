@@ -3,7 +3,7 @@ use Rattle.store_history.specs.History.{root_of}
 use Rattle.store_history.specs.Reads.{read_all}
 use Rattle.pin_store.specs.Calls.{seen_by, loads_of, IsSeatAt, IsSameButLoads}
 use Rattle.block_codec.specs.declared.filter.StoredFilter.{StoredFilter}
-use Rattle.block_reading.specs.Read.{filter_in}
+use Rattle.block_codec.specs.OfReadings.Read.{filter_in}
 use Rattle.block_chain.specs.Ways.{IsBefore}
 use Rattle.mask_table.proofs.finding.search.Given as goal
 

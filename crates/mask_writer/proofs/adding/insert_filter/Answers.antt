@@ -6,9 +6,9 @@ use Rattle.pin_store.specs.Layout.{commit_of}
 use Rattle.pin_store.specs.Sheets.{base_of}
 use Rattle.pin_store.specs.Calls.{seen_by, sheet_of, IsUnnamed}
 use Rattle.pin_store.proofs.Sound.{base_low}
-use Rattle.mask_mirror.specs.Kept.{HoldsChain, BucketAt, IsKept, AreOwn}
-use Rattle.mask_mirror.specs.Changing.{root_for, insert_at}
-use Rattle.mask_mirror.proofs.Keeping.{same_base, same_kept, unnamed_now}
+use Rattle.mask_table.specs.OfMirrors.Kept.{HoldsChain, BucketAt, IsKept, AreOwn}
+use Rattle.mask_table.specs.OfMirrors.Changing.{root_for, insert_at}
+use Rattle.mask_table.proofs.OfMirrors.Keeping.{same_base, same_kept, unnamed_now}
 use Rattle.mask_writer.proofs.Inserting.{chain_ready, commit_is, others_have, mask_has}
 use Rattle.mask_writer.proofs.adding.insert_filter.Goals as goal
 

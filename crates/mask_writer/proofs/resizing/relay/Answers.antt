@@ -5,9 +5,9 @@ use Rattle.pin_store.specs.Sheets.{base_of}
 use Rattle.pin_store.specs.Calls.{seen_by, sheet_of}
 use Rattle.pin_store.proofs.Sound.{base_low}
 use Rattle.block_codec.specs.declared.filter.StoredFilter.{StoredFilter}
-use Rattle.mask_mirror.specs.Kept.{HasFilter}
-use Rattle.mask_mirror.specs.Lists.{kept_in}
-use Rattle.mask_mirror.proofs.Lasting.{kept_same}
+use Rattle.mask_table.specs.OfMirrors.Kept.{HasFilter}
+use Rattle.mask_table.specs.OfMirrors.Lists.{kept_in}
+use Rattle.mask_table.proofs.OfMirrors.Lasting.{kept_same}
 use Rattle.mask_order.proofs.Buckets.{long_ordered}
 use Rattle.mask_build.proofs.Aside.{free_rows_same}
 use Rattle.mask_writer.proofs.Leaving.{all_old}

@@ -6,10 +6,10 @@ use Rattle.pin_store.specs.Sheets.{base_of}
 use Rattle.pin_store.specs.Calls.{seen_by, sheet_of}
 use Rattle.block_codec.specs.declared.mask.StoredMask.{StoredMask}
 use Rattle.mask_table.specs.Buckets.{IsAmong}
-use Rattle.mask_mirror.specs.Given.{AreGiven, AreFreeRows}
-use Rattle.mask_mirror.specs.Lists.{age_of, Rises, HasFilters}
-use Rattle.mask_mirror.specs.Linked.{placed, raise_commits, resized}
-use Rattle.mask_mirror.proofs.Keeping.{same_base}
+use Rattle.mask_table.specs.OfMirrors.Given.{AreGiven, AreFreeRows}
+use Rattle.mask_table.specs.OfMirrors.Lists.{age_of, Rises, HasFilters}
+use Rattle.mask_table.specs.OfMirrors.Linked.{placed, raise_commits, resized}
+use Rattle.mask_table.proofs.OfMirrors.Keeping.{same_base}
 use Rattle.mask_order.proofs.Buckets.{long_dated}
 use Rattle.mask_build.specs.Laid.{places, laid_in}
 use Rattle.mask_build.proofs.Aside.{free_rows_same}

@@ -4,7 +4,7 @@ use Rattle.std.proofs.lemmas.Option.{slice_get_within}
 use Rattle.store_history.specs.declared.history.Commit.{Commit}
 use Rattle.store_history.specs.History.{root_of}
 use Rattle.pin_store.specs.Calls.{seen_by, floor_start}
-use Rattle.block_reading.specs.Read.{table_in}
+use Rattle.block_codec.specs.OfReadings.Read.{table_in}
 use Rattle.block_chain.proofs.Chains.{read_at, read_length}
 use Rattle.block_chain.proofs.Still.{still}
 use Rattle.miniq_pair.specs.Heads.{head_root, told_of, HeadTold}

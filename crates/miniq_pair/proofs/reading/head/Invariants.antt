@@ -3,7 +3,7 @@ use Rattle.store_history.specs.History.{root_of}
 use Rattle.store_history.specs.Reads.{read_all}
 use Rattle.pin_store.specs.Calls.{seen_by, loads_of, IsSeatAt, IsSameButLoads}
 use Rattle.block_codec.specs.declared.table.StoredTable.{StoredTable}
-use Rattle.block_reading.specs.Read.{table_in}
+use Rattle.block_codec.specs.OfReadings.Read.{table_in}
 use Rattle.block_chain.specs.Ways.{IsBefore}
 use Rattle.miniq_pair.specs.Heads.{head_root, told_of}
 use Rattle.miniq_pair.proofs.reading.head.Given as goal

@@ -1,5 +1,5 @@
 use Rattle.std.proofs.Common.{◌≡◌, ◌∙◌, ℕ, List, ◌++◌, OnOk, append_assoc, ap, subst, codes}
-use Rattle.batch_walk.specs.Texts.{counted}
+use Rattle.walk_texts.specs.Texts.{counted}
 use Rattle.run_report.specs.EventTexts.{action_made_text}
 use Rattle.run_report.proofs.done.push_action_made.Goals as goal
 

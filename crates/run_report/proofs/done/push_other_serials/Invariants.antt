@@ -1,6 +1,6 @@
 use Rattle.std.proofs.Common.{◌≡◌, ◌++◌, take, codes}
 use Rattle.std.specs.List.{flat_map}
-use Rattle.batch_walk.specs.Texts.{counted}
+use Rattle.walk_texts.specs.Texts.{counted}
 use Rattle.run_report.proofs.done.push_other_serials.Given as goal
 
 abbrev pub invariant-loop-serial : goal.invariant-loop-serial

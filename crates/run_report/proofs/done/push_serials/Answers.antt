@@ -1,7 +1,7 @@
 use Rattle.std.proofs.Common.{◌≡◌, ◌∙◌, ℕ, List, [], ◌∷◌, ◌++◌, OnOk, append-nil, append_assoc, sym, ap, subst, decimal, codes}
 use Rattle.std.specs.Prelude.{map}
 use Rattle.std.specs.List.{flat_map, join_with_byte}
-use Rattle.batch_walk.specs.Texts.{counted}
+use Rattle.walk_texts.specs.Texts.{counted}
 use Rattle.run_report.specs.EventTexts.{serials_text}
 use Rattle.run_report.proofs.done.push_serials.Goals as goal
 

@@ -1,6 +1,6 @@
 use Rattle.std.proofs.Common.{◌∙◌, ℕ, ◌+◌, ◌++◌, List, take, sym, ap, arith}
 use Rattle.std.specs.Prelude.{map}
-use Rattle.batch_walk.specs.Texts.{joined}
+use Rattle.walk_texts.specs.Texts.{joined}
 use Rattle.run_report.specs.declared.events.Event.{Event}
 use Rattle.run_report.specs.Counts.{accepted_count}
 use Rattle.run_report.specs.EventTexts.{event_line}

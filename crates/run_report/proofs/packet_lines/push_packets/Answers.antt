@@ -1,7 +1,7 @@
 use Rattle.std.proofs.Common.{◌∙◌, ℕ, ◌+◌, ◌++◌, List, arith, ap}
 use Rattle.std.specs.Prelude.{map}
 use Rattle.std.proofs.lemmas.Option.{get_or_from_slice_get}
-use Rattle.batch_walk.specs.Texts.{joined}
+use Rattle.walk_texts.specs.Texts.{joined}
 use Rattle.run_report.specs.declared.outcomes.Outcome.{Outcome}
 use Rattle.run_report.specs.Kept.{outcome_seen}
 use Rattle.run_report.specs.PacketTexts.{packet_line}

@@ -1,7 +1,7 @@
 use Rattle.std.proofs.Common.{◌≡◌, ◌++◌, ℕ, take}
 use Rattle.std.specs.Prelude.{map}
 use Rattle.std.specs.List.{enumerate_from}
-use Rattle.batch_walk.specs.Texts.{joined}
+use Rattle.walk_texts.specs.Texts.{joined}
 use Rattle.run_report.specs.declared.outcomes.Outcome.{Outcome}
 use Rattle.run_report.specs.PacketTexts.{packet_line}
 use Rattle.run_report.proofs.packet_lines.push_packets.Given as goal

@@ -1,5 +1,5 @@
 use Rattle.std.proofs.Common.{◌≡◌, ◌++◌, take}
-use Rattle.batch_walk.specs.Texts.{joined}
+use Rattle.walk_texts.specs.Texts.{joined}
 use Rattle.run_report.specs.Reports.{counter_lines}
 use Rattle.run_report.proofs.reporting.push_counters.Given as goal
 

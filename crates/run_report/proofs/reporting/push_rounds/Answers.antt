@@ -1,6 +1,6 @@
 use Rattle.std.proofs.Common.{◌∙◌, ℕ, ◌+◌, ◌++◌, List, take, sym, ap, arith}
 use Rattle.std.specs.List.{flat_map}
-use Rattle.batch_walk.specs.Texts.{joined}
+use Rattle.walk_texts.specs.Texts.{joined}
 use Rattle.run_report.specs.declared.rounds.RoundRecord.{RoundRecord}
 use Rattle.run_report.specs.Counts.{edits_in}
 use Rattle.run_report.specs.Reports.{round_lines}

@@ -1,5 +1,5 @@
 use Rattle.std.proofs.Common.{◌∙◌, ap, arith}
-use Rattle.batch_walk.specs.Walked.{is_pass}
+use Rattle.walk_ends.specs.Passing.{is_pass}
 use Rattle.tc_report.proofs.Lines.{take_whole}
 use Rattle.run_report.specs.Kept.{outcome_seen}
 use Rattle.run_report.specs.Counts.{passed_count}

@@ -1,10 +1,10 @@
 use Rattle.std.proofs.Common.{◌∙◌, length, List, sym, ap, subst, arith}
 use Rattle.store_history.specs.History.{edits_of}
 use Rattle.filter_state.specs.declared.edit.Edit.{Edit}
-use Rattle.desk_ledger.specs.Kept.{commits}
+use Rattle.desk_actions.specs.OfLedgers.Kept.{commits}
 use Rattle.desk_parts.specs.declared.parts.Parts.{Parts}
-use Rattle.desk_plans.specs.Plans.{IsPlan, IsReadyFor}
-use Rattle.desk_plans.specs.Done.{IsDone}
+use Rattle.shared_hook.specs.OfPlans.Plans.{IsPlan, IsReadyFor}
+use Rattle.shared_hook.specs.OfPlans.Done.{IsDone}
 use Rattle.shared_hook.specs.Applied.{IsApplied, IsHeld}
 use Rattle.shared_hook.specs.Views.{view_of}
 use Rattle.shared_hook.proofs.Following.{can_have, counted_still, held_so, plan_still, ready_still, applied_so, same_held, same_done}

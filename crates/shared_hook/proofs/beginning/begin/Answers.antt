@@ -4,8 +4,8 @@ use Rattle.filter_state.specs.Steps.{step}
 use Rattle.filter_lists.specs.Spells.{Spells}
 use Rattle.hook_lists.specs.declared.kept.Kept.{Kept}
 use Rattle.filter_state.specs.declared.edit.Edit.{Edit}
-use Rattle.hook_edit_laws.specs.Premises.{now, next}
-use Rattle.desk_ledger.specs.Kept.{commits}
+use Rattle.hook_store_law.specs.OfEdits.Premises.{now, next}
+use Rattle.desk_actions.specs.OfLedgers.Kept.{commits}
 use Rattle.desk_parts.specs.declared.parts.Parts.{Parts}
 use Rattle.desk_parts.specs.Desk.{IsDesk}
 use Rattle.desk_room_laws.proofs.Lines.{few_made}

@@ -1,9 +1,9 @@
 use Rattle.std.proofs.Common.{◌∙◌, refl, sym, subst}
 use Rattle.pin_store.specs.declared.scan.Scan.{Scan}
 use Rattle.pin_store.specs.Calls.{sheet_of}
-use Rattle.hook_edit_laws.specs.Premises.{now}
+use Rattle.hook_store_law.specs.OfEdits.Premises.{now}
 use Rattle.desk_tidy.specs.Tidied.{IsTwiceIn}
-use Rattle.desk_ledger.specs.Kept.{commits}
+use Rattle.desk_actions.specs.OfLedgers.Kept.{commits}
 use Rattle.shared_hook.specs.declared.counts.PoolCounts.{PoolCounts}
 use Rattle.shared_hook.specs.Short.{IsShort}
 use Rattle.shared_hook.proofs.Rising.{none_left}

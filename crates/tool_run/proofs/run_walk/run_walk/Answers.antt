@@ -2,11 +2,13 @@ use Rattle.std.proofs.Common.{◌∙◌, ℕ, List, Option, sym, ap, subst}
 use Rattle.std.proofs.lemmas.Result.{err_from_is_err_and}
 use Rattle.tc_base.specs.Outside.{Held}
 use Rattle.tc_base.specs.Pieces.{joined}
+use Rattle.walk_ends.specs.declared.limits.TheConstants.{PACKETS_MAX}
 use Rattle.batch_run.specs.Commands.{commands_in}
 use Rattle.batch_walk.specs.Walked.{told_text}
 use Rattle.tool_words.specs.Requests.{names_seen, walk_of}
 use Rattle.tool_words.specs.Ends.{status_after}
-use Rattle.tool_run.specs.Holdings.{Holds, HasCapture, Gives}
+use Rattle.input_files.specs.Holdings.{Holds, HasCapture}
+use Rattle.tool_run.specs.Holdings.{Gives}
 use Rattle.tool_run.proofs.Walking.{walk_gives, walked_so_far}
 use Rattle.tool_run.proofs.Writing.{walk_ends, delivery_caused}
 use Rattle.tool_run.proofs.run_walk.run_walk.Given as given
@@ -23,7 +25,7 @@ gives g c =
     let told = g.S.Shelf.held c.args.shelf.now in
     let held = subst (λ (b : List ℕ). Holds told names.batch b) (sym c.deref.ensures.value)
     c.in_ok-bytes.ensures.bytes in
-    let stands = subst (λ (o : Option Held). HasCapture o names.capture c.in_ok-capture.capture)
+    let stands = subst (λ (o : Option Held). HasCapture o PACKETS_MAX names.capture c.in_ok-capture.capture)
     c.load.ensures.held c.in_ok-capture.ensures.capture in
     walk_gives told c.args.hook names c.deref.result.now (commands_in c.deref-2.result.now)
     c.in_ok-capture.capture c.in_ok-walk.walk (record { held = held; few = c.in_ok-texts.ensures.few })

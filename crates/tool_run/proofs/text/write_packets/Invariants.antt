@@ -1,6 +1,7 @@
 use Rattle.std.proofs.Common.{◌≡◌, ◌≤◌, ◌++◌, length}
 use Rattle.tc_base.specs.Outside.{Appended}
-use Rattle.batch_walk.specs.Texts.{joined, packet_lines}
+use Rattle.walk_texts.specs.Texts.{joined}
+use Rattle.batch_walk.specs.Texts.{packet_lines}
 use Rattle.tool_run.specs.Endings.{IsLine}
 use Rattle.tool_run.proofs.text.write_packets.Given as goal
 

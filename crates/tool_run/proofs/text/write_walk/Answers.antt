@@ -1,4 +1,5 @@
-use Rattle.batch_walk.specs.Texts.{joined, packet_lines}
+use Rattle.walk_texts.specs.Texts.{joined}
+use Rattle.batch_walk.specs.Texts.{packet_lines}
 use Rattle.tc_base.proofs.Appends.{Appended-then, AppendsUpTo-more, AppendsUpTo-last}
 use Rattle.tool_run.proofs.text.write_walk.Goals as goal
 

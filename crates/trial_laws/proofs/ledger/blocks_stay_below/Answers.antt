@@ -1,7 +1,7 @@
 use Rattle.std.proofs.Common.{arith}
 use Rattle.store_history.proofs.Histories.{named_later, nothing_named}
-use Rattle.mask_mirror.specs.Linked.{placed, raise_commits}
-use Rattle.mask_mirror.specs.Changing.{insert_at, remove_at}
+use Rattle.mask_table.specs.OfMirrors.Linked.{placed, raise_commits}
+use Rattle.mask_table.specs.OfMirrors.Changing.{insert_at, remove_at}
 use Rattle.trial_laws.specs.Ledger.{AreBelow}
 use Rattle.trial_laws.proofs.Spending.{ChainBelow, below_more, insertion_below, removal_below, mask_below, along_all, along_first}
 use Rattle.trial_laws.proofs.ledger.blocks_stay_below.Goals as goal

@@ -1,7 +1,7 @@
 use Rattle.std.proofs.Common.{◌∙◌, sym, arith}
 use Rattle.mask_table.specs.Buckets.{bucket_for}
-use Rattle.mask_mirror.specs.Linked.{raise_commits}
-use Rattle.mask_mirror.specs.Changing.{root_for, insert_at, remove_at}
+use Rattle.mask_table.specs.OfMirrors.Linked.{raise_commits}
+use Rattle.mask_table.specs.OfMirrors.Changing.{root_for, insert_at, remove_at}
 use Rattle.trial_laws.proofs.Right.{not_the_slot}
 use Rattle.trial_laws.specs.Ledger.{RowsBelow}
 use Rattle.trial_laws.proofs.Spending.{SpendsBelow, rows_still, rows_more, mask_spends, row_fresh, mask_fresh, none_used, along_all, along_first}

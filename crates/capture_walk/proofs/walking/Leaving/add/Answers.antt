@@ -1,6 +1,6 @@
 use Rattle.std.proofs.Common.{◌≡◌, ◌+◌, ◌∙◌, sym, subst, List, length, arith, take_at}
 use Rattle.std.proofs.lemmas.Result.{on_ok_weaker}
-use Rattle.capture_walk.specs.declared.counts.Count.{Count}
+use Rattle.walk_ends.specs.declared.counts.Count.{Count}
 use Rattle.capture_walk.specs.Captures.{AreFew}
 use Rattle.capture_walk.proofs.Counting.{few-more}
 use Rattle.capture_walk.proofs.walking.Leaving.add.Goals as goal

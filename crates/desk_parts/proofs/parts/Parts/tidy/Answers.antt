@@ -2,7 +2,7 @@ use Rattle.std.proofs.Common.{◌≡◌, ◌∙◌, refl, sym}
 use Rattle.tc_base.specs.declared.hook.Hook.TheVariants.{Ingress, Egress}
 use Rattle.pin_store.specs.Sheets.{base_of}
 use Rattle.pin_store.specs.Calls.{sheet_of, seen_by}
-use Rattle.desk_ledger.specs.Kept.{commits, base}
+use Rattle.desk_actions.specs.OfLedgers.Kept.{commits, base}
 use Rattle.desk_parts.specs.Desk.{IsDesk, cells, hook_shape}
 use Rattle.desk_parts.proofs.Tidied.{tidied_journal, tidied_whole, tidied_actions, tidied_masks, tidied_tables}
 use Rattle.desk_parts.proofs.parts.Parts.tidy.Goals as goal

@@ -1,4 +1,4 @@
-use Rattle.block_reading.specs.Read.{mask_of_words, action_of_words}
+use Rattle.block_codec.specs.OfReadings.Read.{mask_of_words, action_of_words}
 use Rattle.kept_records.specs.Keeping.{IsRead, IsKnown}
 use Rattle.kept_records.proofs.Kept.{none_kept}
 use Rattle.kept_records.proofs.records.HookRecords.with_room.Goals as goal

@@ -2,8 +2,8 @@ use Rattle.std.proofs.Common.{◌∙◌, List, set, get_or, Some, None, refl, sy
 use Rattle.store_history.specs.History.{root_of}
 use Rattle.pin_store.specs.Calls.{seen_by, sheet_of}
 use Rattle.block_codec.specs.declared.filter.StoredFilter.{StoredFilter}
-use Rattle.mask_mirror.specs.Lists.{HasFilters}
-use Rattle.mask_mirror.specs.Linked.{placed}
+use Rattle.mask_table.specs.OfMirrors.Lists.{HasFilters}
+use Rattle.mask_table.specs.OfMirrors.Linked.{placed}
 use Rattle.mask_writer.specs.Masks.{Masks}
 use Rattle.mask_writer.specs.Telling.{begun}
 use Rattle.mask_writer.proofs.Showing.{seen_as, masks_are, rows_kept, named_kept, named_shown}

@@ -1,9 +1,9 @@
 use Rattle.std.proofs.Common.{◌∙◌, ℕ, List, set, Option, None, refl, sym, ap}
 use Rattle.store_history.specs.declared.history.Named.{Named}
 use Rattle.pin_store.specs.declared.shape.Shape.{Shape}
-use Rattle.mask_mirror.specs.Kept.{IsKept}
-use Rattle.mask_mirror.specs.declared.mirror.KeptMask.{KeptMask}
-use Rattle.mask_mirror.proofs.Forgetting.{kept_forgotten}
+use Rattle.mask_table.specs.OfMirrors.Kept.{IsKept}
+use Rattle.mask_table.specs.declared.mirrors.mirror.KeptMask.{KeptMask}
+use Rattle.mask_table.proofs.OfMirrors.Forgetting.{kept_forgotten}
 use Rattle.mask_writer.specs.Masks.{Masks}
 use Rattle.mask_writer.proofs.Showing.{seen_as, masks_are, stands_kept, named_kept, named_shown, lists_forgotten}
 use Rattle.mask_writer.proofs.Editing.{told_again, holds_others, ended_edit}

@@ -2,10 +2,10 @@ use Rattle.std.proofs.Common.{◌∙◌, List, [], ◌∷◌, set, get_or, Optio
 use Rattle.store_history.specs.History.{root_of}
 use Rattle.pin_store.specs.Calls.{seen_by, sheet_of}
 use Rattle.block_codec.specs.declared.filter.StoredFilter.{StoredFilter}
-use Rattle.mask_mirror.specs.declared.mirror.KeptMask.{KeptMask}
+use Rattle.mask_table.specs.declared.mirrors.mirror.KeptMask.{KeptMask}
 use Rattle.mask_table.specs.Buckets.{bucket_for}
-use Rattle.mask_mirror.specs.Kept.{BucketAt}
-use Rattle.mask_mirror.specs.Changing.{root_for, insert_at}
+use Rattle.mask_table.specs.OfMirrors.Kept.{BucketAt}
+use Rattle.mask_table.specs.OfMirrors.Changing.{root_for, insert_at}
 use Rattle.mask_build.proofs.Aside.{bucket_within}
 use Rattle.mask_writer.specs.Masks.{Order, Masks}
 use Rattle.mask_writer.specs.Telling.{joined}

@@ -1,9 +1,9 @@
 use Rattle.std.proofs.Common.{◌∙◌, List, [], get_or, Option, None, refl, sym, ap}
 use Rattle.store_history.specs.History.{root_of}
 use Rattle.pin_store.specs.Calls.{seen_by, sheet_of}
-use Rattle.mask_mirror.specs.declared.mirror.KeptMask.{KeptMask}
-use Rattle.mask_mirror.specs.Kept.{BucketAt}
-use Rattle.mask_mirror.specs.Changing.{remove_at}
+use Rattle.mask_table.specs.declared.mirrors.mirror.KeptMask.{KeptMask}
+use Rattle.mask_table.specs.OfMirrors.Kept.{BucketAt}
+use Rattle.mask_table.specs.OfMirrors.Changing.{remove_at}
 use Rattle.mask_writer.specs.Masks.{Order, Masks}
 use Rattle.mask_writer.specs.Telling.{without}
 use Rattle.mask_writer.proofs.Showing.{seen_as, masks_are, stands_kept, stands_shown, order_is, named_kept, named_shown}

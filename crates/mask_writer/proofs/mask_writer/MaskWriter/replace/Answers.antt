@@ -2,9 +2,9 @@ use Rattle.std.proofs.Common.{◌∙◌, List, [], ◌∷◌, set, get_or, Optio
 use Rattle.store_history.specs.History.{root_of}
 use Rattle.pin_store.specs.Calls.{seen_by, sheet_of}
 use Rattle.block_codec.specs.declared.filter.StoredFilter.{StoredFilter}
-use Rattle.mask_mirror.specs.declared.mirror.KeptMask.{KeptMask}
-use Rattle.mask_mirror.specs.Kept.{BucketAt}
-use Rattle.mask_mirror.specs.Changing.{root_for, replace_at}
+use Rattle.mask_table.specs.declared.mirrors.mirror.KeptMask.{KeptMask}
+use Rattle.mask_table.specs.OfMirrors.Kept.{BucketAt}
+use Rattle.mask_table.specs.OfMirrors.Changing.{root_for, replace_at}
 use Rattle.mask_writer.specs.Masks.{Order, Masks}
 use Rattle.mask_writer.specs.Telling.{exchanged}
 use Rattle.mask_writer.proofs.Showing.{seen_as, masks_are, stands_kept, stands_shown, order_is, named_kept, named_shown}

@@ -1,9 +1,9 @@
 use Rattle.std.proofs.Common.{◌∙◌, List, set, get_or, Option, Some, None, refl, sym, ap, length, arith, get_or-set_same}
 use Rattle.store_history.specs.History.{root_of}
 use Rattle.pin_store.specs.Calls.{seen_by, sheet_of}
-use Rattle.mask_mirror.specs.declared.mirror.KeptMask.{KeptMask}
-use Rattle.mask_mirror.specs.Linked.{placed, resized}
-use Rattle.mask_mirror.specs.Kept.{Stands}
+use Rattle.mask_table.specs.declared.mirrors.mirror.KeptMask.{KeptMask}
+use Rattle.mask_table.specs.OfMirrors.Linked.{placed, resized}
+use Rattle.mask_table.specs.OfMirrors.Kept.{Stands}
 use Rattle.mask_writer.specs.Masks.{Masks}
 use Rattle.mask_writer.proofs.Showing.{seen_as, masks_are, stands_kept, stands_shown, order_is, rows_kept, named_kept, named_shown, holds_kept, holds_again}
 use Rattle.mask_writer.proofs.Editing.{told_again, order_after, holds_others, same_edit, same_list}

@@ -1,6 +1,6 @@
 use Rattle.std.proofs.Common.{◌∙◌, List, get_or, Option, None, refl, ap}
-use Rattle.mask_mirror.specs.declared.mirror.KeptMask.{KeptMask}
-use Rattle.mask_mirror.proofs.Keeping.{kept_none}
+use Rattle.mask_table.specs.declared.mirrors.mirror.KeptMask.{KeptMask}
+use Rattle.mask_table.proofs.OfMirrors.Keeping.{kept_none}
 use Rattle.mask_writer.proofs.Showing.{seen_as, masks_are, named_shown, nothing_told}
 use Rattle.mask_writer.proofs.mask_writer.MaskWriter.with_room.Goals as goal
 

@@ -1,17 +1,28 @@
-use Rattle.std.proofs.Common.{◌≡◌, ◌∙◌, ℕ, List, length, Some, arith, refl, sym, ap}
-use Rattle.std.specs.Prelude.{slice_get, slice_range}
-use Rattle.std.proofs.lemmas.Option.{slice_get_read}
-use Rattle.std.proofs.lemmas.List.{length-map}
-use Rattle.run_report.proofs.Buffers.{outcome_at}
+use Rattle.std.proofs.Common.{arith}
+use Rattle.run_report.specs.Kept.{outcome_seen}
+use Rattle.run_report.proofs.Places.{many_seen, within_list, within_rows, read_at}
 use Rattle.run_report.proofs.outcomes.Outcomes.at.Goals as goal
+
+pub index-there-requires : goal.index-there-requires
+index-there-requires c =
+    let many = many_seen c.self.inside.lists.items c.self.inside.places.items c.args.self.now c.self.invariant c.self.view_is in
+    let within = c.requires in
+    let own = c.self.inside.places.ok.0 in
+    omega (arith, many, within, own)
+
+pub index-requires : goal.index-requires
+index-requires c =
+    let place = within_list c.self.inside.lists.items c.self.inside.places.items c.args.self.now c.self.invariant c.self.view_is c.args.place c.index-there.result.now c.requires c.index-there.ensures in
+    let less = place.first in
+    let own = c.self.inside.lists.ok.0 in
+    omega (arith, less, own)
+
+pub at-requires : goal.at-requires
+at-requires c =
+    within_rows c.self.inside.lists.items c.self.inside.places.items c.args.self.now c.self.invariant c.self.view_is c.args.place c.index-there.result.now c.requires c.index-there.ensures
+    c.index.result.now c.index.ensures
 
 pub returns : goal.returns
 returns c =
-    let row = c.index-row.result.now in
-    let count : length c.args.self.now ≡ length c.self.inside.rows.items = sym (ap length c.self.view_is) ∙ length-map c.self.inside.rows.items _ in
-    let there : slice_get c.self.inside.rows.items c.args.place ≡ Some row = slice_get_read c.self.inside.rows.items (length c.self.inside.rows.items) c.args.place row refl (omega (arith, c.requires, count)) c.index-row.ensures in
-    let bytes : c.part.result.now ≡ slice_range c.self.inside.bytes.items row.bytes.start row.bytes.end = c.part.ensures ∙ ap (λ (xs : List ℕ). slice_range xs row.bytes.start row.bytes.end) c.deref.ensures.value in
-    let points : c.part-2.result.now ≡ slice_range c.self.inside.points.items row.points.start row.points.end = c.part-2.ensures ∙ ap (λ (xs : List ℕ). slice_range xs row.points.start row.points.end) c.deref-2.ensures.value in
-    let executed : c.part-3.result.now ≡ slice_range c.self.inside.executed.items row.executed.start row.executed.end = c.part-3.ensures ∙ ap (λ (xs : List (ℕ × ℕ)). slice_range xs row.executed.start row.executed.end) c.deref-3.ensures.value in
-    outcome_at c.self.inside.bytes.items c.self.inside.points.items c.self.inside.executed.items c.self.inside.rows.items c.args.self.now c.args.place row _ c.self.view_is there
-    (rw (sym bytes, sym points, sym executed) refl)
+    read_at c.self.inside.lists.items c.self.inside.places.items c.args.self.now c.self.invariant c.self.view_is c.args.place c.index-there.result.now c.requires c.index-there.ensures
+    c.index.result.now c.index.ensures (outcome_seen c.at.result) c.at.ensures

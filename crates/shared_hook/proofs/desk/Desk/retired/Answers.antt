@@ -1,8 +1,8 @@
 use Rattle.std.proofs.Common.{◌≡◌, ◌∙◌, ◌+◌, ap, subst, arith}
 use Rattle.pin_store.specs.Calls.{seen_by}
-use Rattle.hook_edit_laws.specs.Premises.{now}
+use Rattle.hook_store_law.specs.OfEdits.Premises.{now}
 use Rattle.desk_needs.specs.Live.{live_of, size_of_pool}
-use Rattle.desk_ledger.specs.Kept.{commits}
+use Rattle.desk_actions.specs.OfLedgers.Kept.{commits}
 use Rattle.shared_hook.specs.declared.counts.PoolCounts.{PoolCounts}
 use Rattle.shared_hook.specs.Views.{DeskView, count_of}
 use Rattle.shared_hook.proofs.Shorts.{view_adds_up}

@@ -2,8 +2,8 @@ use Rattle.std.proofs.Common.{◌∙◌, ◌≤◌, ◌++◌, ap, subst}
 use Rattle.store_history.specs.declared.history.Commit.{Commit}
 use Rattle.pin_store.specs.Calls.{seen_by}
 use Rattle.filter_state.specs.declared.edit.Edit.{Edit}
-use Rattle.hook_edit_laws.specs.Premises.{now}
-use Rattle.desk_ledger.specs.Kept.{commits}
+use Rattle.hook_store_law.specs.OfEdits.Premises.{now}
+use Rattle.desk_actions.specs.OfLedgers.Kept.{commits}
 use Rattle.desk_tidy.specs.Tidied.{empty_at, emptying}
 use Rattle.desk_tidy.proofs.Emptied.{mapped_at}
 use Rattle.shared_hook.specs.Views.{DeskView, count_of, free_in, journal}

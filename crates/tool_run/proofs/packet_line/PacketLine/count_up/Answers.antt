@@ -2,7 +2,8 @@ use Rattle.std.proofs.Common.{◌≡◌, ◌+◌, ◌-◌, ◌<◌, ◌≤◌, s
 use Rattle.std.proofs.Common.{subst, arith}
 use Rattle.std.specs.Prelude.{decimal}
 use Rattle.std.proofs.lemmas.List.{get_or_default}
-use Rattle.batch_walk.specs.Texts.{counted, packet_line}
+use Rattle.walk_texts.specs.Texts.{counted}
+use Rattle.batch_walk.specs.Texts.{packet_line}
 use Rattle.tool_run.specs.Endings.{ending_of}
 use Rattle.tool_run.proofs.Counting.{IsCarriedIn, begins, in_text, carries, counts, as_long}
 use Rattle.tool_run.proofs.PacketLines.{label, length_counted, line_in_three}

@@ -1,5 +1,0 @@
-use Rattle.desk_line_actions.proofs.Going.{DropLoop}
-use Rattle.desk_line_actions.proofs.dropping.drop_dead_actions.Given as goal
-
-abbrev pub invariant-loop-serial : goal.invariant-loop-serial
-invariant-loop-serial l = DropLoop l.fn.lists l.fn.pools l.fn.places l.fn.serials l.pools l.places l.serial-index

@@ -1,8 +1,0 @@
-use Rattle.desk_moves.proofs.Done.{begins_empty, done_gives}
-use Rattle.desk_moves.proofs.laws.built_masks.Goals as goal
-
-pub returns-clause-begins : goal.returns-clause-begins
-returns-clause-begins c = begins_empty
-
-pub returns-clause-gives : goal.returns-clause-gives
-returns-clause-gives c = done_gives

@@ -1,5 +1,0 @@
-use Rattle.desk_plans.proofs.Staying.{plan_stays}
-use Rattle.desk_plans.proofs.laws.plans_go_on.Goals as goal
-
-pub returns : goal.returns
-returns c = λ old new y plan was is journal masks it. plan_stays old new was is journal masks y plan it

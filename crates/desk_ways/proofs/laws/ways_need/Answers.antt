@@ -1,5 +1,0 @@
-use Rattle.desk_ways.proofs.Needed.{ways_need}
-use Rattle.desk_ways.proofs.laws.ways_need.Goals as goal
-
-pub returns : goal.returns
-returns c = λ h b y t done way a. ways_need h b y t done a way

@@ -1,7 +1,0 @@
-use Rattle.std.proofs.Common.{◌≡◌, ◌++◌, take}
-use Rattle.std.specs.List.{flat_map}
-use Rattle.gone_serials.specs.Same.{serials_at}
-use Rattle.gone_serials.proofs.telling.add_mask.Given as goal
-
-abbrev pub invariant-loop-slot : goal.invariant-loop-slot
-invariant-loop-slot l = l.gone.items ≡ l.fn.gone.items ++ flat_map serials_at (take l.slot-index l.slots)

@@ -1,0 +1,13 @@
+use Rattle.std.proofs.Common.{◌≡◌, ◌≤◌, take}
+use Rattle.job_files.specs.Named.{rounds_files}
+use Rattle.job_files.specs.Growing.{Grows}
+use Rattle.job_files.proofs.files.LoadedFiles.add_rounds.Given as goal
+
+abbrev pub invariant-loop-round : goal.invariant-loop-round
+invariant-loop-round g l = record {
+  grown : Grows (g.S.Shelf.held l.fn.shelf) l.fn.self (rounds_files (take l.round-index l.rounds)) l.self;
+  held : g.S.Shelf.held l.shelf ≡ g.S.Shelf.held l.fn.shelf;
+  later : g.S.Shelf.read_faults l.fn.shelf ≤ g.S.Shelf.read_faults l.shelf;
+  failed_name : g.S.Shelf.failed_name l.shelf ≡ g.S.Shelf.failed_name l.fn.shelf;
+  write_faults : g.S.Shelf.write_faults l.shelf ≡ g.S.Shelf.write_faults l.fn.shelf;
+}

@@ -1,0 +1,6 @@
+pub mod Named
+pub mod Holdings
+pub mod Faults
+pub mod Due
+pub mod Loaded
+pub mod Growing

@@ -1,0 +1,3 @@
+pub mod SeenMost
+pub mod Logged
+pub mod RoundMore

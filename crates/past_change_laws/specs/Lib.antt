@@ -1,0 +1,4 @@
+pub mod Among
+pub mod Going
+pub mod Serials
+pub mod Moving

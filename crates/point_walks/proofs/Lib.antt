@@ -1,0 +1,6 @@
+pub mod Moves
+pub mod Falling
+pub mod Within
+pub mod Visited
+pub mod Lasts
+pub mod Going

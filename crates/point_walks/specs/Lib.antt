@@ -1,0 +1,4 @@
+pub mod Over
+pub mod Visits
+pub mod Lasts
+pub mod Latest

@@ -1,0 +1,11 @@
+pub mod Cutting
+pub mod Places
+pub mod OneControl
+pub mod Texts
+pub mod Fronts
+pub mod Given
+pub mod Finishing
+pub mod Standing
+pub mod Reached
+pub mod Completing
+pub mod Exact

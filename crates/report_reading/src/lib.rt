@@ -1,0 +1,13 @@
+//! The lines of a report's bytes.
+//!
+//! Whoever judges a report goes over its bytes line by line, and compares each line with the one that has to
+//! stand there. A line is cut behind its 0x0A, so that each keeps its end and no byte is lost; a last line
+//! without one is a line too (`line_cut_laws`), and no report has it. Nothing is copied, and lines are found
+//! by a search of many bytes at once.
+//!
+//! Plain functions of bytes, which any thread may call. None takes memory.
+#![tactic(auto)]
+
+mod lines;
+
+pub use lines::next_line;

@@ -1,0 +1,4 @@
+pub mod Counts
+pub mod Answering
+pub mod Turning
+pub mod Begun

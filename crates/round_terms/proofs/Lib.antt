@@ -1,0 +1,11 @@
+pub mod Coming
+pub mod Counting
+pub mod Turning
+pub mod Beginning
+pub mod Hearing
+pub mod JobFiles
+pub mod Cuts
+pub mod Standing
+pub mod Ending
+pub mod Lining
+pub mod Making

@@ -1,0 +1,14 @@
+pub mod Files
+pub mod Places
+pub mod Coming
+pub mod Hearing
+pub mod Underway
+pub mod Turns
+pub use Rattle.batch_run.specs.declared.made_action.MadeAction
+pub use Rattle.batch_run.specs.declared.limit.TheConstants
+pub use Rattle.batch_run.specs.Made
+pub use Rattle.run_report.specs.declared.events.Event
+pub use Rattle.run_report.specs.declared.events.EventKind
+pub use Rattle.run_report.specs.Counts
+pub use Rattle.lawful_runs.specs.declared.loaded.LoadedJob
+pub use Rattle.lawful_runs.specs.Given

@@ -1,0 +1,84 @@
+//! The pasts of all filters.
+
+use crate::index::put_place;
+use crate::named::NamedPast;
+use crate::past::Past;
+use std::alloc::Global;
+use std::collections::HashMap;
+use std::marker::Model;
+use tc_base::{NoMemory, Numbers, Point};
+
+/// What stood under each name over time: the serials of a filter's actions, or nothing. A name is the serial
+/// of a mask and the fourteen words of a key.
+#[derive(Drop)]
+pub struct SlotPasts {
+    alloc: Global,
+    places: HashMap<[u64; 15], usize>,
+    entries: Vec<NamedPast>,
+}
+
+impl Model for SlotPasts {
+    ghost use Rattle.std.specs.Prelude.{List};
+    ghost use Rattle.slot_pasts.specs.declared.named.NamedPast.{NamedPast};
+    ghost use Rattle.slot_pasts.specs.Names.{IsIndexed};
+
+    ghost Value = { List NamedPast };
+
+    ghost view = { λ l. l.entries.items };
+
+    ghost invariant = { λ l. IsIndexed l.places l.entries.items };
+}
+
+impl SlotPasts {
+    ghost use Rattle.std.specs.Prelude.{◌≡◌, ◌++◌, ◌∷◌, [], ℕ, List, OnOk, OnErr, if◌then◌else◌};
+    ghost use Rattle.std.specs.Option.{option_copied};
+    ghost use Rattle.std.specs.Str.{bytes_eq};
+    ghost use Rattle.slot_pasts.specs.Pasts.{value_at, UpTo, stood};
+    ghost use Rattle.slot_pasts.specs.Names.{past_of, past_with};
+
+    /// Nothing stood anywhere.
+    pub fn new(alloc: Global) -> SlotPasts
+        ensures { result ≡ [] }
+    {
+        SlotPasts {
+            alloc,
+            places: HashMap::new(alloc),
+            entries: Vec::new(alloc),
+        }
+    }
+
+    /// What stood under a name at a point; nothing, where nothing ever did.
+    pub fn at(&self, name: &[u64; 15], point: Point) -> Option<&Numbers>
+        ensures { option_copied result ≡ stood (value_at point (past_of self.now name.now)) }
+    {
+        let place = *self.places.get(name)?;
+        self.entries[place].past.at(point)?.as_ref()
+    }
+
+    /// From that point on, which is no earlier than that of any change under the name so far, this stands
+    /// there. Where memory is refused, nothing changed.
+    pub fn put(
+        &mut self,
+        name: [u64; 15],
+        from: Point,
+        value: Option<Numbers>,
+    ) -> Result<(), NoMemory>
+        requires { UpTo from (past_of self.old name) }
+        ensures put { OnOk result ((other : List ℕ)
+            → past_of self.new other ≡ past_with name from value self.old other) }
+        ensures kept { OnErr result (self.new ≡ self.old) }
+    {
+        if let Some(place) = self.places.get(&name) {
+            let place = *place;
+            self.entries[place].past.put(from, value)?;
+            return Ok(());
+        }
+        self.places.reserve(1)?;
+        let mut past = Past::new(self.alloc);
+        past.put(from, value)?;
+        let place = self.entries.len();
+        self.entries.push(NamedPast { name, past })?;
+        put_place(&mut self.places, name, place);
+        Ok(())
+    }
+}

@@ -1,0 +1,4 @@
+pub mod Bringing
+pub mod Recalled
+pub mod Remembered
+pub mod Followed

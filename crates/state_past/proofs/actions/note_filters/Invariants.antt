@@ -1,0 +1,15 @@
+use Rattle.std.proofs.Common.{take}
+use Rattle.filter_state.specs.States.{State}
+use Rattle.filter_lists.specs.Spells.{Spells}
+use Rattle.hook_meaning.specs.OfEffects.Parts.{params_at}
+use Rattle.slot_pasts.specs.Pasts.{stood}
+use Rattle.state_past.specs.Serials.{past_at}
+use Rattle.state_past.specs.Brought.{Brought, AllUpTo}
+use Rattle.state_past.specs.Told.{actions_of_all, StayLive}
+use Rattle.state_past.proofs.actions.note_filters.Given as goal
+
+abbrev pub invariant-loop-filter : goal.invariant-loop-filter
+invariant-loop-filter l = record {
+  up_to : AllUpTo l.from (past_at l.actions);
+  brought : (s : State) → Spells l.lists s → StayLive s l.from (past_at l.fn.actions) (actions_of_all l.going) → Brought l.from stood (params_at s) (actions_of_all (take l.filter-index l.going)) (past_at l.fn.actions) (past_at l.actions);
+}

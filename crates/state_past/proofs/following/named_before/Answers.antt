@@ -1,0 +1,13 @@
+use Rattle.std.proofs.Common.{◌∙◌, ℕ, sym, ap}
+use Rattle.hook_lists.specs.States.{state_of}
+use Rattle.order_laws.proofs.States.{same_state_refl}
+use Rattle.past_change_laws.specs.Serials.{serial_named}
+use Rattle.state_past.specs.Told.{named_in}
+use Rattle.state_past.proofs.following.named_before.Goals as goal
+
+pub returns-in-ActionChange : goal.returns-in-ActionChange
+returns-in-ActionChange c = let s = state_of c.args.lists.now in c.serial_named.ensures s (same_state_refl s)
+    ∙ (ap (λ (n : ℕ). serial_named s c.in-ActionChange.line.kind n) c.unwrap_or.ensures ∙ sym (ap (named_in s) c.in-ActionChange.is))
+
+pub returns-in-ActionDel : goal.returns-in-ActionDel
+returns-in-ActionDel c = let s = state_of c.args.lists.now in c.serial_named-in-ActionDel.ensures s (same_state_refl s) ∙ sym (ap (named_in s) c.in-ActionDel.is)

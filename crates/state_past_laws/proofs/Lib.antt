@@ -1,0 +1,7 @@
+pub mod Rows
+pub mod InPlace
+pub mod Edits
+pub mod Replaced
+pub mod Taken
+pub mod Searched
+pub mod Longer
