@@ -5,12 +5,14 @@ ghost use Rattle.desk_parts.specs.Desk.{hook_shape};
 
 use crate::lines::Line;
 use crate::trouble::Trouble;
+use desk_needs::Pool;
 use filter_lists::Done;
 use hook_reader::HookReader;
 use hook_store_law::HookStore;
 use pin_store::Scan;
 use shared_hook::{ApplyFault, Desk, make_hook};
 use std::alloc::Global;
+use tc_base::Point;
 
 /// A hook without a qdisc: its store, its desk and the first of its readers.
 pub(crate) fn new_hook(alloc: Global) -> Result<(HookStore, Desk, HookReader), Trouble>
@@ -39,9 +41,19 @@ pub(crate) struct Editor<'a> {
     pub(crate) ghost seat: { IsSeatOf store.now desk.place },
 }
 
+/// What a desk counts: blocks that are free, blocks that left, and the edits of its journal.
+#[derive(Clone, Copy, Debug, PartialEq, Eq)]
+pub(crate) struct Counts {
+    pub(crate) free: u32,
+    pub(crate) retired: u32,
+    pub(crate) edits: Point,
+}
+
 impl Editor<'_> {
     /// Tries an edit, and says what the desk answers.
-    pub(crate) fn step(&mut self, line: &Line) -> Result<Result<Done, ApplyFault>, Trouble> {
+    pub(crate) fn step(&mut self, line: &Line) -> Result<Result<Done, ApplyFault>, Trouble>
+        ensures store { self.new.store.now ≡ self.old.store.now }
+    {
         if self.desk.epochs() >= FEW_EPOCHS
             || self.desk.journal_len() >= FEW_EDITS
             || !self.desk.lists().may_step()
@@ -57,5 +69,47 @@ impl Editor<'_> {
             return Err(Trouble::TooFar);
         }
         Ok(self.desk.tidy(self.store))
+    }
+
+    /// Tries an edit, which has to be accepted, or not to be for this reason.
+    pub(crate) fn expect(&mut self, line: &Line, want: Option<ApplyFault>) -> Result<(), Trouble>
+        ensures store { self.new.store.now ≡ self.old.store.now }
+    {
+        let fault = self.step(line)?.err();
+        if fault != want {
+            return Err(Trouble::Answer(fault));
+        }
+        Ok(())
+    }
+
+    /// Tries edits, which have to be accepted.
+    pub(crate) fn apply_all(&mut self, lines: &[Line]) -> Result<(), Trouble>
+        ensures store { self.new.store.now ≡ self.old.store.now }
+    {
+        for line in lines {
+            self.expect(line, None)?;
+        }
+        Ok(())
+    }
+
+    /// Tidies, for which no reader may be in the way.
+    pub(crate) fn free_all(&mut self) -> Result<(), Trouble> {
+        match self.tidy()? {
+            Scan::Quiet => Ok(()),
+            pinned => Err(Trouble::Pinned(pinned)),
+        }
+    }
+
+    /// Counts, which has to come to this.
+    pub(crate) fn count(&self, want: Counts) -> Result<(), Trouble> {
+        let counts = Counts {
+            free: self.desk.free(Pool::Blocks),
+            retired: self.desk.retired(Pool::Blocks),
+            edits: self.desk.journal_len(),
+        };
+        if counts != want {
+            return Err(Trouble::Counts(counts));
+        }
+        Ok(())
     }
 }

@@ -19,11 +19,17 @@ mod dice;
 #[cfg(test)]
 mod editor;
 #[cfg(test)]
+mod frames;
+#[cfg(test)]
+mod holding;
+#[cfg(test)]
 mod lines;
 #[cfg(test)]
 mod log;
 #[cfg(test)]
 mod meanwhile;
+#[cfg(test)]
+mod player;
 #[cfg(test)]
 mod random;
 #[cfg(test)]
@@ -31,4 +37,12 @@ mod random_lines;
 #[cfg(test)]
 mod recorder;
 #[cfg(test)]
+mod script;
+#[cfg(test)]
+mod scripts;
+#[cfg(test)]
+mod speed;
+#[cfg(test)]
 mod trouble;
+#[cfg(test)]
+mod walker;

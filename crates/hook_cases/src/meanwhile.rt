@@ -2,6 +2,7 @@
 
 use crate::dice::Dice;
 use crate::editor::{Editor, new_hook};
+use crate::frames::frame_to;
 use crate::lines::{Line, step};
 use crate::log::{Entry, Log, Told};
 use crate::random::is_alike;
@@ -75,12 +76,8 @@ fn edit_often(
 
 // From 10.0.0.254 or 10.0.1.254 to one of 40 hosts, by UDP to one of three ports.
 fn random_frame(dice: &mut Dice) -> [u8; 42] {
-    let mut bytes = [
-        2, 0, 0, 0, 0, 1, 2, 0, 0, 0, 0, 2, 8, 0, 0x45, 0, 0, 28, 0, 0, 0, 0, 64, 17, 0, 0, 10, 0,
-        0, 254, 10, 0, 0, 1, 0x13, 0x88, 0, 53, 0, 8, 0, 0,
-    ];
+    let mut bytes = frame_to(dice.below(40) as u8);
     bytes[28] = dice.below(2) as u8;
-    bytes[33] = dice.below(40) as u8;
     bytes[37] = 53 + dice.below(3) as u8;
     bytes
 }

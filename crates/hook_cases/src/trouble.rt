@@ -1,6 +1,9 @@
 //! What keeps a test from its end.
 
+use crate::editor::Counts;
 use filter_state::Refusal;
+use pin_store::Scan;
+use shared_hook::ApplyFault;
 use std::alloc::{AllocError, AllocFailed};
 use tc_base::NoMemory;
 use tc_batch::LineFault;
@@ -17,6 +20,16 @@ pub(crate) enum Trouble {
     TooFar,
     /// Plain lists refuse an edit that plain lists accepted before.
     Replay(Refusal),
+    /// A desk answers an edit otherwise than it has to: it isn't accepted, for this reason, or it is.
+    Answer(Option<ApplyFault>),
+    /// A reader is in the way of a tidying.
+    Pinned(Scan),
+    /// A desk counts otherwise than it has to.
+    Counts(Counts),
+    /// A walk hasn't come to its end.
+    NotEnded,
+    /// There is no frame to walk.
+    NoFrame,
 }
 
 impl From<NoMemory> for Trouble {

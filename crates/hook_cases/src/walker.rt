@@ -1,0 +1,66 @@
+//! A walk of a live hook, one visit at a time.
+ghost use Rattle.std.specs.Prelude.{◌≡◌, ℕ};
+ghost use Rattle.filter_state.specs.Sound.{Each};
+ghost use Rattle.visit_room.specs.declared.names.MaskName.{MaskName};
+ghost use Rattle.walk_steps.specs.Told.{MasksKnown};
+ghost use Rattle.walk_steps.specs.Walking.{progress_of};
+ghost use Rattle.hook_reader.specs.Known.{KnowsMask, KnowsAction};
+
+use crate::recorder::{Recorder, Recording};
+use tc_base::Hook;
+use walk_steps::{Progress, Walk};
+
+/// A reader inside, with the walk that it answers.
+#[derive(Drop)]
+pub(crate) struct Walker<'a> {
+    recording: Recording<'a>,
+    walk: Walk,
+    progress: Progress,
+    ghost comes_to: { progress ≡ progress_of walk.standing },
+    ghost masks: { MasksKnown (λ (table : ℕ) (mask : MaskName). KnowsMask recording.reader mask) walk.heads },
+    ghost actions: { Each (KnowsAction recording.reader) walk.actions },
+}
+
+impl<'a> Walker<'a> {
+    /// Begins the walk of a frame at the ingress.
+    pub(crate) fn begin(recording: Recording<'a>, mut walk: Walk, bytes: &[u8; 42]) -> Walker<'a> {
+        walk.begin(Hook::Ingress, bytes);
+        Walker {
+            recording,
+            walk,
+            progress: Progress::Going,
+        }
+    }
+
+    /// Makes a visit, if one is needed.
+    pub(crate) fn visit(self) -> Walker<'a> {
+        let Walker {
+            mut recording,
+            mut walk,
+            progress,
+        } = self;
+        if let Progress::Ended = progress {
+            return Walker {
+                recording,
+                walk,
+                progress,
+            };
+        }
+        let progress = walk.step(&mut recording);
+        Walker {
+            recording,
+            walk,
+            progress,
+        }
+    }
+
+    /// Goes outside. The walk is as far as it came.
+    pub(crate) fn leave(self) -> (Recorder<'a>, Walk, Progress) {
+        let Walker {
+            recording,
+            walk,
+            progress,
+        } = self;
+        (recording.leave(), walk, progress)
+    }
+}
