@@ -2,14 +2,24 @@
 //!
 //! The contracts of `shared_hook` and `hook_reader` say what each call answers. What is added here: that
 //! memory, where it is there, is enough; that edits at random are answered as plain lists, kept apart, answer
-//! them (`random`); and that a reader that walks while such edits are made is told, at each visit, what plain
-//! lists at the visit's point say (`meanwhile`). For that a `Recorder` writes down all that it is told, and the
-//! journal is gone through again when both threads have ended. The threads are joined, and what a test finds
-//! is the same whatever the schedule.
+//! them (`random`); that a reader that walks while such edits are made is told, at each visit, what plain
+//! lists at the visit's point say (`meanwhile`); that edits between two given visits give a walk the points
+//! that were worked out by hand (`scripts`); and that a reader that stays inside holds edits up, by the answer
+//! that was worked out by hand, and no longer than it stays (`holding`).
 //!
-//! `Editor` is a desk with its store, and `Line` a line that was read. Their types say what the desk and the
-//! reader ask of their callers, so that the tests have no contracts of their own. It stands apart from the
-//! crates that it tests, as a test beside their proofs would have them proved twice. There is nothing to call.
+//! # How it is tried
+//!
+//! `Editor` is a desk with its store, `Recorder` a reader that writes down all that it is told, and `Line` a
+//! line that was read. Their types say what the desk and the reader ask of their callers, so that the tests
+//! need hardly a contract of their own. `meanwhile` has both at work at once, and goes through the journal
+//! when both threads have ended. A script (`script`) has turns of the desk and of a `Player`: a reader that
+//! goes inside, makes one visit (`Walker`) or leaves, each in a thread of its own that has ended before the
+//! next turn. So what a test finds is the same whatever the schedule.
+//!
+//! `speed` is apart from these: workloads whose instructions are counted by a script outside.
+//!
+//! The crate stands apart from those that it tests, as a test beside their proofs would have them proved
+//! twice. There is nothing to call.
 //!
 //! Not promised: anything of time.
 #![tactic(auto)]
