@@ -1,12 +1,7 @@
 //! A walk of a live hook, one visit at a time.
-ghost use Rattle.std.specs.Prelude.{◌≡◌, ℕ};
-ghost use Rattle.filter_state.specs.Sound.{Each};
-ghost use Rattle.visit_room.specs.declared.names.MaskName.{MaskName};
-ghost use Rattle.walk_steps.specs.Told.{MasksKnown};
-ghost use Rattle.walk_steps.specs.Walking.{progress_of};
-ghost use Rattle.hook_reader.specs.Known.{KnowsMask, KnowsAction};
 
 use crate::recorder::{Recorder, Recording};
+use std::marker::Model;
 use tc_base::Hook;
 use walk_steps::{Progress, Walk};
 
@@ -16,9 +11,20 @@ pub(crate) struct Walker<'a> {
     recording: Recording<'a>,
     walk: Walk,
     progress: Progress,
-    ghost comes_to: { progress ≡ progress_of walk.standing },
-    ghost masks: { MasksKnown (λ (table : ℕ) (mask : MaskName). KnowsMask recording.reader mask) walk.heads },
-    ghost actions: { Each (KnowsAction recording.reader) walk.actions },
+}
+
+impl<'a> Model for Walker<'a> {
+    ghost use Rattle.std.specs.Prelude.{◌≡◌};
+    ghost use Rattle.walk_steps.specs.declared.walk.Progress.{Progress};
+    ghost use Rattle.walk_steps.specs.Walking.{progress_of};
+    ghost use Rattle.hook_cases.specs.Known.{Knows};
+
+    ghost Value = { Progress };
+
+    ghost view = { λ w. w.progress };
+
+    // The reader knows all that the walk may ask for.
+    ghost invariant = { λ w. (w.progress ≡ progress_of w.walk.standing) × Knows w.recording.reader w.walk };
 }
 
 impl<'a> Walker<'a> {
