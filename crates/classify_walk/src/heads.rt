@@ -30,7 +30,7 @@ fn slot_of(hook: Hook, table: usize, mask: usize) -> u32
 ///
 /// Walks over lists that stay as they are get the same tables each time. So those of the last walk are looked
 /// at first: that costs half as much as telling them anew.
-pub(crate) fn tell_heads(lists: &Lists, hook: Hook, into: &mut HeadRoom)
+pub fn tell_heads(lists: &Lists, hook: Hook, into: &mut HeadRoom)
     ensures told { heads_told into.new.tables ≡ map head_of (tables_on hook (both_of lists.now)) }
     ensures kept { AreKept lists.now }
 {

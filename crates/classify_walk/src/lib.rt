@@ -19,5 +19,6 @@ mod heads;
 mod running;
 mod still;
 
+pub use heads::tell_heads;
 pub use running::walk_still;
 pub use still::Still;

@@ -15,8 +15,8 @@ use Rattle.action_plan.specs.Plans.{made_by}
 use Rattle.action_plan.proofs.Counts.{made_carried}
 use Rattle.hook_lists.specs.declared.kept.Kept.{Kept}
 use Rattle.hook_lists.specs.States.{state_of, AreKept}
-use Rattle.filter_removing.specs.declared.removal.Removal.{Removal}
-use Rattle.filter_removing.specs.declared.removal.Removal.TheVariants as removals
+use Rattle.filter_lists.specs.declared.removing.removal.Removal.{Removal}
+use Rattle.filter_lists.specs.declared.removing.removal.Removal.TheVariants as removals
 use Rattle.filter_lists.specs.declared.plan.Plan.{Plan}
 use Rattle.filter_lists.specs.declared.plan.Plan.TheVariants as plans
 use Rattle.filter_lists.specs.Spells.{Spells}

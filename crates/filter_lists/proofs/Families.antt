@@ -9,9 +9,9 @@ use Rattle.filter_state.specs.Steps.{Stepped, filter_add, filter_replace, replac
 use Rattle.hook_lists.specs.declared.kept.Kept.{Kept}
 use Rattle.hook_lists.specs.States.{state_of}
 use Rattle.hook_lists.specs.Done.{IsDone}
-use Rattle.filter_adding.specs.Additions as additions
-use Rattle.filter_replacing.specs.Replacements as replacements
-use Rattle.filter_removing.specs.Removals as removals
+use Rattle.filter_lists.specs.OfAdding.Additions as additions
+use Rattle.filter_lists.specs.OfReplacing.Replacements as replacements
+use Rattle.filter_lists.specs.OfRemoving.Removals as removals
 use Rattle.filter_lists.specs.Plans.{IsPlanned}
 
 -- ---- a refusal is told alike

@@ -6,3 +6,6 @@ pub mod Planned
 pub mod Stepping
 pub mod Families
 pub mod Counted
+pub mod OfRemoving
+pub mod OfAdding
+pub mod OfReplacing

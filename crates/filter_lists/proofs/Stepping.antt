@@ -19,7 +19,7 @@ use Rattle.hook_lists.specs.declared.kept.Kept.{Kept}
 use Rattle.hook_lists.specs.States.{state_of, AreKept}
 use Rattle.hook_lists.specs.Steps.{IsRoomier}
 use Rattle.hook_lists.specs.Done.{IsDone, IsDoneAtOnce}
-use Rattle.filter_adding.proofs.Later.{kept_later, state_same}
+use Rattle.filter_lists.proofs.OfAdding.Later.{kept_later, state_same}
 use Rattle.filter_lists.specs.declared.plan.Plan.{Plan}
 use Rattle.filter_lists.specs.declared.plan.Plan.TheVariants as plans
 use Rattle.filter_lists.specs.Spells.{Spells}

@@ -11,9 +11,9 @@ use Rattle.filter_state.specs.Actions.{is_named, is_live, index_or_free}
 use Rattle.filter_state.specs.Steps.{Stepped, unless, action_made, with_params}
 use Rattle.hook_lists.specs.declared.kept.Kept.{Kept}
 use Rattle.hook_lists.specs.States.{state_of}
-use Rattle.filter_adding.specs.Additions as additions
-use Rattle.filter_replacing.specs.Replacements as replacements
-use Rattle.filter_removing.specs.Removals as removals
+use Rattle.filter_lists.specs.OfAdding.Additions as additions
+use Rattle.filter_lists.specs.OfReplacing.Replacements as replacements
+use Rattle.filter_lists.specs.OfRemoving.Removals as removals
 use Rattle.filter_lists.specs.declared.plan.Plan.{Plan}
 use Rattle.filter_lists.specs.declared.plan.Plan.TheVariants as plans
 

@@ -9,10 +9,10 @@ ghost use Rattle.hook_lists.specs.States.{state_of, AreKept};
 ghost use Rattle.hook_lists.specs.Done.{IsDoneAtOnce};
 ghost use Rattle.filter_lists.specs.Edits.{MayStep};
 
+use crate::adding::add_at_once;
 use crate::doing::carry;
 use crate::preparing::plan_for;
-use filter_adding::add_at_once;
-use filter_replacing::{find_old, replace_at_once};
+use crate::replacing::{find_old, replace_at_once};
 use filter_state::{Done, Edit, FilterLine, Refusal};
 use hook_lists::Kept;
 

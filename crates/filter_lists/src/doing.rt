@@ -6,11 +6,11 @@ ghost use Rattle.filter_state.specs.States.{State};
 ghost use Rattle.filter_state.specs.declared.refusal.Done.{Done};
 ghost use Rattle.filter_lists.specs.Plans.{Leads};
 
+use crate::adding::add;
 use crate::plan::Plan;
+use crate::removing::remove;
+use crate::replacing::replace;
 use crate::shared::{change_action, del_action, make_action};
-use filter_adding::add;
-use filter_removing::remove;
-use filter_replacing::replace;
 use filter_state::Done;
 use hook_lists::Kept;
 

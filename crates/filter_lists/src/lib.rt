@@ -14,14 +14,14 @@
 //! Clauses speak of every state that the lists spell, so no call carries a state along. The lists spell a
 //! sound state at all times: that is the invariant of `Lists`.
 //!
-//! The parts stand in crates of their own: the tables (filter_tables), what every edit asks (hook_lists), and
-//! the edits of filters (filter_adding, filter_replacing, filter_removing). Those of the qdisc and of actions
-//! apart from filters stand here.
+//! The tables (filter_tables) and what every edit asks (hook_lists) stand in crates of their own. The edits
+//! of filters have a module each, `adding`, `replacing` and `removing`; those of the qdisc and of actions
+//! apart from filters stand beside them.
 //!
 //! # How a `filter add` goes through them
 //!
 //! ```text
-//! Lists::prepare -> plan_for -> filter_adding::prepare_addition
+//! Lists::prepare -> plan_for -> adding::prepare_addition
 //!   |
 //!   | look: every refusal, in the plain state's order; nothing is changed
 //!   |-- the qdisc, the pref, the protocol       hook_lists::check_hook, check_protocol
@@ -34,14 +34,14 @@
 //!   |-- room for the actions                    hook_lists::reserve_actions
 //!   '-- a seat: in a mask that stands, or a     filter_tables: reserve
 //!       mask or a table of the filter's own
-//! Lists::finish -> carry -> filter_adding::add: no memory, no refusal
+//! Lists::finish -> carry -> adding::add: no memory, no refusal
 //!   |-- the actions are bound and made          hook_lists::carry_out
 //!   '-- the filter is put into its seat         filter_tables: put
 //! ```
 //!
-//! A replace and a del go the same two ways through filter_replacing and filter_removing; a replace of a
-//! filter that isn't there is an add. `Lists::step` goes by `add_at_once` and `replace_at_once` for filters:
-//! the same calls in the same order, with nothing kept between the looking and the doing.
+//! A replace and a del go the same two ways through `replacing` and `removing`; a replace of a filter that
+//! isn't there is an add. `Lists::step` goes by `add_at_once` and `replace_at_once` for filters: the same
+//! calls in the same order, with nothing kept between the looking and the doing.
 //!
 //! One thread changes the lists at a time, by `&mut`, and any may read them by `&`. Only `step` and `prepare`
 //! take memory.
@@ -49,12 +49,15 @@
 //! Not promised: that memory suffices.
 #![tactic(auto)]
 
+mod adding;
 mod applying;
 mod doing;
 mod lists;
 mod plan;
 mod prepared;
 mod preparing;
+mod removing;
+mod replacing;
 mod shared;
 
 pub use filter_index::{Filter, Filters};

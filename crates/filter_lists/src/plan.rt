@@ -1,9 +1,9 @@
 //! What is to be done for an edit that was looked at and not refused.
 
+use crate::adding::Addition;
+use crate::removing::Removal;
+use crate::replacing::Replacement;
 use act_kinds::{Kind, Params};
-use filter_adding::Addition;
-use filter_removing::Removal;
-use filter_replacing::Replacement;
 
 /// What is to be done for an edit.
 #[derive(Drop)]

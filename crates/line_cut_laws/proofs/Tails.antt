@@ -34,7 +34,7 @@ number_split a b x y la lb lx ly is =
     (decimal_injective a b la lb both.0, both.1)
 
 -- ---- numbers behind blanks, up to the end of the line
-numbers_low : (ns : List ℕ) → Low (numbers_text ns ++ (10 ∷ []))
+pub numbers_low : (ns : List ℕ) → Low (numbers_text ns ++ (10 ∷ []))
 numbers_low [] = omega arith
 numbers_low (n ∷ ns) = omega arith
 
@@ -50,7 +50,7 @@ numbers_same (m ∷ ms) (n ∷ ns) sm sn is =
     ap (λ (k : ℕ). k ∷ ms) both.0 ∙ ap (λ (ks : List ℕ). n ∷ ks) (numbers_same ms ns sm.1 sn.1 both.1)
 
 -- ---- what follows the last byte of a kind
-free_not : (byte : ℕ) (front back : List ℕ) → Free byte (front ++ (byte ∷ back)) → ⊥
+pub free_not : (byte : ℕ) (front back : List ℕ) → Free byte (front ++ (byte ∷ back)) → ⊥
 free_not byte [] back free = free.0 refl
 free_not byte (b ∷ front) back free = free_not byte front back free.1
 

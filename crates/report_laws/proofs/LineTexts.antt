@@ -117,12 +117,12 @@ pub record IsToldBy (one other : Outcome) : Type 0 where
   pub worker : one.worker ≡ other.worker
   pub points : one.points ≡ other.points
 
-end_low : (verdict : Verdict) (len : ℕ) (meta : Meta) (rest : List ℕ) → Low (end_text verdict len meta ++ rest)
+pub end_low : (verdict : Verdict) (len : ℕ) (meta : Meta) (rest : List ℕ) → Low (end_text verdict len meta ++ rest)
 unfolding end_text counted
 end_low verdicts.Pass len meta rest = lit< tt
 end_low verdicts.Drop len meta rest = lit< tt
 
-points_split : (front : List ℕ) (points : List ℕ) → front ++ (points_text points ++ (10 ∷ [])) ≡ (front ++ codes " point") ++ (115 ∷ (numbers_text points ++ (10 ∷ [])))
+pub points_split : (front : List ℕ) (points : List ℕ) → front ++ (points_text points ++ (10 ∷ [])) ≡ (front ++ codes " point") ++ (115 ∷ (numbers_text points ++ (10 ∷ [])))
 unfolding points_text counted
 points_split front points = sym (append_assoc front (codes " point") (115 ∷ (numbers_text points ++ (10 ∷ []))))
 
@@ -134,7 +134,7 @@ points_told front other ms ns sm sn is =
 regrouped_line : (a b c d e : List ℕ) → (((a ++ (b ++ c)) ++ d) ++ e) ++ (10 ∷ []) ≡ a ++ (b ++ (c ++ (d ++ (e ++ (10 ∷ [])))))
 regrouped_line a b c d e = simp append_assoc
 
-packet_placed : (number : ℕ) (o : Outcome) → packet_line number o
+pub packet_placed : (number : ℕ) (o : Outcome) → packet_line number o
     ≡ counted (codes "packet ") number ++ (codes " worker " ++ (decimal o.worker ++ (end_text o.verdict (length o.bytes) o.meta ++ (points_text o.points ++ (10 ∷ [])))))
 unfolding packet_name counted
 packet_placed number o = regrouped_line (codes "packet " ++ decimal number) (codes " worker ") (decimal o.worker) (end_text o.verdict (length o.bytes) o.meta) (points_text o.points)

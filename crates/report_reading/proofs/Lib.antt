@@ -1,1 +1,4 @@
 pub mod Cutting
+pub mod Ends
+pub mod Reading
+pub mod PacketParts

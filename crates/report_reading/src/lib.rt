@@ -5,9 +5,16 @@
 //! without one is a line too (`line_cut_laws`), and no report has it. Nothing is copied, and lines are found
 //! by a search of many bytes at once.
 //!
-//! Plain functions of bytes, which any thread may call. None takes memory.
+//! Of a line hardly anything is read, since the line that has to stand there can mostly be made without it.
+//! Of a packet's line it is the worker and the points (`read_packet_line`): the walk at these points gives all
+//! else.
+//!
+//! Plain functions of bytes, which any thread may call. Only the points of a packet take memory.
 #![tactic(auto)]
 
 mod lines;
+mod numbers;
+mod packets;
 
 pub use lines::next_line;
+pub use packets::read_packet_line;

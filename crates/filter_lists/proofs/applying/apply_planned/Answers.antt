@@ -1,4 +1,4 @@
-use Rattle.filter_adding.proofs.Later.{kept_later}
+use Rattle.filter_lists.proofs.OfAdding.Later.{kept_later}
 use Rattle.filter_state.specs.Steps.{step}
 use Rattle.hook_lists.specs.States.{state_of}
 use Rattle.filter_lists.proofs.Stepping.{leads_to, planned_refused, accepted_done}

@@ -1,7 +1,7 @@
 use Rattle.std.proofs.Common.{sym, subst}
 use Rattle.filter_lists.specs.Plans.{IsPlanned}
 use Rattle.hook_lists.specs.States.{state_of}
-use Rattle.filter_replacing.specs.Replacements.{IsFound}
+use Rattle.filter_lists.specs.OfReplacing.Replacements.{IsFound}
 use Rattle.filter_lists.proofs.Families.{is_add, is_replace}
 use Rattle.filter_lists.proofs.preparing.plan_replace.Goals as goal
 

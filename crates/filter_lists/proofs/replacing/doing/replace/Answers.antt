@@ -1,0 +1,30 @@
+use Rattle.std.proofs.Common.{sym, subst}
+use Rattle.filter_tables.specs.Rows.{tables_on}
+use Rattle.hook_lists.specs.States.{both_of}
+use Rattle.filter_lists.specs.OfReplacing.Changing.{WereThere}
+use Rattle.filter_lists.proofs.OfReplacing.Exchanged.{Changes, old_bound, replaced}
+use Rattle.filter_lists.proofs.replacing.doing.replace.Goals as goal
+
+pub unbind-requires : goal.unbind-requires
+unbind-requires c =
+    let ready = c.requires.ready in
+    let changes : Changes c.args.kept.now c.carry_out.new.kept c.change_filter-gone.new.kept c.args.replacement c.as_slice.result.now =
+    record {
+      same = c.carry_out.ensures.tables;
+      carried_out = c.carry_out.ensures.actions;
+      there = subst (WereThere (tables_on c.args.replacement.old.hook (both_of c.carry_out.new.kept)) c.args.replacement.old) (sym c.as_slice.ensures) c.change_filter-gone.ensures.gone;
+      has = c.change_filter-gone.ensures.tables;
+    } in
+    old_bound c.args.kept.now c.carry_out.new.kept c.change_filter-gone.new.kept c.args.replacement c.as_slice.result.now ready.0 ready.1 ready.2 c.requires.kept ready.3 changes
+
+pub returns : goal.returns
+returns c = λ table mask filter ready.
+    let changes : Changes c.args.kept.now c.carry_out.new.kept c.change_filter-gone.new.kept c.args.replacement c.as_slice.result.now =
+    record {
+      same = c.carry_out.ensures.tables;
+      carried_out = c.carry_out.ensures.actions;
+      there = subst (WereThere (tables_on c.args.replacement.old.hook (both_of c.carry_out.new.kept)) c.args.replacement.old) (sym c.as_slice.ensures) c.change_filter-gone.ensures.gone;
+      has = c.change_filter-gone.ensures.tables;
+    } in
+    replaced c.args.kept.now c.carry_out.new.kept c.change_filter-gone.new.kept c.unbind.new.kept c.args.replacement c.as_slice.result.now table mask filter c.requires.kept ready changes
+    c.unbind.ensures.tables c.unbind.ensures.actions c.unbind.ensures.made

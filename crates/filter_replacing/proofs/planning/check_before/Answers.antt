@@ -1,8 +1,0 @@
-use Rattle.filter_replacing.proofs.Looking.{found_place}
-use Rattle.filter_replacing.proofs.planning.check_before.Goals as goal
-
-pub check_protocol-requires-clause-place : goal.check_protocol-requires-clause-place
-check_protocol-requires-clause-place c = found_place c.args.kept.now c.args.line.now c.args.old.now c.requires.kept c.requires.found
-
-pub check_match-requires-clause-place : goal.check_match-requires-clause-place
-check_match-requires-clause-place c = found_place c.args.kept.now c.args.line.now c.args.old.now c.requires.kept c.requires.found
