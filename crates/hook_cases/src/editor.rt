@@ -51,9 +51,7 @@ pub(crate) struct Counts {
 
 impl Editor<'_> {
     /// Tries an edit, and says what the desk answers.
-    pub(crate) fn step(&mut self, line: &Line) -> Result<Result<Done, ApplyFault>, Trouble>
-        ensures store { self.new.store.now ≡ self.old.store.now }
-    {
+    pub(crate) fn step(&mut self, line: &Line) -> Result<Result<Done, ApplyFault>, Trouble> {
         if self.desk.epochs() >= FEW_EPOCHS
             || self.desk.journal_len() >= FEW_EDITS
             || !self.desk.lists().may_step()
@@ -72,22 +70,10 @@ impl Editor<'_> {
     }
 
     /// Tries an edit, which has to be accepted, or not to be for this reason.
-    pub(crate) fn expect(&mut self, line: &Line, want: Option<ApplyFault>) -> Result<(), Trouble>
-        ensures store { self.new.store.now ≡ self.old.store.now }
-    {
+    pub(crate) fn expect(&mut self, line: &Line, want: Option<ApplyFault>) -> Result<(), Trouble> {
         let fault = self.step(line)?.err();
         if fault != want {
             return Err(Trouble::Answer(fault));
-        }
-        Ok(())
-    }
-
-    /// Tries edits, which have to be accepted.
-    pub(crate) fn apply_all(&mut self, lines: &[Line]) -> Result<(), Trouble>
-        ensures store { self.new.store.now ≡ self.old.store.now }
-    {
-        for line in lines {
-            self.expect(line, None)?;
         }
         Ok(())
     }

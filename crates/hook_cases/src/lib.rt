@@ -16,8 +16,6 @@
 //! goes inside, makes one visit (`Walker`) or leaves, each in a thread of its own that has ended before the
 //! next turn. So what a test finds is the same whatever the schedule.
 //!
-//! `speed` is apart from these: workloads whose instructions are counted by a script outside.
-//!
 //! The crate stands apart from those that it tests, as a test beside their proofs would have them proved
 //! twice. There is nothing to call.
 //!
@@ -50,8 +48,6 @@ mod recorder;
 mod script;
 #[cfg(test)]
 mod scripts;
-#[cfg(test)]
-mod speed;
 #[cfg(test)]
 mod trouble;
 #[cfg(test)]

@@ -40,20 +40,3 @@ pub(crate) fn step(lists: &mut Lists, line: &Line) -> Result<Result<Done, Refusa
     }
     Ok(lists.step(&line.edit))
 }
-
-/// Reads lines.
-pub(crate) fn read_all(alloc: Global, texts: &[&str]) -> Result<Vec<Line>, Trouble> {
-    let mut lines = Vec::new(alloc);
-    for text in texts {
-        lines.push(Line::read(alloc, text.as_bytes())?)?;
-    }
-    Ok(lines)
-}
-
-/// Applies edits to lists, which accept them.
-pub(crate) fn step_all(lists: &mut Lists, lines: &[Line]) -> Result<(), Trouble> {
-    for line in lines {
-        step(lists, line)??;
-    }
-    Ok(())
-}

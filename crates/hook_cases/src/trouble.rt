@@ -28,8 +28,6 @@ pub(crate) enum Trouble {
     Counts(Counts),
     /// A walk hasn't come to its end.
     NotEnded,
-    /// There is no frame to walk.
-    NoFrame,
 }
 
 impl From<NoMemory> for Trouble {

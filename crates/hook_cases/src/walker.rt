@@ -14,17 +14,22 @@ pub(crate) struct Walker<'a> {
 }
 
 impl<'a> Model for Walker<'a> {
-    ghost use Rattle.std.specs.Prelude.{◌≡◌};
+    ghost use Rattle.std.specs.Prelude.{◌≡◌, ℕ};
+    ghost use Rattle.filter_state.specs.Sound.{Each};
+    ghost use Rattle.visit_room.specs.declared.names.MaskName.{MaskName};
     ghost use Rattle.walk_steps.specs.declared.walk.Progress.{Progress};
+    ghost use Rattle.walk_steps.specs.Told.{MasksKnown};
     ghost use Rattle.walk_steps.specs.Walking.{progress_of};
-    ghost use Rattle.hook_cases.specs.Known.{Knows};
+    ghost use Rattle.hook_reader.specs.Known.{KnowsMask, KnowsAction};
 
     ghost Value = { Progress };
 
     ghost view = { λ w. w.progress };
 
     // The reader knows all that the walk may ask for.
-    ghost invariant = { λ w. (w.progress ≡ progress_of w.walk.standing) × Knows w.recording.reader w.walk };
+    ghost invariant = { λ w. (w.progress ≡ progress_of w.walk.standing)
+        × MasksKnown (λ (table : ℕ) (mask : MaskName). KnowsMask w.recording.reader mask) w.walk.heads
+        × Each (KnowsAction w.recording.reader) w.walk.actions };
 }
 
 impl<'a> Walker<'a> {

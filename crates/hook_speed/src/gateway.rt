@@ -1,25 +1,25 @@
 //! A small gateway: the rules of `examples/gateway`, and the frames of its ingress capture.
 
 /// The lines of its batch.
-pub(crate) const RULES: &[&str] = &[
-    "qdisc add dev eth0 clsact",
-    "actions add action drop index 100",
-    "filter add dev eth0 ingress protocol ip pref 10 flower src_ip 192.0.2.0/24 action gact index 100",
-    "filter add dev eth0 ingress protocol ip pref 10 flower src_ip 198.51.100.0/24 action gact index 100",
-    "filter add dev eth0 ingress protocol ip pref 20 flower ip_proto tcp dst_port 22 src_ip \
+pub(crate) const RULES: &[&[u8]] = &[
+    b"qdisc add dev eth0 clsact",
+    b"actions add action drop index 100",
+    b"filter add dev eth0 ingress protocol ip pref 10 flower src_ip 192.0.2.0/24 action gact index 100",
+    b"filter add dev eth0 ingress protocol ip pref 10 flower src_ip 198.51.100.0/24 action gact index 100",
+    b"filter add dev eth0 ingress protocol ip pref 20 flower ip_proto tcp dst_port 22 src_ip \
         10.0.0.0/8 action ok",
-    "filter add dev eth0 ingress protocol ip pref 20 flower ip_proto tcp dst_port 22 action gact index 100",
-    "filter add dev eth0 ingress protocol ip pref 30 flower ip_proto udp dst_port 53 action \
+    b"filter add dev eth0 ingress protocol ip pref 20 flower ip_proto tcp dst_port 22 action gact index 100",
+    b"filter add dev eth0 ingress protocol ip pref 30 flower ip_proto udp dst_port 53 action \
         skbedit priority 1:10 mark 0x35 action ok",
-    "filter add dev eth0 ingress protocol ip pref 40 flower ip_proto tcp tcp_flags 0x2/0x12 \
+    b"filter add dev eth0 ingress protocol ip pref 40 flower ip_proto tcp tcp_flags 0x2/0x12 \
         action goto chain 5",
-    "filter add dev eth0 ingress protocol ip prio 10 chain 5 flower ip_proto tcp dst_port 443 action ok",
-    "filter add dev eth0 ingress protocol ip prio 20 chain 5 flower action gact index 100",
-    "filter add dev eth0 ingress protocol 802.1Q pref 50 flower vlan_id 100 action vlan pop \
+    b"filter add dev eth0 ingress protocol ip prio 10 chain 5 flower ip_proto tcp dst_port 443 action ok",
+    b"filter add dev eth0 ingress protocol ip prio 20 chain 5 flower action gact index 100",
+    b"filter add dev eth0 ingress protocol 802.1Q pref 50 flower vlan_id 100 action vlan pop \
         action reclassify",
-    "filter add dev eth0 egress protocol ip pref 10 flower dst_ip 10.20.0.0/16 action vlan \
+    b"filter add dev eth0 egress protocol ip pref 10 flower dst_ip 10.20.0.0/16 action vlan \
         push id 20 priority 3",
-    "filter add dev eth0 egress protocol all pref 20 flower dst_mac 01:00:5e:00:00:00/25 action drop",
+    b"filter add dev eth0 egress protocol all pref 20 flower dst_mac 01:00:5e:00:00:00/25 action drop",
 ];
 
 /// The beginnings of its frames. Each goes on with zeros up to 64 bytes.

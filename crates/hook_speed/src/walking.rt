@@ -3,17 +3,16 @@ ghost use Rattle.std.specs.Prelude.{◌≡◌, ◌+◌, ◌<◌, ◌^◌, length
 ghost use Rattle.pin_store.specs.Calls.{pin_of, IsInside, IsOutside, IsSeatOf};
 ghost use Rattle.desk_parts.specs.Desk.{hook_shape};
 ghost use Rattle.walk_steps.specs.Walking.{IsOnWay, progress_of};
-ghost use Rattle.hook_cases.specs.Known.{Knows};
+ghost use Rattle.hook_speed.specs.Known.{Knows};
 
-use crate::editor::{Editor, new_hook};
-use crate::lines::{Line, read_all, step_all};
-use crate::speed::gateway::{FRAMES, RULES};
-use crate::trouble::Trouble;
+use crate::gateway::{FRAMES, RULES};
+use crate::lines::{Line, apply_all, step_all};
 use classify_walk::walk_still;
 use filter_lists::Lists;
 use hook_reader::{HookReader, Walking};
 use hook_store_law::HookStore;
 use plain_walk::PlainWalk;
+use shared_hook::{Desk, make_hook};
 use std::alloc::Global;
 use std::test::Fail;
 use tc_base::Hook;
@@ -28,8 +27,16 @@ const ONCE: u32 = 80;
 
 const OFTEN: u32 = 880;
 
+fn rules(alloc: Global) -> Result<Vec<Line>, Fail> {
+    let mut lines = Vec::new(alloc);
+    for text in RULES {
+        lines.push(Line::read(alloc, text)?)?;
+    }
+    Ok(lines)
+}
+
 // The frames, at least one.
-fn frames(alloc: Global) -> Result<Vec<[u8; LENGTH]>, Trouble>
+fn frames(alloc: Global) -> Result<Vec<[u8; LENGTH]>, Fail>
     ensures { IfOk result (λ frames. 0 < length frames.items) }
 {
     let mut frames = Vec::new(alloc);
@@ -41,7 +48,7 @@ fn frames(alloc: Global) -> Result<Vec<[u8; LENGTH]>, Trouble>
         frames.push(frame)?;
     }
     if frames.is_empty() {
-        return Err(Trouble::NoFrame);
+        return Err(Fail::new("no frame"));
     }
     Ok(frames)
 }
@@ -54,10 +61,10 @@ fn frame_at(frames: &[[u8; LENGTH]], number: u32) -> &[u8]
     &frames[number as usize % frames.len()]
 }
 
-fn walk_lists(alloc: Global, count: u32) -> Result<(), Trouble> {
+fn walk_lists(alloc: Global, count: u32) -> Result<(), Fail> {
     let frames = frames(alloc)?;
     let mut lists = Lists::new(alloc);
-    step_all(&mut lists, &read_all(alloc, RULES)?)?;
+    step_all(&mut lists, &rules(alloc)?)?;
     let mut walk = PlainWalk::with_room(alloc)?;
     for number in 0..count {
         walk.run(&lists, Hook::Ingress, frame_at(&frames, number));
@@ -65,10 +72,10 @@ fn walk_lists(alloc: Global, count: u32) -> Result<(), Trouble> {
     Ok(())
 }
 
-fn visit_lists(alloc: Global, count: u32) -> Result<(), Trouble> {
+fn visit_lists(alloc: Global, count: u32) -> Result<(), Fail> {
     let frames = frames(alloc)?;
     let mut lists = Lists::new(alloc);
-    step_all(&mut lists, &read_all(alloc, RULES)?)?;
+    step_all(&mut lists, &rules(alloc)?)?;
     let mut walk = Walk::with_room(alloc)?;
     for number in 0..count {
         walk_still(
@@ -80,6 +87,20 @@ fn visit_lists(alloc: Global, count: u32) -> Result<(), Trouble> {
         );
     }
     Ok(())
+}
+
+// A hook without a qdisc: its store, its desk and the first of its readers.
+fn new_hook(alloc: Global) -> Result<(HookStore, Desk, HookReader), Fail>
+    ensures shape { IfOk result (λ made. made.0.shape ≡ hook_shape) }
+    ensures desk { IfOk result (λ made. IsSeatOf made.0 made.1.place) }
+    ensures reader { IfOk result (λ made. IsSeatOf made.0 made.2.place) }
+    ensures outside { IfOk result (λ made. IsOutside made.2.place × (pin_of made.2.place ≡ 0)) }
+{
+    let (store, desk, mut passes) = make_hook(alloc)?;
+    match passes.take() {
+        Some(reader) => Ok((store, desk, reader)),
+        None => Err(Fail::new("no reader")),
+    }
 }
 
 // Makes a visit.
@@ -148,63 +169,69 @@ fn walk_often(
 
 // Does the rules, and lets the reader walk behind them.
 fn learn_and_walk(
-    editor: &mut Editor<'_>,
+    desk: &mut Desk,
+    store: &HookStore,
     rules: &[Line],
     reader: &mut HookReader,
     walk: &mut Walk,
     frames: &[[u8; LENGTH]],
     count: u32,
-) -> Result<(), Trouble>
-    requires store { IsSeatOf editor.old.store.now reader.old.place
-        × (editor.old.store.now.shape ≡ hook_shape) }
+) -> Result<(), Fail>
+    requires store { IsSeatOf store.now desk.old.place × IsSeatOf store.now reader.old.place
+        × (store.now.shape ≡ hook_shape) }
     requires outside { IsOutside reader.old.place × (pin_of reader.old.place ≡ 0) }
     requires frames { 0 < length frames.now }
 {
-    editor.apply_all(rules)?;
-    let receipt = editor.desk.receipt(editor.store);
-    reader.learn(editor.store, receipt);
-    walk_often(editor.store, reader, walk, frames, count);
+    apply_all(desk, store, rules)?;
+    let receipt = desk.receipt(store);
+    reader.learn(store, receipt);
+    walk_often(store, reader, walk, frames, count);
     Ok(())
 }
 
-fn walk_hook(alloc: Global, count: u32) -> Result<(), Trouble> {
-    let rules = read_all(alloc, RULES)?;
+// All memory but the hook's is taken before the hook is made.
+fn walk_hook(alloc: Global, count: u32) -> Result<(), Fail> {
+    let rules = rules(alloc)?;
     let frames = frames(alloc)?;
     let mut walk = Walk::with_room(alloc)?;
-    let (store, desk, mut reader) = new_hook(alloc)?;
-    let mut editor = Editor {
-        store: &store,
-        desk,
-    };
-    learn_and_walk(&mut editor, &rules, &mut reader, &mut walk, &frames, count)
+    let (store, mut desk, mut reader) = new_hook(alloc)?;
+    learn_and_walk(
+        &mut desk,
+        &store,
+        &rules,
+        &mut reader,
+        &mut walk,
+        &frames,
+        count,
+    )
 }
 
 #[test]
 fn walks_of_lists_once(rt: HostRuntime) -> Result<(), Fail> {
-    Ok(walk_lists(rt.alloc(), ONCE)?)
+    walk_lists(rt.alloc(), ONCE)
 }
 
 #[test]
 fn walks_of_lists_often(rt: HostRuntime) -> Result<(), Fail> {
-    Ok(walk_lists(rt.alloc(), OFTEN)?)
+    walk_lists(rt.alloc(), OFTEN)
 }
 
 #[test]
 fn visits_of_lists_once(rt: HostRuntime) -> Result<(), Fail> {
-    Ok(visit_lists(rt.alloc(), ONCE)?)
+    visit_lists(rt.alloc(), ONCE)
 }
 
 #[test]
 fn visits_of_lists_often(rt: HostRuntime) -> Result<(), Fail> {
-    Ok(visit_lists(rt.alloc(), OFTEN)?)
+    visit_lists(rt.alloc(), OFTEN)
 }
 
 #[test]
 fn visits_of_hook_once(rt: HostRuntime) -> Result<(), Fail> {
-    Ok(walk_hook(rt.alloc(), ONCE)?)
+    walk_hook(rt.alloc(), ONCE)
 }
 
 #[test]
 fn visits_of_hook_often(rt: HostRuntime) -> Result<(), Fail> {
-    Ok(walk_hook(rt.alloc(), OFTEN)?)
+    walk_hook(rt.alloc(), OFTEN)
 }

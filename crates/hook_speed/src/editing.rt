@@ -1,16 +1,18 @@
 //! Filters of one mask come and go.
+ghost use Rattle.std.specs.Prelude.{◌≡◌};
+ghost use Rattle.pin_store.specs.Calls.{IsSeatOf};
 
-use crate::editor::{Editor, new_hook};
-use crate::lines::{Line, read_all, step_all};
-use crate::trouble::Trouble;
+use crate::lines::{Line, apply_all, step_all};
 use filter_lists::Lists;
+use hook_store_law::HookStore;
+use shared_hook::{Desk, make_hook};
 use std::alloc::Global;
 use std::test::Fail;
 
 // Each filter has this action, so that none is made or let go.
-const BEFORE: &[&str] = &[
-    "qdisc add dev eth0 clsact",
-    "actions add action drop index 100",
+const BEFORE: &[&[u8]] = &[
+    b"qdisc add dev eth0 clsact",
+    b"actions add action drop index 100",
 ];
 
 // How many filters stand meanwhile: in a mask of few buckets, and in one of the most buckets, full but for
@@ -25,7 +27,7 @@ const PAIRS: u32 = 100;
 // How often all of that is done in a long test, which so has 10,000 pairs more than a short one.
 const OFTEN: u32 = 101;
 
-fn addition(alloc: Global, number: u32) -> Result<Line, Trouble> {
+fn addition(alloc: Global, number: u32) -> Result<Line, Fail> {
     let (high, low) = (number / 256, number % 256);
     let text = format!(in alloc;
         "filter add dev eth0 ingress protocol ip pref 10 handle {number} \
@@ -34,7 +36,7 @@ fn addition(alloc: Global, number: u32) -> Result<Line, Trouble> {
     Line::read(alloc, text.as_bytes())
 }
 
-fn removal(alloc: Global, number: u32) -> Result<Line, Trouble> {
+fn removal(alloc: Global, number: u32) -> Result<Line, Fail> {
     let text = format!(in alloc;
         "filter del dev eth0 ingress protocol ip pref 10 handle {number} flower"
     )?;
@@ -42,8 +44,11 @@ fn removal(alloc: Global, number: u32) -> Result<Line, Trouble> {
 }
 
 // The lines up to so many filters.
-fn begin(alloc: Global, filters: u32) -> Result<Vec<Line>, Trouble> {
-    let mut lines = read_all(alloc, BEFORE)?;
+fn begin(alloc: Global, filters: u32) -> Result<Vec<Line>, Fail> {
+    let mut lines = Vec::new(alloc);
+    for text in BEFORE {
+        lines.push(Line::read(alloc, text)?)?;
+    }
     for number in 0..filters {
         lines.push(addition(alloc, number.saturating_add(1))?)?;
     }
@@ -51,7 +56,7 @@ fn begin(alloc: Global, filters: u32) -> Result<Vec<Line>, Trouble> {
 }
 
 // Lines in which filters come and go.
-fn pairs(alloc: Global) -> Result<Vec<Line>, Trouble> {
+fn pairs(alloc: Global) -> Result<Vec<Line>, Fail> {
     let mut lines = Vec::new(alloc);
     for count in 0..PAIRS {
         let number = 10_000 + count;
@@ -61,7 +66,7 @@ fn pairs(alloc: Global) -> Result<Vec<Line>, Trouble> {
     Ok(lines)
 }
 
-fn edit_lists(alloc: Global, filters: u32, rounds: u32) -> Result<(), Trouble> {
+fn edit_lists(alloc: Global, filters: u32, rounds: u32) -> Result<(), Fail> {
     let pairs = pairs(alloc)?;
     let mut lists = Lists::new(alloc);
     step_all(&mut lists, &begin(alloc, filters)?)?;
@@ -73,65 +78,65 @@ fn edit_lists(alloc: Global, filters: u32, rounds: u32) -> Result<(), Trouble> {
 
 // Does the lines of a beginning, and then those in which filters come and go so often.
 fn edit_often(
-    editor: &mut Editor<'_>,
+    desk: &mut Desk,
+    store: &HookStore,
     beginning: &[Line],
     pairs: &[Line],
     rounds: u32,
-) -> Result<(), Trouble> {
-    editor.apply_all(beginning)?;
+) -> Result<(), Fail>
+    requires store { IsSeatOf store.now desk.old.place }
+{
+    apply_all(desk, store, beginning)?;
     for _ in 0..rounds {
-        editor.apply_all(pairs)?;
+        apply_all(desk, store, pairs)?;
     }
     Ok(())
 }
 
-fn edit_hook(alloc: Global, filters: u32, rounds: u32) -> Result<(), Trouble> {
+// All lines are read before the hook is made, so that nothing is left to do when its edits are done.
+fn edit_hook(alloc: Global, filters: u32, rounds: u32) -> Result<(), Fail> {
     let beginning = begin(alloc, filters)?;
     let pairs = pairs(alloc)?;
-    let (store, desk, _reader) = new_hook(alloc)?;
-    let mut editor = Editor {
-        store: &store,
-        desk,
-    };
-    edit_often(&mut editor, &beginning, &pairs, rounds)
+    let (store, mut desk, _) = make_hook(alloc)?;
+    edit_often(&mut desk, &store, &beginning, &pairs, rounds)
 }
 
 #[test]
 fn lists_of_few_once(rt: HostRuntime) -> Result<(), Fail> {
-    Ok(edit_lists(rt.alloc(), FEW, 1)?)
+    edit_lists(rt.alloc(), FEW, 1)
 }
 
 #[test]
 fn lists_of_few_often(rt: HostRuntime) -> Result<(), Fail> {
-    Ok(edit_lists(rt.alloc(), FEW, OFTEN)?)
+    edit_lists(rt.alloc(), FEW, OFTEN)
 }
 
 #[test]
 fn lists_of_many_once(rt: HostRuntime) -> Result<(), Fail> {
-    Ok(edit_lists(rt.alloc(), MANY, 1)?)
+    edit_lists(rt.alloc(), MANY, 1)
 }
 
 #[test]
 fn lists_of_many_often(rt: HostRuntime) -> Result<(), Fail> {
-    Ok(edit_lists(rt.alloc(), MANY, OFTEN)?)
+    edit_lists(rt.alloc(), MANY, OFTEN)
 }
 
 #[test]
 fn hook_of_few_once(rt: HostRuntime) -> Result<(), Fail> {
-    Ok(edit_hook(rt.alloc(), FEW, 1)?)
+    edit_hook(rt.alloc(), FEW, 1)
 }
 
 #[test]
 fn hook_of_few_often(rt: HostRuntime) -> Result<(), Fail> {
-    Ok(edit_hook(rt.alloc(), FEW, OFTEN)?)
+    edit_hook(rt.alloc(), FEW, OFTEN)
 }
 
 #[test]
 fn hook_of_many_once(rt: HostRuntime) -> Result<(), Fail> {
-    Ok(edit_hook(rt.alloc(), MANY, 1)?)
+    edit_hook(rt.alloc(), MANY, 1)
 }
 
 #[test]
 fn hook_of_many_often(rt: HostRuntime) -> Result<(), Fail> {
-    Ok(edit_hook(rt.alloc(), MANY, OFTEN)?)
+    edit_hook(rt.alloc(), MANY, OFTEN)
 }

@@ -8,8 +8,19 @@
 //! `editing` adds filters of one mask and takes them out again, by `Lists::step` and by `Desk::try_apply`,
 //! in a mask with few filters and in a full one. `walking` takes the frames of a small gateway through its
 //! rules: over lists in one loop, over lists visit by visit, and by a reader of a live hook in which nothing
-//! changes. `gateway` has the rules and the frames. One thread does all of it.
+//! changes. `lines` reads lines of a batch for both, and `gateway` has the rules and the frames.
+//!
+//! One thread does all of it. It stands apart from the crates that it measures, as a test beside their proofs
+//! would have them proved twice. There is nothing to call.
+//!
+//! Not promised: any figure. What the script prints is measured, not proved.
+#![tactic(auto)]
 
+#[cfg(test)]
 mod editing;
+#[cfg(test)]
 mod gateway;
+#[cfg(test)]
+mod lines;
+#[cfg(test)]
 mod walking;

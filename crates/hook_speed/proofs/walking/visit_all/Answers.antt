@@ -9,7 +9,7 @@ use Rattle.walk_rules.specs.Steps.{Standing}
 use Rattle.walk_steps.specs.Told.{MasksKnown}
 use Rattle.walk_steps.specs.Walking.{IsOnWay}
 use Rattle.hook_reader.specs.Known.{KnowsMask, KnowsAction}
-use Rattle.hook_cases.proofs.speed.walking.visit_all.Goals as goal
+use Rattle.hook_speed.proofs.walking.visit_all.Goals as goal
 
 pub loop-init : goal.loop-init
 loop-init c = let begun = c.begin.ensures in let reader = c.args.reader.now in (
