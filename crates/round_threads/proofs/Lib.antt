@@ -1,0 +1,10 @@
+pub mod Others
+pub mod Through
+pub mod Zips
+pub mod Starts
+pub mod Joins
+pub mod Claimed
+pub mod Same
+pub mod Walks
+pub mod Records
+pub mod OfOutcomes
