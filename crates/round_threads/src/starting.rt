@@ -81,7 +81,7 @@ fn start_worker<'s, 'e, G: Gate, R: Threads + Wait + Sync>(
     rt: &'e R,
     alloc: Global,
     hand: Hand,
-    round: &'e RoundWork<'e, G>,
+    round: &RoundWork<'e, G>,
     bell: &'e Bell,
 ) -> Started
     requires packets { AreWalkable (store_name round.now.store.now) round.now.packets.now }
@@ -116,7 +116,7 @@ pub(crate) fn start_workers<'s, 'e, G: Gate, R: Threads + Wait + Sync>(
     rt: &'e R,
     alloc: Global,
     hands: Vec<Hand>,
-    round: &'e RoundWork<'e, G>,
+    round: &RoundWork<'e, G>,
     bell: &'e Bell,
 ) -> Result<Vec<Started>, NoMemory>
     requires packets { AreWalkable (store_name round.now.store.now) round.now.packets.now }

@@ -35,7 +35,7 @@ fn run_in<
     job: &'e LoadedJob,
     number: u32,
     hands: Vec<Hand>,
-    round: &'e RoundWork<'e, G>,
+    round: &RoundWork<'e, G>,
     bell: &'e Bell,
     tender: &mut T,
 ) -> Result<Back, NoMemory>
@@ -91,22 +91,29 @@ pub(crate) fn run_threads<
 {
     let bell = Bell::new(job.job.controls.saturating_add(hands.len() as u32));
     let bell = &bell;
+    let (store, claims, gates) = (round.store, round.claims, round.gates);
+    let (hook, packets) = (round.hook, round.packets);
     let (back, _tender) = thread::scope(
         thread::scope_env(),
         rt,
         move |scope| -> (Result<Back, NoMemory>, &mut T)
-            requires { IsNamedRound N.store N.job N.number (length N.before) N.ear.spare
-                (store_name round.now.store.now) job.now number
-                × AreWalkable (store_name round.now.store.now) round.now.packets.now
-                × AreClaimed (store_name round.now.store.now) round.now.claims.now
-                (length round.now.packets.now) hands.items }
+            requires { IsNamedRound N.store N.job N.number (length N.before) N.ear.spare (store_name store.now)
+                job.now number × AreWalkable (store_name store.now) packets.now
+                × AreClaimed (store_name store.now) claims.now (length packets.now) hands.items }
             ensures same { result.1.ghost_name ≡ tender.entry.ghost_name }
             ensures tender { T.name result.1.now ≡ T.name tender.entry.now }
-            ensures back { IfOk result.0 (IsBackFrom (store_name round.entry.now.store.now) round.entry.now.hook
-                round.entry.now.packets.now hands.items) }
+            ensures back { IfOk result.0 (IsBackFrom (store_name store.entry.now) hook packets.entry.now
+                hands.items) }
         {
+            let round = RoundWork {
+                store,
+                claims,
+                gates,
+                hook,
+                packets,
+            };
             let back = run_in(
-                scope, rt, alloc, lock, job, number, hands, round, bell, tender,
+                scope, rt, alloc, lock, job, number, hands, &round, bell, tender,
             );
             (back, tender)
         },
