@@ -7,4 +7,5 @@ pub mod Claimed
 pub mod Same
 pub mod Walks
 pub mod Records
+pub mod Crossing
 pub mod OfOutcomes

@@ -3,7 +3,7 @@ use Rattle.std.proofs.Common.{◌≡◌, ◌∙◌, ℕ, ◌+◌, ◌*◌, ◌^�
 use Rattle.std.specs.Prelude.{All, IfOk, Result}
 use Rattle.std.specs.List.{AllByRecursion, AllZip, flat_map, slice_get}
 use Rattle.std.proofs.lemmas.List.{length-map}
-use Rattle.std.proofs.lemmas.List.Elements.{All-get_or}
+use Rattle.std.proofs.lemmas.List.Elements.{All-from_recursion, All-get_or}
 use Rattle.std.proofs.lemmas.Option.{slice_get_within, get_or_from_slice_get}
 use mathlib.Core.List.{IsPrefix}
 use Rattle.tc_base.specs.declared.hook.Hook.{Hook}
@@ -34,7 +34,7 @@ use Rattle.round_threads.proofs.Same.{same_number, same_journal, same_outside, s
 
 -- at an answer that is known
 if_ok : {A E : Type 0} (P : A → Type 0) (r : Result A E) (x : A) → r ≡ Ok x → IfOk r P → P x
-if_ok P r x is holds = subst (λ (q : Result A E). IfOk q P) is holds
+if_ok P r x is holds = subst (λ q. IfOk q P) is holds
 
 all_at : {A : Type 0} (P : A → Type 0) (xs : List A) (at : ℕ) (x : A) → All P xs → slice_get xs at ≡ Some x → P x
 all_at P xs at x all is = subst P (get_or_from_slice_get xs at x x is) (All-get_or P xs at x (slice_get_within xs at x is) all)
@@ -71,11 +71,21 @@ module _ (store : StoreName) (hook : Hook) (packets : List Packet) where
   rising_each (hand ∷ hands) (end ∷ ends) [] worked own = absurd own
   rising_each (hand ∷ hands) (end ∷ ends) (log ∷ logs) worked own =
       let it = if_ok (λ (rows : List LogRow). IsWorked hand.worker.number (arrivals_of hook packets) hand.worker.reader end.worker.reader rows) end.log log own.0 worked.0.worked in (
-        (λ at row is early other less there. (it.are_rows at row is).behind early other less there.0),
+        (λ at row is early other less there. ((it.are_rows at row is).behind early other less there).0),
         rising_each hands ends logs worked.1 own.1,
       )
 
+  own_each : (hands : List Hand) (ends : List Ended) → AllZip (HasWorked store hook packets) hands ends → AllByRecursion (λ (w : Worker). IsSeatAt store.table store.shape w.reader.place) (map (λ (end : Ended). end.worker) ends)
+  own_each [] [] worked = tt
+  own_each [] (end ∷ ends) worked = absurd worked
+  own_each (hand ∷ hands) [] worked = absurd worked
+  own_each (hand ∷ hands) (end ∷ ends) worked = (worked.0.own, own_each hands ends worked.1)
+
   module _ (hands : List Hand) (back : Back) (it : IsBackFrom store hook packets hands back) where
+    pub readers_own : All (λ (w : Worker). IsSeatAt store.table store.shape w.reader.place) back.workers.items
+    readers_own = subst (All (λ (w : Worker). IsSeatAt store.table store.shape w.reader.place)) (sym it.workers)
+        (All-from_recursion (λ (w : Worker). IsSeatAt store.table store.shape w.reader.place) (map (λ (end : Ended). end.worker) it.ends) (own_each hands it.ends it.worked))
+
     pub logs_long : length back.logs.items ≡ length hands
     logs_long = zip_long (λ (end : Ended) (log : List LogRow). end.log ≡ Ok log) it.ends back.logs.items it.logs ∙ zip_long (HasWorked store hook packets) hands it.ends it.worked
 
@@ -119,7 +129,7 @@ module _ (store : StoreName) (hook : Hook) (packets : List Packet) where
           is_there = now.right_there;
           log = log.right_there;
           number = same_number end.worker now.right kept ∙ there.holds.number;
-          store = all_at (λ (w : Worker). IsSeatAt store.table store.shape w.reader.place) workers at now.right seats now.right_there;
+          own = all_at (λ (w : Worker). IsSeatAt store.table store.shape w.reader.place) workers at now.right seats now.right_there;
           outside = same_outside end.worker now.right kept there.holds.outside;
           worked = same_worked end.worker now.right kept hand.worker.number (arrivals_of hook packets) hand.worker.reader log.right own;
           met = subst (λ (j : List Edit). IsPrefix j journal) (sym (same_journal end.worker now.right kept)) (all_at (λ (w : Worker). IsPrefix (journal_of w.reader) journal) back.workers.items at end.worker met old_there);
@@ -128,19 +138,21 @@ module _ (store : StoreName) (hook : Hook) (packets : List Packet) where
     -- ---- all of them
     pub have_walked : (journal : List Edit) (workers : List Worker) (outcomes : List Outcome) → AllZip IsSameWorker back.workers.items workers → All (λ (w : Worker). IsSeatAt store.table store.shape w.reader.place) workers
         → All (λ (w : Worker). IsPrefix (journal_of w.reader) journal) back.workers.items → HasEachBelow (length packets) (flat_map numbers_of back.logs.items) → ArePlaced back.logs.items outcomes → length outcomes ≡ length packets
-        → HaveWalked store hook packets journal (map (λ (hand : Hand). hand.worker) hands) workers outcomes
+        → (walked : HaveWalked store hook packets journal (map (λ (hand : Hand). hand.worker) hands) workers outcomes) × (walked.logs ≡ back.logs.items)
     have_walked journal workers outcomes same seats met once placed many =
         let long : length (map (λ (hand : Hand). hand.worker) hands) ≡ length hands = length-map hands (λ (hand : Hand). hand.worker) in
-        let ends_long = zip_long (HasWorked store hook packets) hands it.ends it.worked in
-        record {
-          logs = back.logs.items;
-          many_logs = logs_long ∙ sym long;
-          many_last = zip_long IsSameWorker back.workers.items workers same ∙ ap length it.workers ∙ length-map it.ends (λ (e : Ended). e.worker) ∙ ends_long ∙ sym long;
-          each = λ at within. worked_at journal workers same seats met at (omega (arith, within, long));
-          each_once = once;
-          placed = placed;
-          many = many;
-        }
+        let ends_long = zip_long (HasWorked store hook packets) hands it.ends it.worked in (
+          record {
+            logs = back.logs.items;
+            many_logs = logs_long ∙ sym long;
+            many_last = zip_long IsSameWorker back.workers.items workers same ∙ ap length it.workers ∙ length-map it.ends (λ (e : Ended). e.worker) ∙ ends_long ∙ sym long;
+            each = λ at within. worked_at journal workers same seats met at (omega (arith, within, long));
+            each_once = once;
+            placed = placed;
+            many = many;
+          },
+          refl,
+        )
 
 -- ---- as `settle` asks for them
 pub are_back : (store : StoreName) (hook : Hook) (packets : List Packet) (journal : List Edit) (first last : List Worker) (outcomes : List Outcome) (before : ℕ) (earlier : List Outcome) (it : HaveWalked store hook packets journal first last outcomes)

@@ -1,5 +1,6 @@
 -- Two lists, place by place.
-use Rattle.std.proofs.Common.{◌≡◌, ℕ, zero, suc, ◌<◌, List, [], ◌∷◌, ◌++◌, length, Some, refl, subst, arith}
+use Rattle.std.proofs.Common.{◌≡◌, ◌∙◌, ℕ, zero, suc, ◌+◌, ◌<◌, List, [], ◌∷◌, ◌++◌, length, Some, Vec, refl, sym, ap, subst, arith}
+use Rattle.std.specs.Prelude.{vec_len}
 use Rattle.std.specs.List.{AllByRecursion, AllZip, slice_get}
 
 module _ {A B : Type 0} (R : A → B → Type 0) where
@@ -45,3 +46,10 @@ pub there_within : {A : Type 0} (xs : List A) (at : ℕ) → at < length xs → 
 there_within [] at within = absurd (omega (arith, within))
 there_within (x ∷ xs) zero within = (x, refl)
 there_within (x ∷ xs) (suc at) within = there_within xs at (omega (arith, within))
+
+-- ---- how many are left of an iterator
+pub left_begun : {A Z : Type 0} (v : Vec A Z) {items : List A} {count : ℕ} → items ≡ v.items → count ≡ vec_len v → count ≡ length items
+left_begun v same many = many ∙ v.ok.0 ∙ sym (ap length same)
+
+pub left_next : {A : Type 0} (count less : ℕ) (items rest : List A) (x : A) → count ≡ length items → (items ≡ x ∷ rest) × (less + 1 ≡ count) → less ≡ length rest
+left_next count less items rest x many steps = let e = steps.1 in let l = ap length steps.0 in omega (arith, many, e, l)

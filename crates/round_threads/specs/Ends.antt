@@ -38,7 +38,7 @@ pub record IsWorkedAt (store : StoreName) (hook : Hook) (packets : List Packet) 
   pub is_there : slice_get last at ≡ Some now
   pub log : slice_get logs at ≡ Some rows
   pub number : now.number ≡ worker.number
-  pub store : IsSeatAt store.table store.shape now.reader.place
+  pub own : IsSeatAt store.table store.shape now.reader.place
   pub outside : IsOutside now.reader.place
   pub worked : IsWorked worker.number (arrivals_of hook packets) worker.reader now.reader rows
   pub met : IsPrefix (journal_of now.reader) journal

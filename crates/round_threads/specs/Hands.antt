@@ -1,6 +1,6 @@
 -- Workers that go into threads and come back (this project's own).
 use Rattle.block_codec.specs.declared.places.TheConstants.{ROOTS}
-use Rattle.lawful_runs.specs.Given.{PACKETS_MAX}
+use Rattle.walk_ends.specs.declared.limits.TheConstants.{PACKETS_MAX}
 use Rattle.std.specs.Prelude.{◌≡◌, ℕ, ◌+◌, ◌*◌, ◌<◌, ◌≤◌, ◌^◌, List, [], ◌∷◌, ◌++◌, length, map}
 use Rattle.std.specs.Prelude.{slice_get, Some, IfOk, Ok}
 use Rattle.std.specs.List.{AllByRecursion, AllZip}
@@ -26,7 +26,7 @@ use Rattle.round_threads.specs.declared.joining.Back.{Back}
 -- ---- before
 -- the worker's reader is one of the store, outside, and may go inside once more for each packet
 pub record IsReady (store : StoreName) (count : ℕ) (worker : Worker) : Type 0 where
-  pub store : IsSeatAt store.table store.shape worker.reader.place
+  pub own : IsSeatAt store.table store.shape worker.reader.place
   pub outside : IsOutside worker.reader.place
   pub few : pin_of worker.reader.place + 2 * count < 2 ^ 63
 
@@ -50,7 +50,7 @@ fresh_seat making seats = record { making = making; seats = seats; shares = 1; d
 -- a worker that may work, with a seat of that making that has drawn nothing
 pub record CanWork (store : StoreName) (making : TableId) (count : ℕ) (hand : Hand) : Type 0 where
   pub ready : IsReady store count hand.worker
-  pub making : hand.seat.making ≡ making
+  pub of_making : hand.seat.making ≡ making
   pub fresh : hand.seat.deeds ≡ []
 
 -- the hands of a round's workers, numbered from 1 in order, who have all seats of a making
@@ -67,7 +67,7 @@ pub record AreClaimed (store : StoreName) (making : TableId) (count : ℕ) (hand
 pub record HasWorked (store : StoreName) (hook : Hook) (packets : List Packet) (hand : Hand)
     (end : Ended) : Type 0 where
   pub number : end.worker.number ≡ hand.worker.number
-  pub store : IsSeatAt store.table store.shape end.worker.reader.place
+  pub own : IsSeatAt store.table store.shape end.worker.reader.place
   pub outside : IsOutside end.worker.reader.place
   pub seat : end.seat ≡ record hand.seat { deeds = end.seat.deeds }
   pub worked : IfOk end.log (λ log. IsWorked hand.worker.number (arrivals_of hook packets) hand.worker.reader
