@@ -1,5 +1,5 @@
 -- Workers that have their seats.
-use Rattle.std.proofs.Common.{◌≡◌, ◌∙◌, ℕ, suc, ◌+◌, ◌<◌, ◌≤◌, List, [], ◌∷◌, ◌++◌, length, map, append_assoc, Some, refl, sym, ap, subst, arith}
+use Rattle.std.proofs.Common.{◌≡◌, ◌∙◌, ℕ, suc, ◌≤◌, List, [], ◌∷◌, ◌++◌, length, map, append_assoc, Some, refl, sym, ap, subst, arith}
 use Rattle.std.specs.Prelude.{option_map}
 use Rattle.std.specs.List.{AllByRecursion, slice_get}
 use Rattle.std.proofs.lemmas.Option.{slice_get-map}
@@ -39,7 +39,7 @@ pub claimed : (store : StoreName) (making : TableId) (count many : ℕ) (workers
 claimed store making count many workers hands ready least most same seats =
     let long : length hands ≡ many = sym (length-map hands (λ (hand : Hand). hand.worker)) ∙ ap length same ∙ ready.many_are in
     let own = λ (at : ℕ) (hand : Hand) (is : slice_get hands at ≡ Some hand).
-        ready.each at hand.worker (subst (λ (ws : List Worker). slice_get ws at ≡ Some hand.worker) same (there_map (λ (hand : Hand). hand.worker) hands at hand is)) in
+    ready.each at hand.worker (subst (λ (ws : List Worker). slice_get ws at ≡ Some hand.worker) same (there_map (λ (hand : Hand). hand.worker) hands at hand is)) in
     record {
       some = omega (arith, long, least);
       few = omega (arith, long, most);

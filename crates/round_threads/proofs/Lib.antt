@@ -1,4 +1,3 @@
-pub mod Others
 pub mod Through
 pub mod Zips
 pub mod Starts

@@ -1,5 +1,5 @@
 -- The record of a round that is over.
-use Rattle.std.proofs.Common.{◌≡◌, ◌∙◌, ℕ, ◌+◌, ◌-◌, ◌*◌, ◌^◌, ◌<◌, ◌≤◌, List, ◌∷◌, ◌++◌, length, map, Some, sym, ap, subst, arith}
+use Rattle.std.proofs.Common.{◌≡◌, ◌∙◌, ℕ, ◌+◌, ◌*◌, ◌^◌, ◌<◌, ◌≤◌, List, ◌++◌, length, map, Some, sym, ap, subst, arith}
 use Rattle.std.specs.Prelude.{All, Option}
 use Rattle.std.specs.List.{AllZip, flat_map, slice_get}
 use Rattle.std.proofs.lemmas.Option.{slice_get_within}
@@ -13,10 +13,9 @@ use Rattle.store_history.specs.History.{edits_of}
 use Rattle.filter_state.specs.declared.edit.Edit.{Edit}
 use Rattle.run_report.specs.declared.outcomes.Outcome.{Outcome}
 use Rattle.run_report.specs.declared.rounds.RoundRecord.{RoundRecord}
-use Rattle.lawful_runs.specs.Given.{Arrival, GivenBatch, GivenRound, given_rounds}
+use Rattle.lawful_runs.specs.Given.{Arrival, GivenBatch}
 use Rattle.lawful_runs.specs.Events.{AreInOrder, AreResults}
 use Rattle.lawful_runs.specs.Outcomes.{AreWalked}
-use Rattle.lawful_runs.specs.Lawful.{IsRound}
 use Rattle.lawful_runs.specs.OfLogs.Logs.{LogRow, ArePlaced}
 use Rattle.step_counts.specs.Claims.{HasEachBelow}
 use Rattle.pin_store.specs.Calls.{IsSeatAt}
@@ -24,9 +23,8 @@ use Rattle.walk_logs.specs.Rows.{numbers_of}
 use Rattle.worker_walk.specs.Walked.{journal_of}
 use Rattle.filter_state.specs.States.{no_state}
 use Rattle.filter_state.specs.Journals.{state_from}
-use Rattle.round_terms.specs.Event.{Event}
 use Rattle.round_terms.specs.LoadedJob.{LoadedJob}
-use Rattle.round_terms.specs.Files.{files_of, batches_of}
+use Rattle.round_terms.specs.Files.{files_of}
 use Rattle.round_terms.specs.Given.{IsLoaded}
 use Rattle.round_terms.specs.Hearing.{EarView, HasHeard}
 use Rattle.round_terms.specs.Underway.{made_behind}
@@ -41,7 +39,7 @@ use Rattle.round_threads.specs.declared.joining.Back.{Back}
 use Rattle.round_threads.specs.OfOutcomes.Met.{AreBack, IsSameDesk, IsSameWorker}
 use Rattle.round_threads.specs.Hands.{IsBackFrom}
 use Rattle.round_threads.specs.Rounds.{AreEvents, AreThrough}
-use Rattle.round_threads.specs.Ends.{HaveSeen, HaveWalked, IsLawfulRound, IsRoundEnd}
+use Rattle.round_threads.specs.Ends.{HaveWalked, IsLawfulRound, IsRoundEnd}
 use Rattle.round_threads.proofs.Through.{events_over}
 use Rattle.round_threads.proofs.Zips.{there_within}
 use Rattle.round_threads.proofs.Claimed.{there_map}
@@ -65,9 +63,9 @@ lawful_round store job number hook packets before journal first last it events w
     let back = are_back store hook packets journal first last it.outcomes (length before) earlier walked numbered seen in
     let done = settles journal (length before) earlier arrivals_of_them back (length-map packets (λ (packet : Packet). record { hook = hook; packet = packet })) in
     let over_logs : AreWalked (length first) journal (length before) (length journal) earlier arrivals_of_them it.outcomes =
-        subst (λ (n : ℕ). AreWalked n journal (length before) (length journal) earlier arrivals_of_them it.outcomes) walked.many_logs done in
+    subst (λ (n : ℕ). AreWalked n journal (length before) (length journal) earlier arrivals_of_them it.outcomes) walked.many_logs done in
     let over_journal : AreWalked (length first) (before ++ events.edits) (length before) (length (before ++ events.edits)) earlier arrivals_of_them it.outcomes =
-        subst (λ (j : List Edit). AreWalked (length first) j (length before) (length j) earlier arrivals_of_them it.outcomes) events.journal_is over_logs in
+    subst (λ (j : List Edit). AreWalked (length first) j (length before) (length j) earlier arrivals_of_them it.outcomes) events.journal_is over_logs in
     let batches = given_is job number given is in (
       events.edits,
       events.journal_is,

@@ -3,7 +3,7 @@ use Rattle.std.proofs.Common.{◌≡◌, ◌∙◌, ℕ, ◌≤◌, ◌%◌, Lis
 use mathlib.Core.List.{IsPrefix}
 use Rattle.store_history.specs.declared.history.Commit.{Commit}
 use Rattle.store_history.specs.History.{edits_of}
-use Rattle.pin_store.specs.Calls.{seen_by, number_of, pin_of, IsOutside}
+use Rattle.pin_store.specs.Calls.{seen_by, IsOutside}
 use Rattle.filter_state.specs.declared.edit.Edit.{Edit}
 use Rattle.lawful_runs.specs.Given.{Arrival}
 use Rattle.lawful_runs.specs.OfLogs.Logs.{LogRow, AreRows, ArePointsTo}

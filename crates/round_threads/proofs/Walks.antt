@@ -1,5 +1,5 @@
 -- What the workers of a round brought back.
-use Rattle.std.proofs.Common.{◌≡◌, ◌∙◌, ℕ, ◌+◌, ◌*◌, ◌^◌, ◌<◌, ◌≤◌, List, [], ◌∷◌, length, map, Some, Ok, refl, sym, ap, subst, arith}
+use Rattle.std.proofs.Common.{◌≡◌, ◌∙◌, ℕ, ◌+◌, ◌<◌, List, [], ◌∷◌, length, map, Some, Ok, refl, sym, ap, subst, arith}
 use Rattle.std.specs.Prelude.{All, IfOk, Result}
 use Rattle.std.specs.List.{AllByRecursion, AllZip, flat_map, slice_get}
 use Rattle.std.proofs.lemmas.List.{length-map}
@@ -14,7 +14,6 @@ use Rattle.filter_state.specs.declared.edit.Edit.{Edit}
 use Rattle.run_report.specs.declared.outcomes.Outcome.{Outcome}
 use Rattle.step_counts.specs.Seats.{Holding}
 use Rattle.step_counts.specs.Claims.{HasEachBelow}
-use Rattle.lawful_runs.specs.Given.{Arrival}
 use Rattle.lawful_runs.specs.OfLogs.Logs.{LogRow, ArePlaced}
 use Rattle.walk_logs.specs.Rows.{numbers_of}
 use Rattle.worker_walk.specs.Walked.{journal_of}
@@ -116,11 +115,11 @@ module _ (store : StoreName) (hook : Hook) (packets : List Packet) where
         let old_long : length back.workers.items ≡ length it.ends = ap length it.workers ∙ length-map it.ends (λ (e : Ended). e.worker) in
         let now = zip_at IsSameWorker back.workers.items workers at same (omega (arith, within, ends_long, old_long)) in
         let old_there : slice_get back.workers.items at ≡ Some end.worker =
-            subst (λ (ws : List Worker). slice_get ws at ≡ Some end.worker) (sym it.workers) (there_map (λ (e : Ended). e.worker) it.ends at end there.right_there) in
+        subst (λ (ws : List Worker). slice_get ws at ≡ Some end.worker) (sym it.workers) (there_map (λ (e : Ended). e.worker) it.ends at end there.right_there) in
         let old_is : now.left ≡ end.worker = cc (now.left_there, old_there) in
         let kept : IsSameWorker end.worker now.right = subst (λ (w : Worker). IsSameWorker w now.right) old_is now.holds in
         let own = if_ok (λ (rows : List LogRow). IsWorked hand.worker.number (arrivals_of hook packets) hand.worker.reader end.worker.reader rows) end.log log.right
-            (subst (λ (e : Ended). e.log ≡ Ok log.right) log_end log.holds) there.holds.worked in
+        (subst (λ (e : Ended). e.log ≡ Ok log.right) log_end log.holds) there.holds.worked in
         record {
           worker = hand.worker;
           now = now.right;

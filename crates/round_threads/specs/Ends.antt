@@ -1,5 +1,5 @@
 -- What a round leaves (this project's own).
-use Rattle.std.specs.Prelude.{◌≡◌, ℕ, ◌+◌, ◌-◌, ◌≤◌, ◌<◌, List, ◌++◌, length, slice_get, Option, Some}
+use Rattle.std.specs.Prelude.{◌≡◌, ℕ, ◌-◌, ◌≤◌, ◌<◌, List, ◌++◌, length, slice_get, Option, Some}
 use Rattle.std.specs.List.{flat_map}
 use mathlib.Core.List.{IsPrefix}
 use Rattle.tc_base.specs.declared.hook.Hook.{Hook}
@@ -27,8 +27,8 @@ use Rattle.round_threads.specs.declared.round_end.RoundEnd.{RoundEnd}
 use Rattle.round_threads.specs.Rounds.{AreEvents}
 
 -- ---- workers
--- THE WORKER AT A PLACE before the round and behind it: it is the same one, with the rows of its walks. What its
--- reader has seen begins the journal.
+-- THE WORKER AT A PLACE before the round and behind it: it is the same one, with the rows of its walks. What
+-- its reader has seen begins the journal.
 pub record IsWorkedAt (store : StoreName) (hook : Hook) (packets : List Packet) (journal : List Edit)
     (first last : List Worker) (logs : List (List LogRow)) (at : ℕ) : Type 0 where
   pub worker : Worker
@@ -62,8 +62,8 @@ HaveSeen before earlier workers = (at : ℕ) (worker : Worker) → slice_get wor
     × ((place : ℕ) (outcome : Outcome) → slice_get earlier place ≡ Some outcome
     → outcome.worker ≡ worker.number → ArePointsTo worker.reader.latest outcome.points)
 
--- A LAWFUL ROUND of the job behind a journal, whatever walks came earlier, where the workers had seen what they
--- have to have seen
+-- A LAWFUL ROUND of the job behind a journal, whatever walks came earlier, where the workers had seen what
+-- they have to have seen
 abbrev pub IsLawfulRound : LoadedJob → ℕ → List Arrival → (before journal : List Edit) → List Worker
     → RoundRecord → Type 0
 IsLawfulRound job number arrivals before journal workers it = (given : GivenRound) (earlier : List Outcome)

@@ -33,9 +33,10 @@ abbrev pub AreThrough : List RoundFile → ℕ → List Event → Type 0
 AreThrough files most events =
     (control : ℕ) → 1 ≤ control → control ≤ most → IsThroughAll files control events
 
--- THE EVENTS OF A ROUND that is over: an interleaving of its controls' lines, each with its result on the state
--- before it; and the journal is the one before the round with the accepted edits behind it
-pub record AreEvents (files : List RoundFile) (before journal : List Edit) (events : List Event) : Type 0 where
+-- THE EVENTS OF A ROUND that is over: an interleaving of its controls' lines, each with its result on the
+-- state before it; and the journal is the one before the round with the accepted edits behind it
+pub record AreEvents (files : List RoundFile) (before journal : List Edit)
+    (events : List Event) : Type 0 where
   pub edits : List Edit
   pub journal_is : journal ≡ before ++ edits
   pub results : AreResults (batches_of files) (state_from no_state before) events edits

@@ -42,11 +42,9 @@ impl Bell {
 
     /// Sleeps until the bell rang more often than was seen, and says how often. `None` once all have left.
     pub(crate) fn wait_past<R: Wait>(&self, rt: &R, seen: u64) -> Option<u64> {
-        let moves = self
-            .moved
-            .wait_while(rt, self.moves.lock(rt), |moves| {
-                moves.rings == seen && moves.running > 0
-            });
+        let moves = self.moved.wait_while(rt, self.moves.lock(rt), |moves| {
+            moves.rings == seen && moves.running > 0
+        });
         if moves.running == 0 {
             return None;
         }

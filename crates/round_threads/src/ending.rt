@@ -59,8 +59,8 @@ fn record_round<N: RoundName, E: Ear, G: Gate>(
     })
 }
 
-/// Ends a round whose threads are gone: meets the lines that are left, and makes the round's record. The tender
-/// has one turn more.
+/// Ends a round whose threads are gone: meets the lines that are left, and makes the round's record. The
+/// tender has one turn more.
 pub(crate) fn end_round<N: RoundName, E: Ear, G: Gate, T: Tender, R: Wait>(
     rt: &R,
     alloc: Global,

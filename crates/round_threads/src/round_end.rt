@@ -1,8 +1,8 @@
 //! What a round leaves.
 
-use run_report::RoundRecord;
-use round_terms::MadeAction;
 use round_state::Desk;
+use round_terms::MadeAction;
+use run_report::RoundRecord;
 use tc_base::Ear;
 use worker_rounds::Worker;
 

@@ -1,5 +1,5 @@
 //! One round of a job.
-ghost use Rattle.std.specs.Prelude.{◌≡◌, length, map, IfOk};
+ghost use Rattle.std.specs.Prelude.{◌≡◌, length, IfOk};
 ghost use Rattle.pin_store.specs.Calls.{IsSeatOf};
 ghost use Rattle.round_terms.specs.Files.{files_of};
 ghost use Rattle.round_terms.specs.Hearing.{ear_of, HasHeard};
@@ -8,69 +8,26 @@ ghost use Rattle.round_state.specs.Views.{journal};
 ghost use Rattle.worker_rounds.specs.Worked.{arrivals_of};
 ghost use Rattle.round_state.specs.Rounds.{store_name, IsDeskOf};
 ghost use Rattle.round_threads.specs.Rounds.{AreEvents, IsNamedRound, IsRoundWithRoom};
-ghost use Rattle.round_threads.specs.Hands.{AreClaimed, AreReady, AreWalkable};
+ghost use Rattle.round_threads.specs.Hands.{AreReady, AreWalkable};
 ghost use Rattle.round_threads.specs.Ends.{HaveWalked, IsLawfulRound, IsRoundEnd};
 
-use crate::ending::end_round;
-use crate::hands::{Hand, hands_of};
+use crate::hands::hands_of;
 use crate::round_end::RoundEnd;
-use crate::threads::run_threads;
+use crate::threads::run_hands;
 use hook_store_law::HookStore;
 use pcap_io::Packets;
 use round_state::{Desk, RoundName, RoundState};
 use round_terms::LoadedJob;
 use std::alloc::Global;
 use std::marker::Brand;
-use std::snapshot::Snapshot;
-use std::sync::{Mutex, Wait};
+use std::sync::Wait;
 use std::thread::Threads;
 use step_counts::make_claims;
 use tc_base::{Ear, Gate, Hook, NoMemory, Tender};
 use worker_rounds::{RoundWork, Worker};
 
-// Runs a round whose workers have their seats.
-fn run_hands<
-    N: RoundName + Send + Sync,
-    E: Ear,
-    G: Gate,
-    T: Tender,
-    R: Threads + Wait + Sync,
->(
-    rt: &R,
-    alloc: Global,
-    state: RoundState<N, E>,
-    job: &LoadedJob,
-    number: u32,
-    hands: Vec<Hand>,
-    round: &RoundWork<'_, G>,
-    tender: &mut T,
-) -> Result<RoundEnd<E>, NoMemory>
-    requires named { IsNamedRound N.store N.job N.number (length N.before) N.ear.spare
-        (store_name round.now.store.now) job.now number }
-    requires packets { AreWalkable (store_name round.now.store.now) round.now.packets.now }
-    requires hands { AreClaimed (store_name round.now.store.now) round.now.claims.now
-        (length round.now.packets.now) hands.items }
-    ensures tender { T.name tender.new ≡ T.name tender.old }
-    ensures end { IfOk result (IsRoundEnd E.name E.heard E.spare N.store N.job N.number round.now.hook
-        round.now.packets.now N.before N.ear (map (λ hand. hand.worker) hands.items)) }
-{
-    let before = Snapshot::of(&hands);
-    let lock = Mutex::new(state);
-    let back = run_threads(rt, alloc, &lock, job, number, hands, round, tender)?;
-    let state = lock.into_inner();
-    end_round(
-        rt, alloc, state, job, number, round, tender, before, back,
-    )
-}
-
 // Runs a round whose state stands ready for its lock.
-fn run_state<
-    N: RoundName + Send + Sync,
-    E: Ear,
-    G: Gate,
-    T: Tender,
-    R: Threads + Wait + Sync,
->(
+fn run_state<N: RoundName + Send + Sync, E: Ear, G: Gate, T: Tender, R: Threads + Wait + Sync>(
     rt: &R,
     alloc: Global,
     state: RoundState<N, E>,
@@ -83,13 +40,14 @@ fn run_state<
     gates: &G,
     tender: &mut T,
 ) -> Result<RoundEnd<E>, NoMemory>
-    requires named { IsNamedRound N.store N.job N.number (length N.before) N.ear.spare (store_name store.now)
-        job.now number }
+    requires named { IsNamedRound N.store N.job N.number (length N.before) N.ear.spare
+        (store_name store.now) job.now number }
     requires packets { AreWalkable (store_name store.now) packets.now }
-    requires workers { AreReady (store_name store.now) (length packets.now) job.now.job.workers workers.items }
+    requires workers { AreReady (store_name store.now) (length packets.now) job.now.job.workers
+        workers.items }
     ensures tender { T.name tender.new ≡ T.name tender.old }
-    ensures end { IfOk result (IsRoundEnd E.name E.heard E.spare N.store N.job N.number hook packets.now N.before
-        N.ear workers.items) }
+    ensures end { IfOk result (IsRoundEnd E.name E.heard E.spare N.store N.job N.number hook packets.now
+        N.before N.ear workers.items) }
 {
     let (claims, seats) = make_claims(alloc, job.job.workers)?;
     let hands = hands_of(alloc, workers, seats)?;
@@ -104,13 +62,7 @@ fn run_state<
 }
 
 // Runs the round that is named.
-fn run_named<
-    N: RoundName + Send + Sync,
-    E: Ear,
-    G: Gate,
-    T: Tender,
-    R: Threads + Wait + Sync,
->(
+fn run_named<N: RoundName + Send + Sync, E: Ear, G: Gate, T: Tender, R: Threads + Wait + Sync>(
     rt: &R,
     alloc: Global,
     store: &HookStore,
@@ -124,15 +76,16 @@ fn run_named<
     gates: &G,
     tender: &mut T,
 ) -> Result<RoundEnd<E>, NoMemory>
-    requires named { IsNamedRound N.store N.job N.number (length N.before) N.ear.spare (store_name store.now)
-        job.now number }
+    requires named { IsNamedRound N.store N.job N.number (length N.before) N.ear.spare
+        (store_name store.now) job.now number }
     requires desk { IsDeskOf N.store desk × (journal desk ≡ N.before) }
     requires ear { ear_of E.name E.heard E.spare ear ≡ N.ear }
     requires packets { AreWalkable (store_name store.now) packets.now }
-    requires workers { AreReady (store_name store.now) (length packets.now) job.now.job.workers workers.items }
+    requires workers { AreReady (store_name store.now) (length packets.now) job.now.job.workers
+        workers.items }
     ensures tender { T.name tender.new ≡ T.name tender.old }
-    ensures end { IfOk result (IsRoundEnd E.name E.heard E.spare N.store N.job N.number hook packets.now N.before
-        N.ear workers.items) }
+    ensures end { IfOk result (IsRoundEnd E.name E.heard E.spare N.store N.job N.number hook packets.now
+        N.before N.ear workers.items) }
 {
     let state = RoundState::<N, E>::new(alloc, desk, ear, job.job.controls)?;
     run_state(
@@ -140,15 +93,17 @@ fn run_named<
     )
 }
 
-/// Runs a round of a job: each control applies the lines of its batch at the desk while the workers walk the
-/// packets, which come at the hook. Rounds are counted from 1.
+/// Runs a round of a job: each control applies the lines of its batch at the desk while the workers walk
+/// the packets, which come at the hook. Rounds are counted from 1.
 ///
-/// The events are an interleaving of the controls' lines, each with its result, and the desk's journal is the
-/// one before with the accepted edits behind it. The ear has heard of just these. Each packet has one outcome,
-/// and the round is a lawful one, if the workers had seen all edits and all of their own earlier points.
+/// The events are an interleaving of the controls' lines, each with its result, and the desk's journal is
+/// the one before with the accepted edits behind it. The ear has heard of just these. Each packet has one
+/// outcome, and the round is a lawful one, if the workers had seen all edits and all of their own earlier
+/// points.
 ///
-/// A round without packets starts no walk; a control without a batch has no thread. A control or a worker that
-/// can have no thread does its work in the caller's. It may wait: for threads, at the gate, at a held edit.
+/// A control without a batch has no thread. A control or a worker that can have no thread does its work in
+/// the caller's. It may wait: for threads, at the gate, at a held edit. The tender has turns while it waits,
+/// and one behind all threads.
 ///
 /// `NoMemory`: memory was refused, here or in a thread. All threads are gone by then, with all that came in.
 pub fn run_round<E: Ear, G: Gate, T: Tender, R: Threads + Wait + Sync>(
@@ -168,7 +123,8 @@ pub fn run_round<E: Ear, G: Gate, T: Tender, R: Threads + Wait + Sync>(
     requires round { IsRoundWithRoom job.now number (length (journal desk)) (E.spare ear) }
     requires desk { IsSeatOf store.now desk.place }
     requires packets { AreWalkable (store_name store.now) packets.now }
-    requires workers { AreReady (store_name store.now) (length packets.now) job.now.job.workers workers.items }
+    requires workers { AreReady (store_name store.now) (length packets.now) job.now.job.workers
+        workers.items }
     ensures desk { IfOk result (λ end. IsSeatOf store.now end.desk.place) }
     ensures events { IfOk result (λ end. AreEvents (files_of job.now number) (journal desk) (journal end.desk)
         end.round.events) }

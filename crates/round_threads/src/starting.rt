@@ -39,11 +39,15 @@ fn start_control<'s, 'e, N: RoundName + Send + Sync, E: Ear, G: Gate, R: Threads
         bell.leave(rt);
         return;
     }
-    let refused = scope.spawn(move ||
-        requires { IsNamedRound N.store N.job N.number (length N.before) N.ear.spare (store_name store.now)
-            job.now round × (1 ≤ control) × (control ≤ job.now.job.controls) }
-    { control_all(rt, lock, store, job, round, control, gates, bell) })
-    .is_err();
+    let refused = scope
+        .spawn(
+            move ||
+                requires { IsNamedRound N.store N.job N.number (length N.before) N.ear.spare
+                    (store_name store.now) job.now round × (1 ≤ control)
+                    × (control ≤ job.now.job.controls) }
+            { control_all(rt, lock, store, job, round, control, gates, bell) },
+        )
+        .is_err();
     if refused {
         bell.leave(rt);
     }

@@ -1,5 +1,5 @@
 -- What the seats of a round's claims drew, and the rows for it (this project's own).
-use Rattle.std.specs.Prelude.{◌≡◌, ℕ, ◌<◌, List, [], ◌∷◌, ◌++◌, length, slice_get, Some}
+use Rattle.std.specs.Prelude.{◌≡◌, ℕ, ◌<◌, List, [], ◌∷◌, length, slice_get, Some}
 use Rattle.std.specs.List.{AllByRecursion, AllZip, flat_map}
 use Rattle.atomic_table.specs.Seated.{TableId}
 use Rattle.step_counts.specs.Seats.{Holding, with_seat}

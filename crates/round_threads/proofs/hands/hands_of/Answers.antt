@@ -1,5 +1,5 @@
-use Rattle.std.proofs.Common.{◌≡◌, ◌∙◌, ◌+◌, ◌++◌, ◌∷◌, [], length, sym, ap, arith}
-use Rattle.std.specs.Vec.Iter.{into_iter_items, into_iter_len}
+use Rattle.std.proofs.Common.{◌≡◌, ◌∙◌, ◌++◌, ◌∷◌, [], length, sym, ap, arith}
+use Rattle.std.specs.Vec.Iter.{into_iter_items}
 use Rattle.step_counts.specs.Seats.{Untaken}
 use Rattle.round_threads.specs.declared.hands.Hand.{Hand}
 use Rattle.round_threads.proofs.Claimed.{worker_next, seat_next}
