@@ -7,4 +7,5 @@ pub mod Same
 pub mod Walks
 pub mod Records
 pub mod Crossing
+pub mod Later
 pub mod OfOutcomes

@@ -31,7 +31,9 @@
 //! # Who may call what
 //!
 //! The thread that owns the desk and the workers calls `run_round`, one round after the other. It may wait,
-//! by the handle that it is given; what stands below this crate never does, but for the gate.
+//! by the handle that it is given; what stands below this crate never does, but for the gate. `laws` says
+//! what the next round asks of workers that come from the one before: that they have seen the points of all
+//! their outcomes (`walks_are_seen`), and that they may go inside again (`walks_are_few`).
 //!
 //! Not promised: that any two threads run at the same time, in which order controls get the lock, that a held
 //! edit is ever accepted, and so that a round ends. After 2^60 epochs it waits for ever.
@@ -43,6 +45,7 @@ mod ending;
 mod finishing;
 mod hands;
 mod joining;
+mod laws;
 mod outcomes;
 mod round_end;
 mod running;
@@ -51,5 +54,6 @@ mod tending;
 mod threads;
 mod turns;
 
+pub use laws::{walks_are_few, walks_are_seen};
 pub use round_end::RoundEnd;
 pub use running::run_round;

@@ -9,7 +9,7 @@ use Rattle.worker_rounds.specs.Worked.{HasDrawn}
 use Rattle.round_threads.specs.OfOutcomes.Draws.{AreDrawn, IsRising, deeds_of}
 
 -- from the least of them on
-short_from : (count least : ℕ) (rows : List LogRow) → least ≤ count → AllByRecursion (λ (x : ℕ). x < count) (numbers_of rows) → ((at : ℕ) (it : LogRow) → slice_get rows at ≡ Some it → least ≤ it.number) → IsRising rows
+pub short_from : (count least : ℕ) (rows : List LogRow) → least ≤ count → AllByRecursion (λ (x : ℕ). x < count) (numbers_of rows) → ((at : ℕ) (it : LogRow) → slice_get rows at ≡ Some it → least ≤ it.number) → IsRising rows
     → length rows + least ≤ count
 short_from count least [] within below above rising = omega arith
 short_from count least (row ∷ rows) within below above rising =
