@@ -101,9 +101,9 @@ fn run_named<N: RoundName + Send + Sync, E: Ear, G: Gate, T: Tender, R: Threads 
 /// outcome, and the round is a lawful one, if the workers had seen all edits and all of their own earlier
 /// points.
 ///
-/// A control without a batch has no thread. A control or a worker that can have no thread does its work in
-/// the caller's. It may wait: for threads, at the gate, at a held edit. The tender has turns while it waits,
-/// and one behind all threads.
+/// A control without a batch has no thread, nor has a worker where there are no packets. A control or a
+/// worker that can have no thread does its work in the caller's. It may wait: for threads, at the gate, at a
+/// held edit. The tender has turns while it waits, and one behind all threads.
 ///
 /// `NoMemory`: memory was refused, here or in a thread. All threads are gone by then, with all that came in.
 pub fn run_round<E: Ear, G: Gate, T: Tender, R: Threads + Wait + Sync>(

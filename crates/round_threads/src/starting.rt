@@ -79,7 +79,8 @@ pub(crate) fn start_controls<
     }
 }
 
-// Starts the thread of a worker. One that can have no thread works here.
+// Starts the thread of a worker. One that can have no thread works here, and so does each where there are no
+// packets: it draws one number.
 fn start_worker<'s, 'e, G: Gate, R: Threads + Wait + Sync>(
     scope: &'s Scope<'s, &'e ()>,
     rt: &'e R,
@@ -95,6 +96,9 @@ fn start_worker<'s, 'e, G: Gate, R: Threads + Wait + Sync>(
 {
     let (store, claims, gates) = (round.store, round.claims, round.gates);
     let (hook, packets) = (round.hook, round.packets);
+    if packets.is_empty() {
+        return Started::Here(work_of(rt, alloc, hand, store, claims, gates, hook, packets, bell));
+    }
     let promise = OfRound {
         hand: Snapshot::of(&hand),
         store: Snapshot::of(store),
