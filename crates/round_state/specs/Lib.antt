@@ -1,2 +1,3 @@
 pub mod Rounds
 pub mod Turns
+pub use Rattle.shared_hook.specs.Views

@@ -24,6 +24,11 @@
 //! a turn needs besides the edit's is reserved before the edit, so that nothing can fail behind an edit that
 //! was accepted.
 //!
+//! # What is passed on
+//!
+//! Whoever runs a round hands in a desk and gets it back. So `Desk`, and what contracts see of it (`Views`),
+//! are passed on from `shared_hook`.
+//!
 //! # Who may call what
 //!
 //! One thread at a time, the one that has the lock. `new` and `turn` take memory; no call waits. That there
@@ -40,5 +45,6 @@ mod turned;
 
 pub use naming::RoundName;
 pub use round_terms::Place;
+pub use shared_hook::Desk;
 pub use state::RoundState;
 pub use turned::Turned;

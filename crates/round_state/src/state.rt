@@ -1,5 +1,5 @@
 //! What lies under the lock of a round.
-ghost use Rattle.std.specs.Prelude.{◌≡◌, ◌+◌, ◌≤◌, ◌<◌, ◌^◌, [], length, IfOk, IfSome, OnOk};
+ghost use Rattle.std.specs.Prelude.{◌≡◌, ◌+◌, ◌≤◌, ◌<◌, ◌^◌, [], length, IfOk, IfSome, IfNone, OnOk};
 ghost use Rattle.std.specs.Prelude.{vec_len, vec_capacity};
 ghost use Rattle.round_terms.specs.TheConstants.{COMMANDS_MAX};
 ghost use Rattle.round_terms.specs.Given.{IsLoaded};
@@ -97,6 +97,21 @@ impl<N: RoundName, E: Ear> RoundState<N, E> {
         ensures { result.now ≡ self.now.desk }
     {
         &self.desk
+    }
+
+    /// The number of the line that a control has to meet next, in its batch from 1. `None` exactly where it has
+    /// no line left.
+    pub fn next_line(&self, job: &LoadedJob, round: u32, control: u32) -> Option<u64>
+        requires job { (job.now ≡ N.job) × IsLoaded job.now }
+        requires round { (round ≡ N.number) × (1 ≤ round) × (round ≤ length job.now.job.rounds) }
+        requires control { (1 ≤ control) × (control ≤ job.now.job.controls) }
+        ensures over { IfNone result (IsThroughAll (files_of N.job N.number) control self.now.events) }
+        ensures exact { IfSome result (λ _.
+            IsThroughAll (files_of N.job N.number) control self.now.events → ⊥) }
+    {
+        let before = first_file(job, round);
+        let next = next_line(job, before, round, control, self.places.as_slice())?;
+        Some(next.line)
     }
 
     /// Meets the next line of a control: applies its edit, where it gives one that is accepted, and notes

@@ -21,10 +21,10 @@ use Rattle.lawful_runs.specs.OfLogs.Logs.{LogRow, ArePointsTo, IsRowAt}
 use Rattle.hook_reader.specs.Seats.{HookSeat}
 use Rattle.worker_walk.specs.Walked.{journal_of, IsWalkedBy}
 use Rattle.worker_walk.proofs.Reading.{edits_prefix}
-use Rattle.step_counts.specs.Drawn.{Drawn, IsDrawnTo}
+use Rattle.step_counts.specs.Drawn.{IsDrawnTo}
 use Rattle.step_counts.specs.Seats.{Holding, with_deed}
 use Rattle.walk_logs.specs.Rows.{numbers_of, AreBelow}
-use Rattle.worker_rounds.specs.Worked.{arrivals_of, visits_after, IsWorked}
+use Rattle.worker_rounds.specs.Worked.{arrivals_of, visits_after, HasDrawn, IsWorked}
 
 -- ---- packets
 pub arrival_at : (hook : Hook) (packets : List Packet) (number : ℕ) (packet : Packet) → slice_get packets number ≡ Some packet
@@ -167,7 +167,7 @@ one_drawn count least number rows now deeds later it rising pushed more less =
 
 -- the last one is past the packets
 pub all_drawn : (count packets least number : ℕ) (rows : List LogRow) (deeds later : List ℕ) → AreDrawn count least rows deeds → count ≡ packets → later ≡ deeds ++ number ∷ [] → count ≤ number
-    → (drawn : Drawn) × IsDrawnTo packets drawn × (drawn.numbers ≡ numbers_of rows) × (later ≡ drawn.numbers ++ drawn.last ∷ [])
+    → HasDrawn packets later (numbers_of rows)
 all_drawn count packets least number rows deeds later it same pushed past = (
   record { numbers = numbers_of rows; last = number },
   subst (λ (bound : ℕ). IsDrawnTo bound (record { numbers = numbers_of rows; last = number })) same (record { below = it.below; past = past }),

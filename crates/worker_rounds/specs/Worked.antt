@@ -1,5 +1,6 @@
 -- What a worker has done in a round so far (this project's own).
-use Rattle.std.specs.Prelude.{◌≡◌, ℕ, ◌+◌, ◌*◌, ◌≤◌, min, fold, List, length, map, slice_get, Some}
+use Rattle.std.specs.Prelude.{◌≡◌, ℕ, ◌+◌, ◌*◌, ◌≤◌, min, fold, List, [], ◌∷◌, ◌++◌, length, map, slice_get}
+use Rattle.std.specs.Prelude.{Some}
 use mathlib.Core.List.{IsPrefix}
 use Rattle.tc_base.specs.declared.hook.Hook.{Hook}
 use Rattle.pcap_io.specs.declared.capture.Packet.{Packet}
@@ -7,6 +8,7 @@ use Rattle.pin_store.specs.Calls.{seen_by, number_of, pin_of}
 use Rattle.hook_reader.specs.Seats.{HookSeat}
 use Rattle.lawful_runs.specs.Given.{Arrival}
 use Rattle.lawful_runs.specs.OfLogs.Logs.{LogRow, ArePointsTo, AreRows}
+use Rattle.step_counts.specs.Drawn.{Drawn, IsDrawnTo}
 use Rattle.worker_walk.specs.Walked.{journal_of}
 
 -- packets that come at a hook
@@ -29,3 +31,8 @@ pub record IsWorked (worker : ℕ) (arrivals : List Arrival) (first now : HookSe
   pub same : number_of now.place ≡ number_of first.place
   pub walks : pin_of now.place ≡ pin_of first.place + 2 * length rows
   pub counted : now.visits ≡ visits_after first.visits rows
+
+-- a worker drew these numbers, which are below the count, and a last one, which isn't
+abbrev pub HasDrawn : ℕ → List ℕ → List ℕ → Type 0
+HasDrawn count deeds numbers = (drawn : Drawn) × IsDrawnTo count drawn × (drawn.numbers ≡ numbers)
+    × (deeds ≡ drawn.numbers ++ drawn.last ∷ [])

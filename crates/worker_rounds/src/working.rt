@@ -5,9 +5,8 @@ ghost use Rattle.pcap_io.specs.Captures.{AreShort};
 ghost use Rattle.pin_store.specs.Calls.{IsOutside, IsSeatOf, pin_of};
 ghost use Rattle.block_chain.specs.Ways.{block_words};
 ghost use Rattle.hook_reader.specs.Seats.{HookSeat};
-ghost use Rattle.step_counts.specs.Drawn.{Drawn, IsDrawnTo};
 ghost use Rattle.walk_logs.specs.Rows.{AreBelow, numbers_of};
-ghost use Rattle.worker_rounds.specs.Worked.{arrivals_of, IsWorked};
+ghost use Rattle.worker_rounds.specs.Worked.{arrivals_of, HasDrawn, IsWorked};
 
 use crate::recording::recorded;
 use crate::round_work::RoundWork;
@@ -92,9 +91,8 @@ pub fn work<G: Gate>(
     ensures outside { IsOutside worker.new.reader.place }
     ensures worked { IfOk result (λ log. IsWorked worker.old.number
         (arrivals_of round.now.hook round.now.packets.now) worker.old.reader worker.new.reader log) }
-    ensures drawn { IfOk result (λ log. (drawn : Drawn) × IsDrawnTo (length round.now.packets.now) drawn
-        × (drawn.numbers ≡ numbers_of log)
-        × (seat.new.deeds ≡ drawn.numbers ++ drawn.last ∷ [])) }
+    ensures drawn { IfOk result (λ log.
+        HasDrawn (length round.now.packets.now) seat.new.deeds (numbers_of log)) }
 {
     let mut log = WalkLog::new(alloc);
     let count = round.packets.len() as u64;

@@ -1,0 +1,11 @@
+pub mod Through
+pub mod Zips
+pub mod Starts
+pub mod Joins
+pub mod Claimed
+pub mod Same
+pub mod Walks
+pub mod Records
+pub mod Crossing
+pub mod Later
+pub mod OfOutcomes

@@ -1,0 +1,4 @@
+pub mod Rounds
+pub mod Hands
+pub mod Ends
+pub mod OfOutcomes
