@@ -1,0 +1,4 @@
+pub mod Blanks
+pub mod Cursors
+pub mod Replays
+pub mod Events
