@@ -1,4 +1,4 @@
-pub mod Blanks
-pub mod Cursors
-pub mod Replays
-pub mod Events
+pub mod Parts
+pub mod AtLines
+pub mod Meeting
+pub mod Turning

@@ -1,5 +1,5 @@
 //! The control that an event's line names.
-ghost use Rattle.std.specs.Prelude.{◌≡◌, ◌<◌, ◌++◌, ◌∷◌, ℕ, List, Some};
+ghost use Rattle.std.specs.Prelude.{◌≡◌, ◌<◌, ◌+◌, ◌++◌, ◌∷◌, ℕ, List, Some};
 ghost use Rattle.run_report.specs.declared.events.Event.{Event};
 ghost use Rattle.run_report.specs.EventTexts.{event_line};
 ghost use Rattle.report_events.specs.Blanks.{HasNo};
@@ -17,14 +17,28 @@ fn behind_blank(text: &[u8]) -> &[u8]
     }
 }
 
+// What the digit at the front of a text stands for. Of any other text what is told means nothing.
+fn first_digit(text: &[u8]) -> Option<u32>
+    ensures { (value : ℕ) (more : List ℕ) → value < 10 → text.now ≡ (48 + value) ∷ more
+        → result ≡ Some value }
+{
+    if text.is_empty() {
+        return None;
+    }
+    let byte = text[0];
+    if byte < b'0' {
+        return None;
+    }
+    Some(u32::from(byte - b'0'))
+}
+
 /// The control of the event whose line this is, where that is one of 1 to 9. What is told of any other line
 /// means nothing.
 pub fn control_of(line: &[u8]) -> Option<u32>
     ensures { (before : ℕ) (event : Event) → event.control < 10 → line.now ≡ event_line before event
         → result ≡ Some event.control }
 {
-    match behind_blank(behind_blank(behind_blank(line))) {
-        [digit @ b'0'..=b'9', ..] => Some(u32::from(*digit - b'0')),
-        _ => None,
-    }
+    let number = behind_blank(line);
+    let word = behind_blank(number);
+    first_digit(behind_blank(word))
 }

@@ -90,11 +90,11 @@ fn take_event(
     ensures further { result ≡ Ok true → cursor.new.line ≡ cursor.old.line + 1 }
     ensures taken { result ≡ Ok true → (loaded : LoadedValue) (number : ℕ) (its : List RoundRecord)
         (round : GivenRound) (first : AReplay)
-        → IsTurn loaded report.now number its round first cursor.old replay.old places.old named
+        → IsTurn loaded report.now number its round first cursor.old replay.old places.old named.entry
         → GoOn loaded report.now number its round first cursor.new replay.new places.new }
     ensures stuck { result ≡ Ok false → (loaded : LoadedValue) (number : ℕ) (its : List RoundRecord)
         (round : GivenRound) (first : AReplay)
-        → IsTurn loaded report.now number its round first cursor.old replay.old places.old named
+        → IsTurn loaded report.now number its round first cursor.old replay.old places.old named.entry
         → IsStuck loaded report.now cursor.new }
 {
     let before = replay.past.point();
@@ -138,11 +138,12 @@ pub fn check_events(
     ensures stuck { result ≡ Ok false → IsStuck job.now report.now cursor.new }
 {
     let first = first_file(job, number);
-    let mut places = vec![in alloc; Place::start(); job.job.controls as usize]?;
-    while let Some(next) = named_line(job, first, number, report, *cursor, places.as_slice()) {
-        if !take_event(alloc, report, cursor, replay, places.as_mut_slice(), next)? {
+    let mut starts = vec![in alloc; Place::start(); job.job.controls as usize]?;
+    let places = starts.as_mut_slice();
+    while let Some(next) = named_line(job, first, number, report, *cursor, places) {
+        if !take_event(alloc, report, cursor, replay, places, next)? {
             return Ok(false);
         }
     }
-    Ok(!some_left(job, first, number, places.as_slice()))
+    Ok(!some_left(job, first, number, places))
 }

@@ -31,9 +31,9 @@ nothing zero = refl
 nothing (suc n) = refl
 
 drop_more : (n m : ℕ) (bytes : List ℕ) → drop n (drop m bytes) ≡ drop (m + n) bytes
-drop_more n zero bytes = ap (λ (k : ℕ). drop k bytes) (omega arith)
+drop_more n zero bytes = let same : n ≡ zero + n = omega arith in ap (λ (k : ℕ). drop k bytes) same
 drop_more n (suc m) [] = nothing n ∙ sym (nothing (suc m + n))
-drop_more n (suc m) (byte ∷ bytes) = drop_more n m bytes ∙ ap (λ (k : ℕ). drop k (byte ∷ bytes)) (omega arith)
+drop_more n (suc m) (byte ∷ bytes) = let same : suc (m + n) ≡ suc m + n = omega arith in drop_more n m bytes ∙ ap (λ (k : ℕ). drop k (byte ∷ bytes)) same
 
 pub next_is : (bytes text line rest : List ℕ) (cursor : Cursor) → IsWithin bytes cursor → text ≡ drop cursor.at bytes → cut text ≡ line ∷ cut rest → IsNextLine bytes cursor line
 next_is bytes text line rest cursor in_bytes is cut_is =

@@ -1,6 +1,8 @@
 -- The events of a round, one line after the other.
-use Rattle.std.proofs.Common.{◌≡◌, ◌∙◌, ℕ, zero, suc, ◌+◌, ◌-◌, ◌<◌, ◌≤◌, Bool, true, false, List, [], ◌∷◌, ◌++◌, length, Option, Some, None, refl, sym, ap, subst, arith, append_assoc, append-nil, inl, inr}
-use Rattle.std.specs.Prelude.{◌||◌, if◌then◌else◌, replicate}
+use Rattle.std.proofs.Common.{◌≡◌, ◌∙◌, ℕ, zero, suc, ◌+◌, ◌-◌, ◌<◌, ◌≤◌, Bool, true, false, List, [], ◌∷◌, ◌++◌, length, Option, Some, None, refl, sym, ap, subst, arith, append_assoc, append-nil, ◌⊎◌, inl, inr}
+use Rattle.std.specs.Prelude.{◌||◌, if◌then◌else◌, replicate, nat_lt, is_some}
+use Rattle.std.specs.Option.{IfNone}
+use Rattle.std.proofs.lemmas.Bool.Decides.{nat_tests}
 use Rattle.std.specs.List.{slice_get}
 use Rattle.std.proofs.lemmas.List.{length-append}
 use Rattle.std.proofs.lemmas.List.Sums.{sum_by-cons}
@@ -53,7 +55,7 @@ use Rattle.report_events.specs.Cursors.{IsNextLine, lines_left, IsAt, IsStuck, M
 use Rattle.report_events.specs.Replays.{IsKept}
 use Rattle.report_events.specs.Lines.{TellsNone, NamesNone, SomeLeft, NoLines}
 use Rattle.report_events.specs.Told.{IsRoundAt, HasBegun, AreTold, GoOn, AreOver, IsTurn}
-use Rattle.report_events.proofs.Cursors.{stuck_at_end, stuck_at_line}
+use Rattle.report_events.proofs.AtLines.{stuck_at_end, stuck_at_line}
 
 -- ---- commands that are met are begun, and the first that is left is next
 begun_on : (b force : Bool) (commands : List Command) (events : List Event) (left : List Command) → (HasCome force commands events left → IsBegun force commands events) → ComesOn b (HasCome force commands events left) events left
@@ -85,6 +87,13 @@ come_next force (command ∷ commands) (event ∷ events) left come =
     next_on (force || is_accepted event.kind) force commands events left (λ it. come_next force commands events left it) come.1
 
 -- ---- the controls of a round
+-- the batch of a control, with its next command
+record IsOwn (files : List RoundFile) (events : List Event) (control : ℕ) (text : List ℕ) (line : ℕ) : Type 0 where
+  file : RoundFile
+  among : IsAmong (given_of file) (batches_of files)
+  by : file.control ≡ control
+  next : next_in events (given_of file) ≡ Some (record { line = line; words = words_of text })
+
 module _ {files : List RoundFile} {controls : ℕ} {before journal : List Edit} {events : List Event} {places : List Place} where
   all_begun : IsUnderway files controls before journal events places → AreBegun (batches_of files) events
   all_begun under = λ batch among.
@@ -93,14 +102,7 @@ module _ {files : List RoundFile} {controls : ℕ} {before journal : List Edit} 
       subst (λ (b : GivenBatch). IsBegun b.force b.commands (events_of b.control events)) it.same
       (come_begun it.file.force (commands_of it.file.bytes) (events_of it.file.control events) (left_at it.file.bytes p.place) p.come)
 
-  -- a control's next line is its next command
-  record IsOwn (control : ℕ) (text : List ℕ) (line : ℕ) : Type 0 where
-    file : RoundFile
-    among : IsAmong (given_of file) (batches_of files)
-    by : file.control ≡ control
-    next : next_in events (given_of file) ≡ Some (record { line = line; words = words_of text })
-
-  own_next : IsUnderway files controls before journal events places → (control : ℕ) (text : List ℕ) (line next : ℕ) (force : Bool) → IsLineFor files places control text line next force → IsOwn control text line
+  own_next : IsUnderway files controls before journal events places → (control : ℕ) (text : List ℕ) (line next : ℕ) (force : Bool) → IsLineFor files places control text line next force → IsOwn files events control text line
   own_next under control text line next force (file, place, more, is) =
       let here = more.stands in
       let own : slice_get places (file.control - 1) ≡ Some place = ap (λ (n : ℕ). slice_get places (n - 1)) here.control_is ∙ here.place_is in
@@ -170,7 +172,7 @@ event_from one other control line kind =
     ∙ ap (λ (n : ℕ). record { control = other.control; line = n; kind = one.kind }) line
     ∙ ap (λ (k : EventKind). record { control = other.control; line = other.line; kind = k }) kind
 
-unended : (its : List RoundRecord) (before : List Edit) (it : RoundRecord) (edits : List Edit) → IsOpen (inside its before it edits)
+pub unended : (its : List RoundRecord) (before : List Edit) (it : RoundRecord) (edits : List Edit) → IsOpen (inside its before it edits)
 unended its before it edits = λ run journal is. cc is
 
 -- ---- a control's turn
@@ -223,7 +225,7 @@ module _ (loaded : LoadedJob) (bytes : List ℕ) (number : ℕ) (its : List Roun
     told_here : AreTold loaded bytes its first cursor replay
     told_here = turn.goes.told
 
-    own_here : IsOwn {files = files_of loaded number} {events = turn.goes.told.it.events} named.control named.next.text.now named.next.line
+    own_here : IsOwn (files_of loaded number) turn.goes.told.it.events named.control named.next.text.now named.next.line
     own_here = own_next turn.goes.under named.control named.next.text.now named.next.line named.next.next named.next.force turn.names.own
 
     abbrev event_here : Event
@@ -298,7 +300,7 @@ module _ (loaded : LoadedJob) (bytes : List ℕ) (number : ℕ) (its : List Roun
         let it = other.2 in
         let low = batch_low turn.is_loaded turn.goes it.batch it.given in
         let by = it.control in
-        let lines : named_text ≡ line = cc (sym turn.names.is_next.first ∙ is_next.first) in
+        let lines : turn.names.text ≡ line = cc (sym turn.names.is_next.first ∙ is_next.first) in
         let control : other.0.control ≡ named.control = turn.names.tells (edits_in its + accepted_count told.it.events) other.0 (omega (arith, low, by)) (lines ∙ other.3) in
         let batch : it.batch ≡ given_of own_here.file = one_batch round.batches it.batch (given_of own_here.file) (given_here turn.is_loaded turn.goes) it.given (among_in turn.goes (given_of own_here.file) own_here.among) (sym by ∙ control ∙ sym own_here.by) in
         let command : it.command ≡ record { line = named.next.line; words = words_of named.next.text.now } =
@@ -307,10 +309,6 @@ module _ (loaded : LoadedJob) (bytes : List ℕ) (number : ℕ) (its : List Roun
         let kinds = one_kind (state_from no_state (first.journal.items ++ told.edits)) (words_of named.next.text.now) other.0.kind kind it.after met.0 other.1 met.1 result result_here in
         let same : other.0 ≡ event_here = event_from other.0 event_here control (it.line ∙ ap (λ (c : Command). c.line) command) kinds.0 in
         other.3 ∙ ap (event_line (edits_in its + accepted_count told.it.events)) same ∙ text_here text count is many
-      where
-        abbrev named_text : List ℕ
-        named_text = turn.names.text
-
   -- ---- no turn
   pub stuck_here : IsLoaded loaded → GoOn loaded bytes number its round first cursor replay places → SomeLeft loaded number places → NamesNone loaded bytes number cursor places → IsStuck loaded bytes cursor
   stuck_here is goes left (inl none) = stuck_at_end bytes cursor none loaded (inside its first.journal.items goes.told.it goes.told.edits) goes.told.is_at (unended its first.journal.items goes.told.it goes.told.edits)
@@ -363,3 +361,29 @@ goes_first loaded bytes number controls its round cursor replay places is begun 
   };
   under = begins_with (files_of loaded number) loaded.job.controls controls replay.journal.items replay.journal.items [] places (are_files loaded number is) refl refl all many;
 }
+
+-- the control that a line names is one of the round's, with a place
+pub record HasPlace (places : List Place) (control : ℕ) : Type 0 where
+  pub least : 1 ≤ control
+  pub within : control - 1 < length places
+
+pub named_place : (loaded : LoadedJob) (bytes : List ℕ) (number : ℕ) (its : List RoundRecord) (round : GivenRound) (first : Replay) (cursor : Cursor) (replay : Replay) (places : List Place) (named : NamedLine)
+    → IsTurn loaded bytes number its round first cursor replay places named → HasPlace places named.control
+named_place loaded bytes number its round first cursor replay places named turn =
+    let here = turn.names.own.2.stands in
+    let low = (are_files loaded number turn.is_loaded).numbered here.at turn.names.own.0 here.file_is in
+    let by = here.control_is in
+    let many = turn.goes.under.many in
+    record { least = omega (arith, low, by); within = omega (arith, low, by, many) }
+
+-- ---- the controls, one after the other
+pub below_or : (control k : ℕ) → control < k + 1 → (control < k) ⊎ (control ≡ k)
+below_or control k less = by_test (nat_lt control k) refl
+  where
+    by_test : (b : Bool) → nat_lt control k ≡ b → (control < k) ⊎ (control ≡ k)
+    by_test true is = inl (grind (arith, nat_tests, is))
+    by_test false is = inr (let low : k ≤ control = grind (arith, nat_tests, is) in omega (arith, low, less))
+
+pub none_of : {X : Type 0} (o : Option X) (P : Type 0) → IfNone o P → is_some o ≡ false → P
+none_of None P none is = none
+none_of (Some x) P none is = absurd (cc is)

@@ -1,0 +1,4 @@
+pub mod Checks
+pub mod Counting
+pub mod Walked
+pub mod Rounds
