@@ -1,4 +1,5 @@
 pub mod Checks
 pub mod Counting
 pub mod Walked
+pub mod Walks
 pub mod Rounds

@@ -1,9 +1,10 @@
-use Rattle.std.proofs.Common.{rules, ◌≡◌, ◌∙◌, Bool, true, false, List, refl, sym, subst}
+use Rattle.std.proofs.Common.{rules, ◌≡◌, ◌∙◌, Bool, true, false, List, Ok, refl, ap, sym, subst}
 use Rattle.std.specs.Prelude.{replicate, not}
 use Rattle.lawful_runs.specs.Given.{GivenRound}
 use Rattle.run_report.specs.declared.rounds.RoundRecord.{RoundRecord}
 use Rattle.round_terms.specs.declared.place.Place.{Place}
 use Rattle.round_terms.proofs.Beginning.{start_place}
+use Rattle.report_events.specs.Told.{IsTurn}
 use Rattle.report_events.proofs.Turning.{round_within, places_within, goes_first, stuck_here, over_here}
 use Rattle.report_events.proofs.events.check_events.Goals as goal
 
@@ -37,10 +38,20 @@ take_event-requires-clause-turn c =
     (c.args.job.now, c.args.number, b.0, b.1, c.args.replay.now, record { is_loaded = c.requires.loaded; goes = c.loop-next.invariant.going b.0 b.1 b.2; names = c.in-Some.ensures.some })
 
 pub returns-then-not-branch-clause-stuck : goal.returns-then-not-branch-clause-stuck
-returns-then-not-branch-clause-stuck c = ?
+returns-then-not-branch-clause-stuck c = λ is.
+    let b = c.requires.begun in
+    let turn : IsTurn c.args.job.now c.args.report.now c.args.number b.0 b.1 c.args.replay.now c.loop-next.cursor c.loop-next.replay c.loop-next.places c.in-Some.next = record { is_loaded = c.requires.loaded; goes = c.loop-next.invariant.going b.0 b.1 b.2; names = c.in-Some.ensures.some } in
+    let no : c.in_ok-take_event.field-0 ≡ false = search rules in
+    c.in_ok-take_event.ensures.stuck (ap (λ (b : Bool). Ok b) no) c.args.job.now c.args.number b.0 b.1 c.args.replay.now turn
 
 pub loop-next-preserved : goal.loop-next-preserved
-loop-next-preserved c = ?
+loop-next-preserved c = record {
+  within = c.in_ok-take_event.ensures.within;
+  going = λ its round begun.
+      let turn : IsTurn c.args.job.now c.args.report.now c.args.number its round c.args.replay.now c.loop-next.cursor c.loop-next.replay c.loop-next.places c.in-Some.next = record { is_loaded = c.requires.loaded; goes = c.loop-next.invariant.going its round begun; names = c.in-Some.ensures.some } in
+      let yes : c.in_ok-take_event.field-0 ≡ true = search rules in
+      c.in_ok-take_event.ensures.taken (ap (λ (b : Bool). Ok b) yes) c.args.job.now c.args.number its round c.args.replay.now turn;
+}
 
 pub some_left-requires-clause-round : goal.some_left-requires-clause-round
 some_left-requires-clause-round c =
