@@ -2,7 +2,7 @@
 ghost use Rattle.batch_run.specs.declared.limit.TheConstants.{COMMANDS_MAX};
 ghost use Rattle.frame_edit.specs.declared.limits.TheConstants.{FRAME_MAX};
 ghost use Rattle.walk_ends.specs.declared.limits.TheConstants.{PACKETS_MAX};
-ghost use Rattle.std.specs.Prelude.{◌≡◌, ◌≤◌, ◌<◌, ◌+◌, ◌^◌, true, false, max, fold, length, map, Ok, Some, IfOk, OnOk};
+ghost use Rattle.std.specs.Prelude.{◌≡◌, ◌≤◌, ◌<◌, ◌+◌, ◌^◌, true, false, max, fold, length, map, Ok, Some, IfOk, OnOk, ℕ, if◌then◌else◌};
 ghost use Rattle.walk_rules.specs.Steps.{Standing};
 ghost use Rattle.walk_rules.specs.Walks.{Outcome as WalkOutcome, outcome_of};
 ghost use Rattle.walk_steps.specs.Told.{execution, IsShortRun};
@@ -11,9 +11,12 @@ ghost use Rattle.lawful_runs.specs.Points.{greatest};
 ghost use Rattle.report_laws.specs.OfNextLines.Walks.{recorded_by};
 ghost use Rattle.state_past.specs.Remembering.{Remembers};
 ghost use Rattle.report_events.specs.Cursors.{IsWithin, IsStuck};
+ghost use Rattle.walk_ends.specs.Passing.{is_pass};
+ghost use Rattle.report_check.specs.Counting.{AreAtMost, count_of, counted_in, both};
 ghost use Rattle.report_check.specs.Walks.{ShowsWalk, WalksTo, StandsIn, StandsAtFirst};
 ghost use Rattle.report_check.specs.Rounds.{ToldRound, IsNextPacket, AreWalked};
 
+use crate::counts::RunCounts;
 use crate::walker::Walker;
 use crate::walkers::{Room, Walkers};
 use filter_lists::Edit;
@@ -81,14 +84,19 @@ fn walk_again(
 {
     let floor = least.max(walker.seen);
     let ceiling = past.point();
-    let Some(first) = points.first() else {
+    if points.is_empty() {
         return Ok(false);
-    };
-    let first = *first;
-    if first < floor || ceiling < first {
+    }
+    let first = points[0];
+    if first < floor {
+        return Ok(false);
+    }
+    if ceiling < first {
         return Ok(false);
     }
     walker.follow(journal, first)?;
+    // For the proof: what lists always keep.
+    let _actions = walker.lists.actions();
     let answers = JournalAnswers::new(journal, past, &walker.lists);
     walk_at(walk, latest, &answers, hook, frame, Bounds { floor, ceiling }, points)
 }
@@ -115,4 +123,97 @@ fn put_line(
         frame.meta(),
         points,
     )
+}
+
+// Adds a walk that has ended to what its worker saw and to the counts.
+fn note_walk(
+    walker: &mut Walker,
+    counts: &mut RunCounts,
+    walk: &Walk,
+    points: &[Point],
+) -> Result<(), NoMemory>
+    requires few { AreAtMost (2 ^ 62) counts.old }
+    ensures seen { walker.new ≡ record walker.old { seen = max walker.old.seen (greatest points.now) } }
+    ensures counts { (ended : WalkOutcome) → outcome_of walk.now.standing ≡ Some ended → OnOk result
+        ((serial : ℕ) → count_of counts.new serial ≡ both (count_of counts.old serial)
+        (counted_in (recorded_by 1 points.now ended).executed serial)) }
+    ensures short { (ended : WalkOutcome) → outcome_of walk.now.standing ≡ Some ended
+        → IsShortRun (recorded_by 1 points.now ended).executed }
+{
+    walker.seen = walker.seen.max(greatest(points));
+    counts.add(walk.executed())
+}
+
+// How many packets passed by this verdict.
+fn passes(verdict: Verdict) -> u64
+    ensures { result ≡ (if is_pass verdict then 1 else 0) }
+{
+    u64::from(matches!(verdict, Verdict::Pass))
+}
+
+/// Goes behind the line of a packet, the one at that place of the capture from 0, of a round before which
+/// `least` edits were accepted: `true`, where the line may come, and `false`, where the report is stuck.
+pub(crate) fn check_packet(
+    report: &[u8],
+    cursor: &mut Cursor,
+    replay: &Replay,
+    walkers: &mut Walkers,
+    least: Point,
+    place: u64,
+    hook: Hook,
+    frame: &[u8],
+) -> Result<bool, NoMemory>
+    requires cursor { IsWithin report.now cursor.old }
+    requires short { length frame.now ≤ FRAME_MAX }
+    requires few { walkers.old.passed + walkers.old.dropped < PACKETS_MAX }
+    requires number { place + 1 < 2 ^ 64 }
+    requires packet { (told : ToldRound)
+        × IsNextPacket told report.now cursor.old replay.now walkers.old least place hook frame.now }
+    ensures within { IsWithin report.now cursor.new }
+    ensures further { result ≡ Ok true → cursor.new.line ≡ cursor.old.line + 1 }
+    ensures taken { result ≡ Ok true → (told : ToldRound)
+        → IsNextPacket told report.now cursor.old replay.now walkers.old least place hook frame.now
+        → AreWalked told report.now cursor.new walkers.new (place + 1) }
+    ensures stuck { result ≡ Ok false → (told : ToldRound)
+        → IsNextPacket told report.now cursor.old replay.now walkers.old least place hook frame.now
+        → IsStuck told.loaded report.now cursor.new }
+{
+    let Walkers {
+        each,
+        counts,
+        passed,
+        dropped,
+        room,
+    } = walkers;
+    let Room {
+        walk,
+        latest,
+        points,
+        text,
+    } = room;
+    let Some(worker) = read_next(report, *cursor, points)? else {
+        return Ok(false);
+    };
+    if worker == 0 {
+        return Ok(false);
+    }
+    let place_of_worker = worker as usize - 1;
+    if place_of_worker >= each.len() {
+        return Ok(false);
+    }
+    let walker = &mut each[place_of_worker];
+    let points = points.as_slice();
+    let journal = replay.journal.as_slice();
+    if !walk_again(walk, latest, walker, journal, &replay.past, least, hook, frame, points)? {
+        return Ok(false);
+    }
+    put_line(text, place + 1, worker, walk, points)?;
+    if !cursor.take(report, text.as_slice()) {
+        return Ok(false);
+    }
+    let passes = passes(walk.verdict());
+    *passed += passes;
+    *dropped += 1 - passes;
+    note_walk(walker, counts, walk, points)?;
+    Ok(true)
 }

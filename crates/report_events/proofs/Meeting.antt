@@ -1,9 +1,5 @@
 -- A line that is met behind a journal.
-use Rattle.std.proofs.Common.{◌≡◌, ◌≢◌, ◌∙◌, ℕ, ◌+◌, ◌<◌, ◌≤◌, List, [], ◌∷◌, ◌++◌, length, Ok, Err, refl, sym, ap, subst, arith, append-nil, inl, inr}
-use Rattle.std.specs.Prelude.{Result}
-use Rattle.act_kinds.specs.declared.params.Params.{Params}
-use Rattle.act_registry.specs.Kept.{Kept as Registered}
-use Rattle.action_plan.specs.Entries.{actions_of}
+use Rattle.std.proofs.Common.{◌≡◌, ◌≢◌, ◌∙◌, ℕ, ◌≤◌, List, [], ◌∷◌, ◌++◌, length, Ok, Err, refl, sym, ap, subst, arith, append-nil, inl, inr}
 use Rattle.filter_state.specs.declared.edit.Edit.{Edit}
 use Rattle.filter_state.specs.declared.refusal.Done.{Done}
 use Rattle.filter_state.specs.declared.refusal.Refusal.{Refusal}
@@ -25,8 +21,7 @@ use Rattle.lawful_runs.specs.Lawful.{made_by}
 use Rattle.round_terms.specs.Underway.{made_behind, IsMet}
 use Rattle.round_terms.proofs.Making.{few_from, one_behind, made_further}
 use Rattle.state_past.specs.Remembering.{IsFollowed}
-use Rattle.report_events.specs.declared.replay.Replay.{Replay}
-use Rattle.report_events.specs.Replays.{IsKept, IsAccepted}
+use Rattle.report_events.specs.Replays.{IsAccepted}
 
 -- ---- before the step
 pub may_step : (journal : List Edit) (lists : Kept) → Spells lists (state_from no_state journal) → length journal ≤ 262144 → MayStep lists

@@ -8,7 +8,7 @@ use Rattle.std.proofs.lemmas.List.{length-append}
 use Rattle.std.proofs.lemmas.List.Sums.{sum_by-cons}
 use Rattle.tc_words.specs.Lines.{words_of}
 use Rattle.filter_state.specs.declared.edit.Edit.{Edit}
-use Rattle.filter_state.specs.States.{State, no_state}
+use Rattle.filter_state.specs.States.{no_state}
 use Rattle.filter_state.specs.Journals.{state_from}
 use Rattle.filter_state.proofs.Places.{each_at}
 use Rattle.batch_run.specs.Commands.{Command, commands_of}
@@ -20,24 +20,24 @@ use Rattle.run_report.specs.declared.rounds.RoundRecord.{RoundRecord}
 use Rattle.run_report.specs.Counts.{is_accepted, accepted_count, edits_in}
 use Rattle.run_report.specs.EventTexts.{event_line}
 use Rattle.lawful_runs.specs.declared.loaded.LoadedJob.{LoadedJob}
-use Rattle.lawful_runs.specs.Given.{GivenBatch, GivenRound, IsLoaded, given_rounds, rounds_from, capture_count}
+use Rattle.lawful_runs.specs.Given.{GivenBatch, GivenRound, IsLoaded, given_rounds, rounds_from}
 use Rattle.lawful_runs.specs.Events.{IsAmong, GoesOn, IsResult, events_of}
 use Rattle.lawful_runs.proofs.GivenCommands.{AreGiven, all_given, one_batch}
 use Rattle.lawful_runs.proofs.Results.{result_counted}
 use Rattle.round_terms.specs.declared.place.Place.{Place}
 use Rattle.round_terms.specs.Files.{RoundFile, files_of, given_of, batches_of}
-use Rattle.round_terms.specs.Places.{left_at, left_from}
+use Rattle.round_terms.specs.Places.{left_at}
 use Rattle.round_terms.specs.Coming.{HasCome, ComesOn}
 use Rattle.round_terms.specs.Underway.{IsUnderway, IsMet}
 use Rattle.round_terms.specs.Turns.{IsLineFor, HasNoLine, AreWithin, moved_on}
 use Rattle.round_terms.proofs.Counting.{given_at, file_at}
 use Rattle.round_terms.proofs.JobFiles.{are_files, given_is}
 use Rattle.round_terms.proofs.Turning.{placed_there, left_found}
-use Rattle.round_terms.proofs.Standing.{IsGoing, line_turned, all_within}
+use Rattle.round_terms.proofs.Standing.{line_turned, all_within}
 use Rattle.round_terms.proofs.Beginning.{start_place, begins_with}
 use Rattle.report_laws.specs.Begun.{IsBegun, AreBegun}
 use Rattle.report_laws.specs.Stands.{Stand, start, inside, closing, no_round, with_event, Takes}
-use Rattle.report_laws.specs.OfWholePaths.FirstBadLines.{TakesNone, IsOpen}
+use Rattle.report_laws.specs.OfWholePaths.FirstBadLines.{IsOpen}
 use Rattle.report_laws.specs.OfNextLines.Left.{next_of, next_in, IsLeft, NoneLeft, IsNextOf}
 use Rattle.report_laws.proofs.Deciding.{one_kind}
 use Rattle.report_laws.proofs.Paths.{path_append}
@@ -51,9 +51,9 @@ use Rattle.report_laws.proofs.OfNextLines.NextLines.{takes_next, takes_no_other}
 use Rattle.report_events.specs.declared.cursor.Cursor.{Cursor}
 use Rattle.report_events.specs.declared.replay.Replay.{Replay}
 use Rattle.report_events.specs.declared.events.NamedLine.{NamedLine}
-use Rattle.report_events.specs.Cursors.{IsNextLine, lines_left, IsAt, IsStuck, MustBe}
+use Rattle.report_events.specs.Cursors.{IsAt, IsStuck, MustBe}
 use Rattle.report_events.specs.Replays.{IsKept}
-use Rattle.report_events.specs.Lines.{TellsNone, NamesNone, SomeLeft, NoLines}
+use Rattle.report_events.specs.Lines.{NamesNone, SomeLeft, NoLines}
 use Rattle.report_events.specs.Told.{IsRoundAt, HasBegun, AreTold, GoOn, AreOver, IsTurn}
 use Rattle.report_events.proofs.AtLines.{stuck_at_end, stuck_at_line}
 
@@ -309,25 +309,26 @@ module _ (loaded : LoadedJob) (bytes : List ℕ) (number : ℕ) (its : List Roun
         let kinds = one_kind (state_from no_state (first.journal.items ++ told.edits)) (words_of named.next.text.now) other.0.kind kind it.after met.0 other.1 met.1 result result_here in
         let same : other.0 ≡ event_here = event_from other.0 event_here control (it.line ∙ ap (λ (c : Command). c.line) command) kinds.0 in
         other.3 ∙ ap (event_line (edits_in its + accepted_count told.it.events)) same ∙ text_here text count is many
+
   -- ---- no turn
   pub stuck_here : IsLoaded loaded → GoOn loaded bytes number its round first cursor replay places → SomeLeft loaded number places → NamesNone loaded bytes number cursor places → IsStuck loaded bytes cursor
   stuck_here is goes left (inl none) = stuck_at_end bytes cursor none loaded (inside its first.journal.items goes.told.it goes.told.edits) goes.told.is_at (unended its first.journal.items goes.told.it goes.told.edits)
   stuck_here is goes (control, text, at, behind, force, own) (inr (line, is_next, tells)) =
       stuck_at_line bytes line cursor is_next loaded (inside its first.journal.items goes.told.it goes.told.edits) goes.told.is_at (λ next takes.
-          let told = goes.told in
-          let mine = own_next goes.under control text at behind force own in
-          let left : IsLeft round.batches told.it.events = record { batch = given_of mine.file; command = record { line = at; words = words_of text }; given = among_in goes (given_of mine.file) mine.among; next = mine.next } in
-          let other = takes_no_other loaded round its first.journal.items told.it told.edits is goes.of.there line next left takes in
-          let it = other.2 in
-          let low = batch_low is goes it.batch it.given in
-          let by = it.control in
-          let none = tells (edits_in its + accepted_count told.it.events) other.0 (omega (arith, low, by)) (omega (arith, low, by)) other.3 in
-          let out = among_out goes it.batch it.given in
-          let there = file_at (files_of loaded number) out.0 it.batch out.1 in
-          let its_control : other.0.control ≡ there.file.control = by ∙ ap (λ (b : GivenBatch). b.control) (sym there.same) in
-          let no_next = own_none goes.under there.at there.file there.there (subst (λ (c : ℕ). HasNoLine (files_of loaded number) places c) its_control none) in
-          let both : ◌≡◌ {A = Option Command} None (Some it.command) = sym no_next ∙ ap (next_in told.it.events) there.same ∙ it.next in
-          cc both)
+      let told = goes.told in
+      let mine = own_next goes.under control text at behind force own in
+      let left : IsLeft round.batches told.it.events = record { batch = given_of mine.file; command = record { line = at; words = words_of text }; given = among_in goes (given_of mine.file) mine.among; next = mine.next } in
+      let other = takes_no_other loaded round its first.journal.items told.it told.edits is goes.of.there line next left takes in
+      let it = other.2 in
+      let low = batch_low is goes it.batch it.given in
+      let by = it.control in
+      let none = tells (edits_in its + accepted_count told.it.events) other.0 (omega (arith, low, by)) (omega (arith, low, by)) other.3 in
+      let out = among_out goes it.batch it.given in
+      let there = file_at (files_of loaded number) out.0 it.batch out.1 in
+      let its_control : other.0.control ≡ there.file.control = by ∙ ap (λ (b : GivenBatch). b.control) (sym there.same) in
+      let no_next = own_none goes.under there.at there.file there.there (subst (λ (c : ℕ). HasNoLine (files_of loaded number) places c) its_control none) in
+      let both : ◌≡◌ {A = Option Command} None (Some it.command) = sym no_next ∙ ap (next_in told.it.events) there.same ∙ it.next in
+      cc both)
 
   pub over_here : IsLoaded loaded → GoOn loaded bytes number its round first cursor replay places → NoLines loaded number places → AreOver loaded bytes its round first cursor replay
   over_here is goes lines = record {

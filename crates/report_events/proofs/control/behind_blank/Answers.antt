@@ -1,4 +1,4 @@
-use Rattle.std.proofs.Common.{◌≡◌, ◌∙◌, ◌+◌, ap, subst}
+use Rattle.std.proofs.Common.{◌∙◌, ◌+◌, subst}
 use Rattle.memchr.specs.Find.{IsFirstByte, is_byte}
 use Rattle.report_events.proofs.Parts.{behind, none_behind, whole_rest}
 use Rattle.report_events.proofs.control.behind_blank.Goals as goal

@@ -1,8 +1,5 @@
-use Rattle.std.proofs.Common.{rules, ◌≡◌, ◌∙◌, Bool, true, false, List, Ok, refl, ap, sym, subst}
-use Rattle.std.specs.Prelude.{replicate, not}
-use Rattle.lawful_runs.specs.Given.{GivenRound}
-use Rattle.run_report.specs.declared.rounds.RoundRecord.{RoundRecord}
-use Rattle.round_terms.specs.declared.place.Place.{Place}
+use Rattle.std.proofs.Common.{rules, ◌≡◌, Bool, true, false, Ok, refl, ap}
+use Rattle.std.specs.Prelude.{replicate}
 use Rattle.round_terms.proofs.Beginning.{start_place}
 use Rattle.report_events.specs.Told.{IsTurn}
 use Rattle.report_events.proofs.Turning.{round_within, places_within, goes_first, stuck_here, over_here}

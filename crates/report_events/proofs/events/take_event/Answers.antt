@@ -1,4 +1,4 @@
-use Rattle.std.proofs.Common.{◌≡◌, ◌∙◌, ◌++◌, Bool, true, false, List, ℕ, refl, ap, arith}
+use Rattle.std.proofs.Common.{◌≡◌, ◌∙◌, ◌++◌, true, false, List, ℕ, refl, ap, arith}
 use Rattle.run_report.specs.declared.events.Event.{Event}
 use Rattle.run_report.specs.EventTexts.{event_line}
 use Rattle.report_laws.specs.Stands.{inside}

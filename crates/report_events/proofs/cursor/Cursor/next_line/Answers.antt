@@ -1,4 +1,4 @@
-use Rattle.std.proofs.Common.{◌+◌, ◌-◌, length, take, drop}
+use Rattle.std.proofs.Common.{◌-◌, length, take, drop}
 use Rattle.report_events.proofs.Parts.{whole_rest}
 use Rattle.report_events.proofs.AtLines.{next_is}
 use Rattle.report_events.proofs.cursor.Cursor.next_line.Goals as goal

@@ -10,7 +10,7 @@ use Rattle.filter_lists.specs.Spells.{Spells}
 use Rattle.batch_run.specs.Made.{later_names}
 use Rattle.lawful_runs.specs.Lawful.{made_by}
 use Rattle.state_past.specs.Remembering.{Remembers}
-use Rattle.report_events.proofs.Meeting.{may_step, HasRefused, HasStepped, followed_ok, followed_err, spells_still, made_more}
+use Rattle.report_events.proofs.Meeting.{may_step, followed_ok, followed_err, spells_still, made_more}
 use Rattle.report_events.proofs.replay.Replay.apply.Goals as goal
 
 pub follow-requires-clause-may : goal.follow-requires-clause-may

@@ -1,6 +1,5 @@
 use Rattle.tc_words.specs.Lines.{words_of}
 use Rattle.line_range_laws.proofs.Lines.{says}
-use Rattle.report_events.proofs.Meeting.{met_accepted, met_refused, met_bad}
 use Rattle.report_events.proofs.replay.Replay.meet.Goals as goal
 
 pub apply-requires-clause-line : goal.apply-requires-clause-line
