@@ -5,3 +5,6 @@ pub mod Stuck
 pub mod Again
 pub mod Walking
 pub mod Seen
+pub mod Ended
+pub mod Arriving
+pub mod Captures

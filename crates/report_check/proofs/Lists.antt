@@ -1,8 +1,9 @@
 -- A worker's lists follow a journal.
-use Rattle.std.proofs.Common.{◌≡◌, ◌∙◌, ℕ, zero, suc, ◌+◌, ◌<◌, ◌≤◌, List, [], ◌∷◌, length, take, Option, Some, Ok, Err, refl, sym, ap, subst, arith}
-use Rattle.std.specs.Prelude.{slice_get}
+use Rattle.std.proofs.Common.{◌≡◌, ◌∙◌, ℕ, zero, suc, ◌+◌, ◌<◌, ◌≤◌, List, [], ◌∷◌, length, take, Bool, false, Option, Some, Ok, Err, refl, sym, ap, subst, arith}
+use Rattle.std.specs.Prelude.{slice_get, Result, is_err}
 use Rattle.filter_state.specs.declared.edit.Edit.{Edit}
 use Rattle.filter_state.specs.declared.refusal.Done.{Done}
+use Rattle.filter_state.specs.declared.refusal.Refusal.{Refusal}
 use Rattle.filter_state.specs.Lines.{IsLine}
 use Rattle.filter_state.specs.States.{State, no_state}
 use Rattle.filter_state.specs.Steps.{Stepped, step}
@@ -35,12 +36,13 @@ few_taken journal k few = let most = length-take k journal in omega (arith, most
 pub may_follow : (journal : List Edit) (k : ℕ) (lists : Kept) → Spells lists (state_at k journal) → length journal ≤ 262144 → MayStep lists
 may_follow journal k lists spells few = may_step (take k journal) lists spells (few_taken journal k few)
 
-after_ok : (old new : Kept) (done : Done) (s : State) (it : Stepped) → IsStepped old new (Ok done) it → Spells new (state_after s it)
-after_ok old new done s (Ok (next, said)) is = is.1
-after_ok old new done s (Err said) is = absurd is
+after_ok : (old new : Kept) (s : State) (answer : Result Done Refusal) (it : Stepped) → is_err answer ≡ false → IsStepped old new answer it → Spells new (state_after s it)
+after_ok old new s (Ok done) (Ok (next, said)) fine is = is.1
+after_ok old new s (Ok done) (Err said) fine is = absurd is
+after_ok old new s (Err refusal) it fine is = absurd (cc fine)
 
-pub followed : (journal : List Edit) (k : ℕ) (edit : Edit) (old new : Kept) (done : Done) → slice_get journal k ≡ Some edit → Spells old (state_at k journal)
-    → ((s : State) → Spells old s → IsStepped old new (Ok done) (step s edit)) → Spells new (state_at (k + 1) journal)
-followed journal k edit old new done is spells stepped =
+pub followed : (journal : List Edit) (k : ℕ) (edit : Edit) (old new : Kept) (answer : Result Done Refusal) → slice_get journal k ≡ Some edit → Spells old (state_at k journal)
+    → is_err answer ≡ false → ((s : State) → Spells old s → IsStepped old new answer (step s edit)) → Spells new (state_at (k + 1) journal)
+followed journal k edit old new answer is spells fine stepped =
     subst (Spells new) (sym (step_from no_state journal k edit is))
-    (after_ok old new done (state_at k journal) (step (state_at k journal) edit) (stepped (state_at k journal) spells))
+    (after_ok old new (state_at k journal) answer (step (state_at k journal) edit) fine (stepped (state_at k journal) spells))

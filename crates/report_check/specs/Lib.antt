@@ -3,3 +3,4 @@ pub mod Counting
 pub mod Walked
 pub mod Walks
 pub mod Rounds
+pub mod Between

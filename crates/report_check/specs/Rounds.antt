@@ -1,6 +1,7 @@
 -- A round of a report whose events are told, while its packets are (this project's own).
-use Rattle.std.specs.Prelude.{◌≡◌, ℕ, List, ◌++◌, length, slice_get, Some}
+use Rattle.std.specs.Prelude.{◌≡◌, ℕ, List, ◌++◌, length, map, slice_get, Some}
 use Rattle.tc_base.specs.declared.hook.Hook.{Hook}
+use Rattle.pcap_io.specs.declared.capture.Packet.{Packet}
 use Rattle.filter_state.specs.declared.edit.Edit.{Edit}
 use Rattle.run_report.specs.declared.events.Event.{Event}
 use Rattle.run_report.specs.declared.outcomes.Outcome.{Outcome}
@@ -67,4 +68,12 @@ pub record IsNextPacket (told : ToldRound) (bytes : List ℕ) (cursor : Cursor) 
   pub of : IsToldRound told replay
   pub walked : AreWalked told bytes cursor walkers place
   pub packet : IsPacket told place hook frame
+  pub before_is : before ≡ length told.before
+
+-- the packets of a round begin, all of which come at one hook
+pub record IsAtPackets (told : ToldRound) (bytes : List ℕ) (cursor : Cursor) (replay : Replay)
+    (walkers : Walkers) (before : ℕ) (hook : Hook) (packets : List Packet) : Type 0 where
+  pub of : IsToldRound told replay
+  pub walked : AreWalked told bytes cursor walkers 0
+  pub arrivals : told.round.arrivals ≡ map (λ (p : Packet). record { hook = hook; packet = p }) packets
   pub before_is : before ≡ length told.before

@@ -3,7 +3,9 @@
 
 mod check;
 mod counts;
+mod lines;
 mod packets;
+mod rounds;
 mod walker;
 mod walkers;
 

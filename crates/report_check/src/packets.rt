@@ -3,6 +3,7 @@ ghost use Rattle.batch_run.specs.declared.limit.TheConstants.{COMMANDS_MAX};
 ghost use Rattle.frame_edit.specs.declared.limits.TheConstants.{FRAME_MAX};
 ghost use Rattle.walk_ends.specs.declared.limits.TheConstants.{PACKETS_MAX};
 ghost use Rattle.std.specs.Prelude.{◌≡◌, ◌≤◌, ◌<◌, ◌+◌, ◌^◌, true, false, max, fold, length, map, Ok, Some, IfOk, OnOk, ℕ, if◌then◌else◌};
+ghost use Rattle.pcap_io.specs.Captures.{AreShort};
 ghost use Rattle.walk_rules.specs.Steps.{Standing};
 ghost use Rattle.walk_rules.specs.Walks.{Outcome as WalkOutcome, outcome_of};
 ghost use Rattle.walk_steps.specs.Told.{execution, IsShortRun};
@@ -14,13 +15,14 @@ ghost use Rattle.report_events.specs.Cursors.{IsWithin, IsStuck};
 ghost use Rattle.walk_ends.specs.Passing.{is_pass};
 ghost use Rattle.report_check.specs.Counting.{AreAtMost, count_of, counted_in, both};
 ghost use Rattle.report_check.specs.Walks.{ShowsWalk, WalksTo, StandsIn, StandsAtFirst};
-ghost use Rattle.report_check.specs.Rounds.{ToldRound, IsNextPacket, AreWalked};
+ghost use Rattle.report_check.specs.Rounds.{ToldRound, IsNextPacket, IsAtPackets, AreWalked};
 
 use crate::counts::RunCounts;
 use crate::walker::Walker;
 use crate::walkers::{Room, Walkers};
 use filter_lists::Edit;
 use journal_answers::JournalAnswers;
+use pcap_io::Packets;
 use point_walks::{Bounds, LatestPoints, walk_at};
 use report_events::{Cursor, Replay};
 use report_reading::read_packet_line;
@@ -215,5 +217,37 @@ pub(crate) fn check_packet(
     *passed += passes;
     *dropped += 1 - passes;
     note_walk(walker, counts, walk, points)?;
+    Ok(true)
+}
+
+/// Goes behind the lines of a round's packets, all of which come at one hook.
+pub(crate) fn check_packets(
+    report: &[u8],
+    cursor: &mut Cursor,
+    replay: &Replay,
+    walkers: &mut Walkers,
+    least: Point,
+    hook: Hook,
+    packets: &Packets,
+) -> Result<bool, NoMemory>
+    requires cursor { IsWithin report.now cursor.old }
+    requires short { AreShort packets.now }
+    requires few { walkers.old.passed + walkers.old.dropped + length packets.now ≤ PACKETS_MAX }
+    requires packets { (told : ToldRound)
+        × IsAtPackets told report.now cursor.old replay.now walkers.old least hook packets.now }
+    ensures within { IsWithin report.now cursor.new }
+    ensures taken { result ≡ Ok true → (told : ToldRound)
+        → IsAtPackets told report.now cursor.old replay.now walkers.old least hook packets.now
+        → AreWalked told report.now cursor.new walkers.new (length packets.now) }
+    ensures stuck { result ≡ Ok false → (told : ToldRound)
+        → IsAtPackets told report.now cursor.old replay.now walkers.old least hook packets.now
+        → IsStuck told.loaded report.now cursor.new }
+{
+    for place in 0..packets.len() {
+        let frame = packets.get(place).bytes;
+        if !check_packet(report, cursor, replay, walkers, least, place as u64, hook, frame)? {
+            return Ok(false);
+        }
+    }
     Ok(true)
 }

@@ -45,10 +45,10 @@ impl Walker {
         ensures seen { self.new.seen ≡ self.old.seen }
     {
         while self.at < point {
-            match self.lists.step(&journal[self.at as usize]) {
-                Ok(_) => self.at += 1,
-                Err(_) => return Err(NoMemory),
+            if self.lists.step(&journal[self.at as usize]).is_err() {
+                return Err(NoMemory);
             }
+            self.at += 1;
         }
         Ok(())
     }

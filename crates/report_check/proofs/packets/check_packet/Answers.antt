@@ -129,7 +129,7 @@ note_walk-requires c =
     let are = p.1.walked.are in
     let few = c.requires.few in
     let all = are.all in
-    are_at_most c.args.walkers.now.counts (outcomes_in p.0.its ++ p.1.walked.outcomes) are.counts are.short (omega (arith, few, all))
+    record { few = are_at_most c.args.walkers.now.counts (outcomes_in p.0.its ++ p.1.walked.outcomes) are.counts are.short (omega (arith, few, all)) }
 
 pub returns-clause-taken : goal.returns-clause-taken
 returns-clause-taken c = λ is told it.

@@ -1,5 +1,5 @@
-use Rattle.std.proofs.Common.{◌≡◌, ◌∙◌, ◌<◌, ◌+◌, Some, length, refl, sym, ap, subst, arith}
-use Rattle.std.specs.Prelude.{slice_get}
+use Rattle.std.proofs.Common.{rules, ◌≡◌, ◌∙◌, ◌<◌, ◌+◌, Bool, false, Some, length, refl, sym, ap, subst, arith}
+use Rattle.std.specs.Prelude.{slice_get, is_err}
 use Rattle.round_terms.proofs.JobFiles.{there_at}
 use Rattle.report_check.proofs.Lists.{is_line, may_follow, followed}
 use Rattle.report_check.proofs.walker.Walker.follow.Goals as goal
@@ -17,30 +17,17 @@ step-requires-clause-line c =
 pub step-requires-clause-may : goal.step-requires-clause-may
 step-requires-clause-may c = may_follow c.args.journal.now c.loop-self.self.at c.loop-self.self.lists c.loop-self.invariant.spells c.requires.short
 
-pub loop-self-preserved-in-Ok : goal.loop-self-preserved-in-Ok
-loop-self-preserved-in-Ok c =
+pub loop-self-preserved : goal.loop-self-preserved
+loop-self-preserved c =
     let journal = c.args.journal.now in
     let at = c.loop-self.self.at in
     let edit = c.index-journal-self.result in
     let end = c.requires.points.1 in
     let test = c.loop-self-test.true in
     let there = there_at journal journal at edit refl (omega (arith, end, test)) ∙ ap (λ e. Some e) (sym c.index-journal-self.is) in
+    let fine : is_err c.step.result ≡ false = search rules in
     record {
       low = omega (arith, test);
-      spells = followed journal at edit c.loop-self.self.lists c.step.new.self c.in-Ok.field-0 there c.loop-self.invariant.spells c.in-Ok.ensures;
-      seen = c.loop-self.invariant.seen;
-    }
-
-pub loop-self-preserved-in-Ok-2 : goal.loop-self-preserved-in-Ok-2
-loop-self-preserved-in-Ok-2 c =
-    let journal = c.args.journal.now in
-    let at = c.loop-self.self.at in
-    let edit = c.index-journal-self.result in
-    let end = c.requires.points.1 in
-    let test = c.loop-self-test.true in
-    let there = there_at journal journal at edit refl (omega (arith, end, test)) ∙ ap (λ e. Some e) (sym c.index-journal-self.is) in
-    record {
-      low = omega (arith, test);
-      spells = followed journal at edit c.loop-self.self.lists c.step.new.self c.in-Ok.field-0 there c.loop-self.invariant.spells c.in-Ok.ensures;
+      spells = followed journal at edit c.loop-self.self.lists c.step.new.self c.step.result there c.loop-self.invariant.spells fine c.step.ensures;
       seen = c.loop-self.invariant.seen;
     }

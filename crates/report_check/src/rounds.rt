@@ -1,0 +1,60 @@
+//! The rounds of a report.
+ghost use Rattle.std.specs.Prelude.{◌≡◌, ◌+◌, ◌-◌, ◌≤◌, true, false, length, take, IfSome, Ok};
+ghost use Rattle.std.specs.Option.{IfNone};
+ghost use Rattle.lawful_runs.specs.Given.{IsLoaded, captures_named, packet_count};
+ghost use Rattle.report_events.specs.Cursors.{IsWithin, IsStuck};
+ghost use Rattle.report_check.specs.Rounds.{ToldRound, AreWalked};
+ghost use Rattle.report_check.specs.Between.{IsBetween, IsAtCapture};
+
+use crate::lines::take_numbered;
+use crate::packets::check_packets;
+use crate::walkers::Walkers;
+use lawful_runs::LoadedJob;
+use report_events::{Cursor, Replay, check_events};
+use std::alloc::Global;
+use tc_base::{NoMemory, Point};
+
+/// How far a report has been judged: up to the cursor, with all that is kept of the lines before it.
+#[derive(Drop)]
+pub struct Progress {
+    pub(crate) cursor: Cursor,
+    pub(crate) replay: Replay,
+    pub(crate) walkers: Walkers,
+    /// How many captures the rounds had.
+    pub(crate) captures: usize,
+}
+
+// Goes behind the packets of a round, where it has a capture. The rounds before it have so many.
+fn check_capture(
+    job: &LoadedJob,
+    report: &[u8],
+    number: u32,
+    cursor: &mut Cursor,
+    replay: &Replay,
+    walkers: &mut Walkers,
+    captures: usize,
+    least: Point,
+) -> Result<bool, NoMemory>
+    requires loaded { IsLoaded job.now }
+    requires round { (1 ≤ number) × (number ≤ length job.now.job.rounds) }
+    requires cursor { IsWithin report.now cursor.old }
+    requires captures { captures ≡ captures_named (take (number - 1) job.now.job.rounds) }
+    requires packets { walkers.old.passed + walkers.old.dropped ≡ packet_count (take captures job.now.captures) }
+    requires told { (told : ToldRound)
+        × IsAtCapture told job.now report.now number cursor.old replay.now walkers.old least }
+    ensures within { IsWithin report.now cursor.new }
+    ensures taken { result ≡ Ok true → (told : ToldRound)
+        → IsAtCapture told job.now report.now number cursor.old replay.now walkers.old least
+        → AreWalked told report.now cursor.new walkers.new (length told.round.arrivals) }
+    ensures stuck { result ≡ Ok false → (told : ToldRound)
+        → IsAtCapture told job.now report.now number cursor.old replay.now walkers.old least
+        → IsStuck told.loaded report.now cursor.new }
+{
+    match &job.job.rounds.as_slice()[number as usize - 1].capture {
+        None => Ok(true),
+        Some(name) => {
+            let packets = &job.captures.as_slice()[captures].packets;
+            check_packets(report, cursor, replay, walkers, least, name.hook, packets)
+        }
+    }
+}
