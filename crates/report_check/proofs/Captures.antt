@@ -1,5 +1,5 @@
 -- The captures of a job, and the packets of a round.
-use Rattle.std.proofs.Common.{◌≡◌, ◌∙◌, ℕ, zero, suc, ◌+◌, ◌-◌, ◌<◌, ◌≤◌, List, [], ◌∷◌, ◌++◌, length, map, take, drop, Option, Some, None, refl, sym, ap, subst, arith}
+use Rattle.std.proofs.Common.{◌≡◌, ◌∙◌, ℕ, zero, suc, ◌+◌, ◌-◌, ◌<◌, ◌≤◌, List, [], ◌∷◌, ◌++◌, length, map, take, drop, get_or, Option, Some, None, refl, sym, ap, subst, arith}
 use Rattle.std.specs.Prelude.{slice_get, sum_by}
 use Rattle.std.specs.List.{All}
 use Rattle.std.proofs.lemmas.List.Sums.{sum_by-cons}
@@ -105,3 +105,40 @@ given_there (first ∷ rounds) files captures (suc k) round is = given_there rou
 pub given_end : (rounds : List Round) (files : List (List ℕ)) (captures : List Capture) → slice_get (rounds_from rounds files captures) (length rounds) ≡ None
 given_end [] files captures = refl
 given_end (first ∷ rounds) files captures = given_end rounds (drop (length first.batches) files) (drop (capture_count first.capture) captures)
+
+-- ---- the capture of a round
+pub got_is : {X : Type 0} (xs : List X) (n : ℕ) (x d : X) → slice_get xs n ≡ Some x → get_or xs n d ≡ x
+got_is [] n x d is = absurd (cc is)
+got_is (first ∷ xs) zero x d is = cc is
+got_is (first ∷ xs) (suc n) x d is = got_is xs n x d is
+
+pub got_within : {X : Type 0} (xs : List X) (n : ℕ) (x : X) → slice_get xs n ≡ Some x → n < length xs
+got_within [] n x is = absurd (cc is)
+got_within (first ∷ xs) zero x is = omega arith
+got_within (first ∷ xs) (suc n) x is = let rest = got_within xs n x is in omega (arith, rest)
+
+pub short_packets : (loaded : LoadedJob) (n : ℕ) (capture : Capture) → IsLoaded loaded → slice_get loaded.captures n ≡ Some capture → AreShort capture.packets
+short_packets loaded n capture is held =
+    subst (λ (c : Capture). AreShort c.packets) (got_is loaded.captures n capture capture held) (is.frames n capture (got_within loaded.captures n capture held))
+
+pub few_packets : (loaded : LoadedJob) (n told : ℕ) (capture : Capture) → IsLoaded loaded → slice_get loaded.captures n ≡ Some capture → told ≡ packet_count (take n loaded.captures) → told + length capture.packets ≤ 1048576
+few_packets loaded n told capture is held count =
+    let next = packets_next loaded.captures n capture held in
+    let all = packets_within loaded.captures (n + 1) in
+    let few : packet_count loaded.captures ≤ 1048576 = is.packets in
+    omega (arith, next, all, few, count)
+
+-- ---- few captures
+pub count_most : (c : Option CaptureName) → capture_count c ≤ 1
+count_most None = omega arith
+count_most (Some name) = omega arith
+
+pub captures_few : (rounds : List Round) (k : ℕ) → captures_named (take k rounds) ≤ k
+captures_few [] zero = omega arith
+captures_few [] (suc k) = omega arith
+captures_few (first ∷ rounds) zero = omega arith
+captures_few (first ∷ rounds) (suc k) =
+    let rest = captures_few rounds k in
+    let one = count_most first.capture in
+    let sum = sum_by-cons (λ (r : Round). capture_count r.capture) first (take k rounds) in
+    omega (arith, rest, one, sum)

@@ -8,3 +8,4 @@ pub mod Seen
 pub mod Ended
 pub mod Arriving
 pub mod Captures
+pub mod Rounding

@@ -236,6 +236,7 @@ pub(crate) fn check_packets(
     requires packets { (told : ToldRound)
         × IsAtPackets told report.now cursor.old replay.now walkers.old least hook packets.now }
     ensures within { IsWithin report.now cursor.new }
+    ensures onward { result ≡ Ok true → cursor.old.line ≤ cursor.new.line }
     ensures taken { result ≡ Ok true → (told : ToldRound)
         → IsAtPackets told report.now cursor.old replay.now walkers.old least hook packets.now
         → AreWalked told report.now cursor.new walkers.new (length packets.now) }

@@ -1,7 +1,7 @@
 //! The rounds of a report.
-ghost use Rattle.std.specs.Prelude.{◌≡◌, ◌+◌, ◌-◌, ◌≤◌, true, false, length, take, IfSome, Ok};
-ghost use Rattle.std.specs.Option.{IfNone};
-ghost use Rattle.lawful_runs.specs.Given.{IsLoaded, captures_named, packet_count};
+ghost use Rattle.std.specs.Prelude.{◌≡◌, ◌+◌, ◌-◌, ◌≤◌, true, false, length, take, slice_get, Some, Ok};
+ghost use Rattle.job_lines.specs.declared.job.Round.{Round};
+ghost use Rattle.lawful_runs.specs.Given.{IsLoaded, capture_count, captures_named, packet_count};
 ghost use Rattle.report_events.specs.Cursors.{IsWithin, IsStuck};
 ghost use Rattle.report_check.specs.Rounds.{ToldRound, AreWalked};
 ghost use Rattle.report_check.specs.Between.{IsBetween, IsAtCapture};
@@ -43,6 +43,7 @@ fn check_capture(
     requires told { (told : ToldRound)
         × IsAtCapture told job.now report.now number cursor.old replay.now walkers.old least }
     ensures within { IsWithin report.now cursor.new }
+    ensures onward { result ≡ Ok true → cursor.old.line ≤ cursor.new.line }
     ensures taken { result ≡ Ok true → (told : ToldRound)
         → IsAtCapture told job.now report.now number cursor.old replay.now walkers.old least
         → AreWalked told report.now cursor.new walkers.new (length told.round.arrivals) }
@@ -57,4 +58,54 @@ fn check_capture(
             check_packets(report, cursor, replay, walkers, least, name.hook, packets)
         }
     }
+}
+
+// How many captures a round has.
+fn captures_in(job: &LoadedJob, number: u32) -> usize
+    requires round { (1 ≤ number) × (number ≤ length job.now.job.rounds) }
+    ensures { (round : Round) → slice_get job.now.job.rounds (number - 1) ≡ Some round
+        → result ≡ capture_count round.capture }
+{
+    match &job.job.rounds.as_slice()[number as usize - 1].capture {
+        None => 0,
+        Some(_) => 1,
+    }
+}
+
+/// Goes behind the lines of a round: `true`, where each line may come, and `false`, where the report is
+/// stuck.
+pub(crate) fn check_round(
+    alloc: Global,
+    job: &LoadedJob,
+    report: &[u8],
+    number: u32,
+    progress: &mut Progress,
+    text: &mut Vec<u8>,
+) -> Result<bool, NoMemory>
+    requires loaded { IsLoaded job.now }
+    requires round { (1 ≤ number) × (number ≤ length job.now.job.rounds) }
+    requires cursor { IsWithin report.now progress.old.cursor }
+    requires between { IsBetween job.now report.now (number - 1) progress.old }
+    ensures within { IsWithin report.now progress.new.cursor }
+    ensures through { result ≡ Ok true → IsBetween job.now report.now number progress.new }
+    ensures stuck { result ≡ Ok false → IsStuck job.now report.now progress.new.cursor }
+{
+    let Progress {
+        cursor,
+        replay,
+        walkers,
+        captures,
+    } = progress;
+    if !take_numbered(report, cursor, text, "round ", u64::from(number))? {
+        return Ok(false);
+    }
+    let least = replay.past.point();
+    if !check_events(alloc, job, report, number, cursor, replay)? {
+        return Ok(false);
+    }
+    if !check_capture(job, report, number, cursor, replay, walkers, *captures, least)? {
+        return Ok(false);
+    }
+    *captures += captures_in(job, number);
+    take_numbered(report, cursor, text, "end round ", u64::from(number))
 }
