@@ -9,3 +9,4 @@ pub mod Ended
 pub mod Arriving
 pub mod Captures
 pub mod Rounding
+pub mod LastLines

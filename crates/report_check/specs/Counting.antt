@@ -1,6 +1,8 @@
 -- How often each action ran, by serial (this project's own).
-use Rattle.std.specs.Prelude.{ℕ, ◌+◌, ◌≤◌, ◌==◌, List, get_or, count_by, sum_by, if◌then◌else◌}
+use Rattle.std.specs.Prelude.{ℕ, ◌+◌, ◌≤◌, ◌==◌, List, map, get_or, count_by, sum_by, if◌then◌else◌}
+use Rattle.batch_run.specs.declared.made_action.MadeAction.{MadeAction}
 use Rattle.walk_ends.specs.declared.counts.Count.{Count}
+use Rattle.walk_texts.specs.Texts.{counter_line}
 
 abbrev pub no_count : Count
 no_count = record { packets = 0; bytes = 0 }
@@ -23,3 +25,7 @@ both one other = record { packets = one.packets + other.packets; bytes = one.byt
 abbrev pub AreAtMost : ℕ → List Count → Type 0
 AreAtMost most counts =
     (serial : ℕ) → ((count_of counts serial).packets ≤ most) × ((count_of counts serial).bytes ≤ most)
+
+-- the lines of the counters of these actions
+abbrev pub counted_lines : List Count → List MadeAction → List (List ℕ)
+counted_lines counts made = map (λ (m : MadeAction). counter_line m (count_of counts m.serial)) made

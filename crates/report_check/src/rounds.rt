@@ -109,3 +109,28 @@ pub(crate) fn check_round(
     *captures += captures_in(job, number);
     take_numbered(report, cursor, text, "end round ", u64::from(number))
 }
+
+/// Goes behind the lines of all rounds.
+pub(crate) fn check_rounds(
+    alloc: Global,
+    job: &LoadedJob,
+    report: &[u8],
+    progress: &mut Progress,
+    text: &mut Vec<u8>,
+) -> Result<bool, NoMemory>
+    requires loaded { IsLoaded job.now }
+    requires cursor { IsWithin report.now progress.old.cursor }
+    requires between { IsBetween job.now report.now 0 progress.old }
+    ensures within { IsWithin report.now progress.new.cursor }
+    ensures through { result ≡ Ok true
+        → IsBetween job.now report.now (length job.now.job.rounds) progress.new }
+    ensures stuck { result ≡ Ok false → IsStuck job.now report.now progress.new.cursor }
+{
+    let rounds = job.job.rounds.as_slice().len() as u32;
+    for number in 1..rounds + 1 {
+        if !check_round(alloc, job, report, number, progress, text)? {
+            return Ok(false);
+        }
+    }
+    Ok(true)
+}
