@@ -198,3 +198,7 @@ first_between loaded bytes progress at kept none unrefused are captures = record
   captures_is = captures;
   packets_is = (let all = are.all in let zero_packets : packet_count (take 0 loaded.captures) ≡ 0 = refl in let same = ap (λ (n : ℕ). packet_count (take n loaded.captures)) captures in omega (arith, all, zero_packets, same));
 }
+
+pub counter_text : (before line : List ℕ) (action : MadeAction) (count : Count) (counts : List Count) → line ≡ before ++ counter_line action count → before ≡ [] → count ≡ count_of counts action.serial → line ≡ counter_line action (count_of counts action.serial)
+counter_text before line action count counts is none counted =
+    is ∙ ap (λ (ls : List ℕ). ls ++ counter_line action count) none ∙ ap (counter_line action) counted

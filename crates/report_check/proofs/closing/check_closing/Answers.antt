@@ -23,9 +23,10 @@ returns-clause-through c = λ is loaded b.
     let yes : c.in_ok-take_counters.field-0 ≡ true = search rules in
     let journal = p.replay.journal.items in
     let run = run_of b.its journal in
+    let long : c.len.result ≡ length journal = search rules in
     let behind = c.in_ok-take_counters.ensures.taken (ap (λ (t : Bool). Ok t) yes) loaded run journal (end_lines p)
         (subst (λ (made : List MadeAction). IsAt loaded c.args.report.now p.cursor (closing run journal (counted_lines p.walkers.counts made ++ end_lines p))) (sym c.as_slice.ensures.value) (at_closing loaded c.args.report.now p b)) in
-    (run, journal, c.take_end.ensures.taken is loaded run journal (at_end loaded c.args.report.now p c.take_counters.new.cursor run journal c.len.result (c.len.ensures ∙ sym p.replay.journal.ok.0) behind))
+    (run, journal, c.take_end.ensures.taken is loaded run journal (at_end loaded c.args.report.now p c.take_counters.new.cursor run journal c.len.result long behind))
 
 pub returns-clause-stuck : goal.returns-clause-stuck
 returns-clause-stuck c = λ is loaded b.
@@ -33,6 +34,7 @@ returns-clause-stuck c = λ is loaded b.
     let yes : c.in_ok-take_counters.field-0 ≡ true = search rules in
     let journal = p.replay.journal.items in
     let run = run_of b.its journal in
+    let long : c.len.result ≡ length journal = search rules in
     let behind = c.in_ok-take_counters.ensures.taken (ap (λ (t : Bool). Ok t) yes) loaded run journal (end_lines p)
         (subst (λ (made : List MadeAction). IsAt loaded c.args.report.now p.cursor (closing run journal (counted_lines p.walkers.counts made ++ end_lines p))) (sym c.as_slice.ensures.value) (at_closing loaded c.args.report.now p b)) in
-    c.take_end.ensures.stuck is loaded run journal (at_end loaded c.args.report.now p c.take_counters.new.cursor run journal c.len.result (c.len.ensures ∙ sym p.replay.journal.ok.0) behind)
+    c.take_end.ensures.stuck is loaded run journal (at_end loaded c.args.report.now p c.take_counters.new.cursor run journal c.len.result long behind)

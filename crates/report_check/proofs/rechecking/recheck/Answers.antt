@@ -13,4 +13,4 @@ judge-requires-clause-between c =
     let loaded = c.args.job.now in
     let yes : c.take.result ≡ true = search rules in
     let at = c.take.ensures.taken yes loaded start (settled loaded [] []) (at_title loaded c.args.report.now c.start-cursor.result c.start-cursor.ensures) (title_takes loaded) in
-    first_between loaded c.args.report.now (record { cursor = c.take.new.self; replay = c.new.result; walkers = c.in_ok-walkers.walkers; captures = 0 }) at c.new.ensures.kept c.new.ensures.journal c.new.ensures.refused c.in_ok-walkers.ensures refl
+    first_between loaded c.args.report.now (record { cursor = c.take.new.self; replay = c.new-2.result; walkers = c.in_ok-walkers.walkers; captures = 0 }) at c.new-2.ensures.kept c.new-2.ensures.journal c.new-2.ensures.refused c.in_ok-walkers.ensures refl
