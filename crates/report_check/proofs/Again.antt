@@ -1,20 +1,17 @@
 -- A packet is walked again.
-use Rattle.std.proofs.Common.{◌≡◌, ◌∙◌, ℕ, zero, suc, ◌+◌, ◌<◌, ◌≤◌, Bool, true, false, List, [], ◌∷◌, ◌++◌, length, map, take, drop, get_or, Option, Some, None, Ok, Err, refl, sym, ap, subst, arith}
-use Rattle.std.specs.Prelude.{max, slice_get}
+use Rattle.std.proofs.Common.{◌≡◌, ◌∙◌, ℕ, ◌<◌, ◌≤◌, List, [], ◌∷◌, length, drop, get_or, None, refl, sym, ap, subst, arith}
 use Rattle.tc_base.specs.declared.hook.Hook.{Hook}
 use Rattle.filter_state.specs.declared.edit.Edit.{Edit}
-use Rattle.filter_state.specs.States.{State, no_state}
-use Rattle.filter_state.specs.Journals.{state_at, state_from}
+use Rattle.filter_state.specs.Journals.{state_at}
 use Rattle.hook_lists.specs.declared.kept.Kept.{Kept}
 use Rattle.hook_lists.specs.States.{AreKept}
 use Rattle.filter_lists.specs.Spells.{Spells}
-use Rattle.walk_rules.specs.Questions.{heads_of, told_heads}
-use Rattle.walk_rules.specs.Heads.{heads_on}
-use Rattle.walk_rules.specs.Steps.{Standing, begun, question_of, after}
+use Rattle.walk_rules.specs.Questions.{heads_of}
+use Rattle.walk_rules.specs.Steps.{Standing, begun, question_of}
 use Rattle.walk_points.specs.Points.{Visit, AreLawfulPoints}
 use Rattle.point_walks.specs.declared.bounds.Bounds.{Bounds}
-use Rattle.point_walks.specs.Over.{Answering, stands_after}
-use Rattle.point_walks.specs.Visits.{visits_over, IsWalkAt}
+use Rattle.point_walks.specs.Over.{Answering}
+use Rattle.point_walks.specs.Visits.{IsWalkAt}
 use Rattle.classify_walk.proofs.StillHeads.{heads_answered}
 use Rattle.journal_answers.specs.Answered.{Answerer, answer_by}
 use Rattle.report_laws.specs.OfNextLines.Walks.{answers_of, AgreesFrom}

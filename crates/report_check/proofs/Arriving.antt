@@ -1,5 +1,5 @@
 -- The packets of a round, one after the other.
-use Rattle.std.proofs.Common.{◌≡◌, ◌∙◌, ℕ, zero, suc, ◌+◌, ◌<◌, ◌≤◌, List, [], ◌∷◌, ◌++◌, length, map, Option, Some, refl, sym, ap, subst, arith}
+use Rattle.std.proofs.Common.{◌≡◌, ◌∙◌, ℕ, zero, suc, ◌+◌, List, [], ◌∷◌, map, Some, refl, ap, arith}
 use Rattle.std.specs.Prelude.{slice_get}
 use Rattle.std.proofs.lemmas.List.{length-append}
 use Rattle.tc_base.specs.declared.hook.Hook.{Hook}
@@ -9,7 +9,7 @@ use Rattle.lawful_runs.specs.Lawful.{outcomes_in}
 use Rattle.report_events.specs.declared.cursor.Cursor.{Cursor}
 use Rattle.report_events.specs.declared.replay.Replay.{Replay}
 use Rattle.report_check.specs.declared.walkers.Walkers.{Walkers}
-use Rattle.report_check.specs.Rounds.{ToldRound, AreWalked, IsPacket, IsNextPacket, IsAtPackets}
+use Rattle.report_check.specs.Rounds.{ToldRound, AreWalked, IsNextPacket, IsAtPackets}
 
 abbrev arrival_of : Hook → Packet → Arrival
 arrival_of hook packet = record { hook = hook; packet = packet }

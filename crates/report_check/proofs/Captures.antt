@@ -1,7 +1,6 @@
 -- The captures of a job, and the packets of a round.
-use Rattle.std.proofs.Common.{◌≡◌, ◌∙◌, ℕ, zero, suc, ◌+◌, ◌-◌, ◌<◌, ◌≤◌, List, [], ◌∷◌, ◌++◌, length, map, take, drop, get_or, Option, Some, None, refl, sym, ap, subst, arith}
+use Rattle.std.proofs.Common.{◌≡◌, ◌∙◌, ℕ, zero, suc, ◌+◌, ◌<◌, ◌≤◌, List, [], ◌∷◌, length, map, take, drop, get_or, Option, Some, None, refl, sym, ap, subst, arith}
 use Rattle.std.specs.Prelude.{slice_get, sum_by}
-use Rattle.std.specs.List.{All}
 use Rattle.std.proofs.lemmas.List.Sums.{sum_by-cons}
 use Rattle.pcap_io.specs.declared.capture.Packet.{Packet}
 use Rattle.pcap_io.specs.declared.capture.Capture.{Capture}
@@ -9,7 +8,7 @@ use Rattle.pcap_io.specs.Captures.{AreShort}
 use Rattle.job_lines.specs.declared.job.CaptureName.{CaptureName}
 use Rattle.job_lines.specs.declared.job.Round.{Round}
 use Rattle.lawful_runs.specs.declared.loaded.LoadedJob.{LoadedJob}
-use Rattle.lawful_runs.specs.Given.{Arrival, GivenRound, IsLoaded, given_batches, given_arrivals, arrivals_at, capture_count, captures_named, packet_count, rounds_from, given_rounds}
+use Rattle.lawful_runs.specs.Given.{GivenRound, IsLoaded, given_batches, given_arrivals, capture_count, captures_named, packet_count, rounds_from, given_rounds}
 
 -- ---- sums over the first of a list
 taken_more : {X : Type 0} (f : X → ℕ) (xs : List X) (k : ℕ) (x : X) → slice_get xs k ≡ Some x → sum_by f (take (k + 1) xs) ≡ sum_by f (take k xs) + f x

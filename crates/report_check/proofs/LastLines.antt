@@ -1,6 +1,6 @@
 -- The lines behind the rounds, and what a whole report comes to.
-use Rattle.std.proofs.Common.{◌≡◌, ◌∙◌, ℕ, zero, suc, ◌+◌, ◌-◌, ◌^◌, ◌<◌, ◌≤◌, List, [], ◌∷◌, ◌++◌, length, map, take, drop, Option, Some, None, refl, sym, ap, subst, arith, append-nil}
-use Rattle.std.specs.Prelude.{slice_get, codes, count_by, sum_by, if◌then◌else◌}
+use Rattle.std.proofs.Common.{◌≡◌, ◌∙◌, ℕ, zero, suc, ◌+◌, ◌-◌, ◌^◌, ◌<◌, List, [], ◌∷◌, ◌++◌, length, map, take, drop, Option, Some, None, refl, sym, ap, subst, arith, append-nil}
+use Rattle.std.specs.Prelude.{slice_get, codes, if◌then◌else◌}
 use Rattle.std.proofs.lemmas.List.{length-append}
 use Rattle.std.proofs.lemmas.List.Sums.{sum_by-append, sum_by-cons}
 use Rattle.filter_state.specs.declared.edit.Edit.{Edit}
@@ -20,7 +20,7 @@ use Rattle.lawful_runs.specs.Given.{GivenRound, IsLoaded, given_rounds, packet_c
 use Rattle.lawful_runs.specs.Lawful.{made_by, counter_of, counters_of, outcomes_in, executed_in, IsLawfulReport}
 use Rattle.line_cut_laws.specs.Cuts.{cut}
 use Rattle.report_laws.specs.Stands.{Stand, start, closing, run_of, last_lines, settled, settled_at, Takes, IsPath, journal_length}
-use Rattle.report_laws.specs.OfWholePaths.FirstBadLines.{IsFirstBadLine, TakesNone, IsOpen}
+use Rattle.report_laws.specs.OfWholePaths.FirstBadLines.{IsFirstBadLine, IsOpen}
 use Rattle.report_laws.proofs.Paths.{path_append}
 use Rattle.report_laws.proofs.OnePath.{path_grows}
 use Rattle.report_laws.proofs.ShortJournals.{journal_few}
@@ -28,7 +28,7 @@ use Rattle.report_laws.proofs.OfWholePaths.Completing.{completes}
 use Rattle.report_laws.proofs.OfWholePaths.Reached.{run_of_path}
 use Rattle.report_laws.proofs.OfWholePaths.Exact.{bad_line, cut_short, whole_report}
 use Rattle.report_events.specs.declared.cursor.Cursor.{Cursor}
-use Rattle.report_events.specs.Cursors.{IsWithin, lines_left, IsAt, GetsStuck, IsStuck, MustBe}
+use Rattle.report_events.specs.Cursors.{lines_left, IsAt, GetsStuck, IsStuck, MustBe}
 use Rattle.report_check.specs.declared.rounds.Progress.{Progress}
 use Rattle.report_check.specs.Counting.{count_of, counted_in, counted_lines}
 use Rattle.report_events.specs.Replays.{IsKept}

@@ -1,5 +1,5 @@
 -- A round of a report, from its first line to its last.
-use Rattle.std.proofs.Common.{◌≡◌, ◌∙◌, ℕ, zero, suc, ◌+◌, ◌-◌, ◌<◌, ◌≤◌, List, [], ◌∷◌, ◌++◌, length, map, take, Option, Some, None, refl, sym, ap, subst, arith, append-nil, ◌⊎◌, inl, inr}
+use Rattle.std.proofs.Common.{◌≡◌, ◌∙◌, ℕ, zero, suc, ◌+◌, ◌-◌, ◌<◌, ◌≤◌, List, [], ◌∷◌, ◌++◌, length, take, Option, Some, None, refl, sym, ap, subst, arith, append-nil, inr}
 use Rattle.std.specs.Prelude.{slice_get, codes}
 use Rattle.std.proofs.lemmas.List.{length-append, length-map, take-append-le}
 use Rattle.std.proofs.lemmas.List.Sums.{sum_by-append, sum_by-cons}
@@ -16,9 +16,9 @@ use Rattle.run_report.specs.declared.rounds.RoundRecord.{RoundRecord}
 use Rattle.run_report.specs.Counts.{accepted_count, edits_in, events_in}
 use Rattle.run_report.specs.Reports.{numbered_line}
 use Rattle.lawful_runs.specs.declared.loaded.LoadedJob.{LoadedJob}
-use Rattle.lawful_runs.specs.Given.{Arrival, GivenRound, IsLoaded, given_rounds, capture_count, captures_named, packet_count}
+use Rattle.lawful_runs.specs.Given.{GivenRound, IsLoaded, given_rounds, capture_count, captures_named, packet_count}
 use Rattle.lawful_runs.specs.Lawful.{outcomes_in}
-use Rattle.report_laws.specs.Stands.{Stand, opening, inside, closing, no_round, settled, settled_at, Takes}
+use Rattle.report_laws.specs.Stands.{opening, inside, no_round, settled, settled_at, Takes}
 use Rattle.report_laws.specs.OfWholePaths.FirstBadLines.{IsOpen}
 use Rattle.report_laws.proofs.Paths.{outcomes_push}
 use Rattle.report_laws.proofs.Texts.{edits_append, edits_cons}
@@ -28,9 +28,8 @@ use Rattle.report_events.specs.declared.replay.Replay.{Replay}
 use Rattle.report_events.specs.Cursors.{IsAt, MustBe}
 use Rattle.report_events.specs.Told.{HasBegun, AreOver}
 use Rattle.report_check.specs.declared.rounds.Progress.{Progress}
-use Rattle.report_check.specs.declared.walker.Walker.{Walker}
 use Rattle.report_check.specs.declared.walkers.Walkers.{Walkers}
-use Rattle.report_check.specs.Walked.{IsWalker, AreWalkers}
+use Rattle.report_check.specs.Walked.{AreWalkers}
 use Rattle.report_check.specs.Rounds.{ToldRound, journal_of, record_with, stand_with, IsToldRound, AreWalked, IsAtPackets}
 use Rattle.report_check.specs.Between.{IsBetween, IsAtCapture}
 use Rattle.report_check.proofs.Captures.{captures_next, packets_next, capture_within, arrivals_none, arrivals_some, given_there}
@@ -204,7 +203,7 @@ is_between loaded bytes number progress b o behind replay over walkers later end
       are = subst (λ (os : List Outcome). AreWalkers loaded.job.workers replay.journal.items os walkers) (sym (outcomes_push b.its it)) (subst (λ (es : List Edit). AreWalkers loaded.job.workers es (outcomes_in b.its ++ walked.outcomes) walkers) (sym over.told.journal_is) walked.are);
       captures_is = more ∙ ap (λ (n : ℕ). n + capture_count o.round.capture) b.captures_is ∙ sym next ∙ ap (λ (n : ℕ). captures_named (take n loaded.job.rounds)) one;
       packets_is = (let whole : walkers.passed + walkers.dropped ≡ packet_count (take progress.captures loaded.captures) + length o.given.arrivals = omega (arith, walked_count, earlier_count, all, each, held) in
-      whole ∙ sym packets ∙ ap (λ (n : ℕ). packet_count (take n loaded.captures)) (sym more));
+          whole ∙ sym packets ∙ ap (λ (n : ℕ). packet_count (take n loaded.captures)) (sym more));
     }
 
 -- ---- the packets of a round with a capture

@@ -1,5 +1,5 @@
 -- Where no line may come a report is stuck, whatever its next line is.
-use Rattle.std.proofs.Common.{◌≡◌, ◌∙◌, ℕ, zero, suc, ◌+◌, ◌<◌, ◌≤◌, ◌==◌, Bool, true, false, List, [], ◌∷◌, ◌++◌, length, drop, refl, sym, ap, subst, arith}
+use Rattle.std.proofs.Common.{◌≡◌, ◌∙◌, ℕ, ◌==◌, Bool, true, false, List, [], ◌∷◌, length, drop, refl, sym, ap, subst}
 use Rattle.std.specs.Prelude.{if◌then◌else◌}
 use Rattle.lawful_runs.specs.declared.loaded.LoadedJob.{LoadedJob}
 use Rattle.line_cut_laws.specs.Cuts.{byte_before, cut}

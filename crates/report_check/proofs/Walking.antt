@@ -1,8 +1,6 @@
 -- The line of the next packet.
-use Rattle.std.proofs.Common.{◌≡◌, ◌∙◌, ℕ, zero, suc, ◌+◌, ◌-◌, ◌^◌, ◌<◌, ◌≤◌, ◌==◌, Bool, true, false, List, [], ◌∷◌, ◌++◌, length, map, Option, Some, None, refl, sym, ap, subst, arith, append_assoc}
-use Rattle.std.specs.Prelude.{max, fold, filter, slice_get, slice_set, IfSome, if◌then◌else◌}
-use Rattle.std.specs.List.{flat_map}
-use Rattle.std.proofs.lemmas.List.{length-append}
+use Rattle.std.proofs.Common.{◌≡◌, ◌∙◌, ℕ, ◌+◌, ◌-◌, ◌^◌, ◌<◌, ◌≤◌, List, [], ◌∷◌, ◌++◌, length, Option, Some, None, refl, sym, ap, subst, arith}
+use Rattle.std.specs.Prelude.{max, slice_get, IfSome}
 use Rattle.tc_base.specs.declared.hook.Hook.{Hook}
 use Rattle.filter_state.specs.declared.edit.Edit.{Edit}
 use Rattle.filter_state.specs.Sound.{Each}
@@ -16,24 +14,23 @@ use Rattle.lawful_runs.specs.Points.{seen_by}
 use Rattle.lawful_runs.specs.Lawful.{outcomes_in}
 use Rattle.lawful_runs.proofs.Places.{each_from}
 use Rattle.lawful_runs.proofs.Walks.{point_within}
-use Rattle.report_laws.specs.Stands.{Stand, Takes, with_outcome}
+use Rattle.report_laws.specs.Stands.{Stand, Takes}
 use Rattle.report_laws.specs.OfWholePaths.FirstBadLines.{IsOpen}
-use Rattle.report_laws.specs.OfNextLines.Walks.{answers_of, recorded_by, WalksAt, IsNextWalk}
+use Rattle.report_laws.specs.OfNextLines.Walks.{answers_of, recorded_by, WalksAt}
 use Rattle.report_laws.proofs.OfNextLines.Walked.{walked}
 use Rattle.report_laws.proofs.OfNextLines.NextPackets.{is_walked}
 use Rattle.report_laws.proofs.OfNextLines.NextOutcomes.{takes_walk, takes_walk_alone}
-use Rattle.report_laws.proofs.ShortJournals.{journal_few}
 use Rattle.report_reading.specs.Packets.{IsSmall}
 use Rattle.report_events.specs.declared.cursor.Cursor.{Cursor}
 use Rattle.report_events.specs.declared.replay.Replay.{Replay}
-use Rattle.report_events.specs.Cursors.{IsWithin, IsNextLine, IsAt, IsStuck, MustBe}
+use Rattle.report_events.specs.Cursors.{IsNextLine, IsAt, MustBe}
 use Rattle.report_events.proofs.Turning.{short_journal, unended}
 use Rattle.report_check.specs.declared.walkers.Walkers.{Walkers}
 use Rattle.report_check.specs.Walks.{ShowsWalk, WalksTo}
 use Rattle.report_check.specs.declared.walker.Walker.{Walker}
-use Rattle.report_check.specs.Walked.{IsWalker, AreWalkers}
-use Rattle.report_check.specs.Rounds.{ToldRound, journal_of, record_with, stand_with, IsToldRound, AreWalked, IsPacket, IsNextPacket}
-use Rattle.report_check.proofs.Stuck.{MayNot, stuck_unless}
+use Rattle.report_check.specs.Walked.{IsWalker}
+use Rattle.report_check.specs.Rounds.{ToldRound, journal_of, record_with, stand_with, IsNextPacket}
+use Rattle.report_check.proofs.Stuck.{MayNot}
 
 -- the walk that a line shows
 record IsShown (told : ToldRound) (outcomes : List Outcome) (hook : Hook) (frame : List ℕ) (line : List ℕ) : Type 0 where

@@ -6,7 +6,5 @@ pub enum Check {
     Lawful,
     /// No lawful report goes on with this line, counted from 1. It is the first such line. One more than the
     /// number of lines says that the report is cut.
-    Unlawful {
-        line: u64,
-    },
+    Unlawful { line: u64 },
 }

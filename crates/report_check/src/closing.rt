@@ -111,7 +111,13 @@ pub(crate) fn check_closing(
         walkers,
         ..
     } = progress;
-    if !take_counters(report, cursor, text, replay.made.as_slice(), &walkers.counts)? {
+    if !take_counters(
+        report,
+        cursor,
+        text,
+        replay.made.as_slice(),
+        &walkers.counts,
+    )? {
         return Ok(false);
     }
     let summary = Summary {

@@ -100,7 +100,15 @@ fn walk_again(
     // For the proof: what lists always keep.
     let _actions = walker.lists.actions();
     let answers = JournalAnswers::new(journal, past, &walker.lists);
-    walk_at(walk, latest, &answers, hook, frame, Bounds { floor, ceiling }, points)
+    walk_at(
+        walk,
+        latest,
+        &answers,
+        hook,
+        frame,
+        Bounds { floor, ceiling },
+        points,
+    )
 }
 
 // Puts the line of a walk that has ended in place of what is there.
@@ -206,7 +214,17 @@ pub(crate) fn check_packet(
     let walker = &mut each[place_of_worker];
     let points = points.as_slice();
     let journal = replay.journal.as_slice();
-    if !walk_again(walk, latest, walker, journal, &replay.past, least, hook, frame, points)? {
+    if !walk_again(
+        walk,
+        latest,
+        walker,
+        journal,
+        &replay.past,
+        least,
+        hook,
+        frame,
+        points,
+    )? {
         return Ok(false);
     }
     put_line(text, place + 1, worker, walk, points)?;
@@ -246,7 +264,16 @@ pub(crate) fn check_packets(
 {
     for place in 0..packets.len() {
         let frame = packets.get(place).bytes;
-        if !check_packet(report, cursor, replay, walkers, least, place as u64, hook, frame)? {
+        if !check_packet(
+            report,
+            cursor,
+            replay,
+            walkers,
+            least,
+            place as u64,
+            hook,
+            frame,
+        )? {
             return Ok(false);
         }
     }

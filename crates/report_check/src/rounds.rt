@@ -103,7 +103,9 @@ pub(crate) fn check_round(
     if !check_events(alloc, job, report, number, cursor, replay)? {
         return Ok(false);
     }
-    if !check_capture(job, report, number, cursor, replay, walkers, *captures, least)? {
+    if !check_capture(
+        job, report, number, cursor, replay, walkers, *captures, least,
+    )? {
         return Ok(false);
     }
     *captures += captures_in(job, number);

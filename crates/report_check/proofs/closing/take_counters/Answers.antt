@@ -1,4 +1,4 @@
-use Rattle.std.proofs.Common.{rules, ◌≡◌, ◌∙◌, ◌+◌, ◌++◌, ◌∷◌, Bool, true, false, List, ℕ, Some, drop, get_or, refl, ap, sym, subst}
+use Rattle.std.proofs.Common.{rules, ◌≡◌, ◌∙◌, ◌+◌, ◌++◌, true, false, List, ℕ, drop, get_or, refl, subst}
 use Rattle.act_kinds.specs.declared.params.Kind.TheVariants.{Gact}
 use Rattle.batch_run.specs.declared.made_action.MadeAction.{MadeAction}
 use Rattle.round_terms.proofs.JobFiles.{there_at}

@@ -1,4 +1,4 @@
-use Rattle.std.proofs.Common.{rules, ◌≡◌, ◌∙◌, ◌++◌, ◌∷◌, [], Bool, true, false, List, ℕ, ap, sym, subst}
+use Rattle.std.proofs.Common.{rules, ◌≡◌, ◌∙◌, ◌++◌, ◌∷◌, [], true, false, List, ℕ, ap, sym, subst}
 use Rattle.walk_texts.specs.Texts.{summary_line}
 use Rattle.report_laws.specs.Stands.{closing}
 use Rattle.report_events.specs.Cursors.{IsAt}

@@ -1,4 +1,4 @@
-use Rattle.std.proofs.Common.{◌≡◌, ◌∙◌, Bool, false, List, ℕ, sym, subst}
+use Rattle.std.proofs.Common.{◌≡◌, ◌∙◌, false, List, ℕ, sym, subst}
 use Rattle.report_events.specs.Cursors.{MustBe}
 use Rattle.report_check.proofs.lines.take_numbered.Goals as goal
 

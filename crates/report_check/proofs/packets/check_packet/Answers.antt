@@ -1,11 +1,9 @@
 use Rattle.std.proofs.Common.{rules, ◌≡◌, ◌∙◌, ◌++◌, ◌∷◌, [], ◌+◌, ◌-◌, ◌<◌, ◌≤◌, Bool, true, false, List, ℕ, Option, Some, None, Ok, length, refl, sym, ap, subst, arith, append_assoc}
-use Rattle.std.specs.Prelude.{max, slice_get, if◌then◌else◌}
+use Rattle.std.specs.Prelude.{max, if◌then◌else◌}
 use Rattle.std.specs.Vec.{with_item}
 use Rattle.std.proofs.lemmas.List.{length-append}
 use Rattle.walk_ends.specs.Passing.{is_pass}
 use Rattle.filter_state.specs.declared.edit.Edit.{Edit}
-use Rattle.filter_state.specs.Journals.{state_at}
-use Rattle.walk_rules.specs.Steps.{Standing}
 use Rattle.walk_rules.specs.Walks.{Outcome as WalkOutcome, outcome_of}
 use Rattle.run_report.specs.declared.outcomes.Outcome.{Outcome}
 use Rattle.lawful_runs.specs.Points.{greatest}

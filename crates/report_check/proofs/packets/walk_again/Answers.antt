@@ -1,8 +1,6 @@
-use Rattle.std.proofs.Common.{rules, ◌≡◌, ◌∙◌, ◌<◌, length, get_or, sym, subst, arith}
+use Rattle.std.proofs.Common.{rules, ◌∙◌, ◌<◌, length, arith}
 use Rattle.std.specs.Prelude.{max}
-use Rattle.filter_state.specs.Journals.{state_at}
-use Rattle.filter_lists.specs.Spells.{Spells}
-use Rattle.report_check.proofs.Again.{IsCall, never_none, bounds_met, walk_found, walk_asked}
+use Rattle.report_check.proofs.Again.{IsCall, bounds_met, walk_found, walk_asked}
 use Rattle.report_check.proofs.packets.walk_again.Goals as goal
 
 pub returns-then-first-floor-clause-no : goal.returns-then-first-floor-clause-no

@@ -1,4 +1,4 @@
-use Rattle.std.proofs.Common.{rules, ◌≡◌, ◌∙◌, [], Bool, true, false, refl}
+use Rattle.std.proofs.Common.{rules, ◌≡◌, [], true, false, refl}
 use Rattle.report_laws.specs.Stands.{start, settled}
 use Rattle.report_check.proofs.LastLines.{at_title, title_must_be, title_takes, start_open, first_between}
 use Rattle.report_check.proofs.rechecking.recheck.Goals as goal

@@ -1,4 +1,4 @@
-use Rattle.std.proofs.Common.{◌≡◌, ◌∙◌, ◌+◌, ◌-◌, ◌<◌, Some, length, get_or, sym, ap, arith}
+use Rattle.std.proofs.Common.{◌+◌, ◌-◌, length, get_or, ap, arith}
 use Rattle.round_terms.proofs.JobFiles.{there_at}
 use Rattle.report_check.proofs.Captures.{capture_within, short_packets, few_packets}
 use Rattle.report_check.proofs.Rounding.{are_packets, none_arrive, all_arrived}

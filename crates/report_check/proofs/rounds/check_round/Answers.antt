@@ -1,4 +1,4 @@
-use Rattle.std.proofs.Common.{rules, ◌≡◌, ◌∙◌, ◌+◌, ◌-◌, ◌++◌, ◌∷◌, [], Bool, true, false, Ok, length, ap, sym, arith}
+use Rattle.std.proofs.Common.{rules, ◌≡◌, ◌∙◌, ◌+◌, ◌-◌, ◌++◌, ◌∷◌, [], Bool, true, false, Ok, ap, arith}
 use Rattle.report_laws.specs.Stands.{opening, inside, no_round, settled}
 use Rattle.report_events.proofs.Turning.{unended}
 use Rattle.report_check.specs.Rounds.{journal_of, record_with, stand_with}
@@ -24,7 +24,7 @@ check_events-requires-clause-begun c =
     let o = is_opening loaded c.args.report.now c.args.number p c.requires.round.0 c.requires.round.1 b in
     let yes : c.in_ok-take_numbered.field-0 ≡ true = search rules in
     let at = c.in_ok-take_numbered.ensures.taken (ap (λ (t : Bool). Ok t) yes) loaded (opening b.its p.replay.journal.items) (inside b.its p.replay.journal.items no_round []) o.is_at
-        (first_takes loaded b.its p.replay.journal.items c.from.result (c.from.ensures ∙ o.number_is)) in
+    (first_takes loaded b.its p.replay.journal.items c.from.result (c.from.ensures ∙ o.number_is)) in
     (b.its, o.given, has_begun loaded c.args.report.now c.args.number p b o c.take_numbered.new.cursor at (c.in_ok-take_numbered.ensures.further (ap (λ (t : Bool). Ok t) yes)))
 
 pub check_capture-requires-clause-told : goal.check_capture-requires-clause-told
@@ -36,7 +36,7 @@ check_capture-requires-clause-told c =
     let o = is_opening loaded r c.args.number p c.requires.round.0 c.requires.round.1 b in
     let yes : c.in_ok-take_numbered.field-0 ≡ true = search rules in
     let at = c.in_ok-take_numbered.ensures.taken (ap (λ (t : Bool). Ok t) yes) loaded (opening b.its p.replay.journal.items) (inside b.its p.replay.journal.items no_round []) o.is_at
-        (first_takes loaded b.its p.replay.journal.items c.from.result (c.from.ensures ∙ o.number_is)) in
+    (first_takes loaded b.its p.replay.journal.items c.from.result (c.from.ensures ∙ o.number_is)) in
     let begun = has_begun loaded r c.args.number p b o c.take_numbered.new.cursor at (c.in_ok-take_numbered.ensures.further (ap (λ (t : Bool). Ok t) yes)) in
     let went : c.in_ok-check_events.field-0 ≡ true = search rules in
     let over = c.in_ok-check_events.ensures.over (ap (λ (t : Bool). Ok t) went) b.its o.given begun in (
@@ -53,7 +53,7 @@ returns-then-not-branch-3-clause-stuck c = λ is.
     let o = is_opening loaded r c.args.number p c.requires.round.0 c.requires.round.1 b in
     let yes : c.in_ok-take_numbered.field-0 ≡ true = search rules in
     let at = c.in_ok-take_numbered.ensures.taken (ap (λ (t : Bool). Ok t) yes) loaded (opening b.its p.replay.journal.items) (inside b.its p.replay.journal.items no_round []) o.is_at
-        (first_takes loaded b.its p.replay.journal.items c.from.result (c.from.ensures ∙ o.number_is)) in
+    (first_takes loaded b.its p.replay.journal.items c.from.result (c.from.ensures ∙ o.number_is)) in
     let begun = has_begun loaded r c.args.number p b o c.take_numbered.new.cursor at (c.in_ok-take_numbered.ensures.further (ap (λ (t : Bool). Ok t) yes)) in
     let went : c.in_ok-check_events.field-0 ≡ true = search rules in
     let over = c.in_ok-check_events.ensures.over (ap (λ (t : Bool). Ok t) went) b.its o.given begun in
@@ -84,7 +84,7 @@ returns-clause-through c = λ is.
     let o = is_opening loaded r c.args.number p c.requires.round.0 c.requires.round.1 b in
     let yes : c.in_ok-take_numbered.field-0 ≡ true = search rules in
     let at = c.in_ok-take_numbered.ensures.taken (ap (λ (t : Bool). Ok t) yes) loaded (opening b.its p.replay.journal.items) (inside b.its p.replay.journal.items no_round []) o.is_at
-        (first_takes loaded b.its p.replay.journal.items c.from.result (c.from.ensures ∙ o.number_is)) in
+    (first_takes loaded b.its p.replay.journal.items c.from.result (c.from.ensures ∙ o.number_is)) in
     let begun = has_begun loaded r c.args.number p b o c.take_numbered.new.cursor at (c.in_ok-take_numbered.ensures.further (ap (λ (t : Bool). Ok t) yes)) in
     let went : c.in_ok-check_events.field-0 ≡ true = search rules in
     let over = c.in_ok-check_events.ensures.over (ap (λ (t : Bool). Ok t) went) b.its o.given begun in
@@ -97,7 +97,7 @@ returns-clause-through c = λ is.
     let onward = c.in_ok-check_capture.ensures.onward (ap (λ (t : Bool). Ok t) through) in
     let further = c.take_numbered-2.ensures.further is in
     let end = c.take_numbered-2.ensures.taken is loaded (stand_with told walked.outcomes) (settled loaded (b.its ++ (record_with told walked.outcomes ∷ [])) (journal_of told)) walked.is_at
-        (last_takes told replay (is_told loaded r b.its o.given p.replay behind replay over c.requires.loaded o.there) walked.outcomes walked.place_is c.from-2.result (c.from-2.ensures ∙ o.number_is)) in
+    (last_takes told replay (is_told loaded r b.its o.given p.replay behind replay over c.requires.loaded o.there) walked.outcomes walked.place_is c.from-2.result (c.from-2.ensures ∙ o.number_is)) in
     is_between loaded r c.args.number p b o behind replay over c.check_capture.new.walkers c.check_capture.new.cursor c.take_numbered-2.new.cursor c.requires.loaded c.requires.round.0 walked end (omega (arith, onward, further))
     (p.captures + c.captures_in.result) (ap (λ n. p.captures + n) (c.captures_in.ensures o.round o.there_job))
 
@@ -110,7 +110,7 @@ returns-clause-stuck c = λ is.
     let o = is_opening loaded r c.args.number p c.requires.round.0 c.requires.round.1 b in
     let yes : c.in_ok-take_numbered.field-0 ≡ true = search rules in
     let at = c.in_ok-take_numbered.ensures.taken (ap (λ (t : Bool). Ok t) yes) loaded (opening b.its p.replay.journal.items) (inside b.its p.replay.journal.items no_round []) o.is_at
-        (first_takes loaded b.its p.replay.journal.items c.from.result (c.from.ensures ∙ o.number_is)) in
+    (first_takes loaded b.its p.replay.journal.items c.from.result (c.from.ensures ∙ o.number_is)) in
     let begun = has_begun loaded r c.args.number p b o c.take_numbered.new.cursor at (c.in_ok-take_numbered.ensures.further (ap (λ (t : Bool). Ok t) yes)) in
     let went : c.in_ok-check_events.field-0 ≡ true = search rules in
     let over = c.in_ok-check_events.ensures.over (ap (λ (t : Bool). Ok t) went) b.its o.given begun in

@@ -1,4 +1,4 @@
-use Rattle.std.proofs.Common.{◌^◌, get_or, ap, arith}
+use Rattle.std.proofs.Common.{get_or, ap, arith}
 use Rattle.walk_ends.specs.declared.counts.Count.{Count}
 use Rattle.report_check.proofs.Tallies.{part_most, run_small}
 use Rattle.report_check.proofs.counts.RunCounts.add.Goals as goal

@@ -1,5 +1,5 @@
-use Rattle.std.proofs.Common.{rules, ◌≡◌, ◌∙◌, ◌<◌, ◌+◌, Bool, false, Some, length, refl, sym, ap, subst, arith}
-use Rattle.std.specs.Prelude.{slice_get, is_err}
+use Rattle.std.proofs.Common.{rules, ◌≡◌, ◌∙◌, false, Some, refl, sym, ap, arith}
+use Rattle.std.specs.Prelude.{is_err}
 use Rattle.round_terms.proofs.JobFiles.{there_at}
 use Rattle.report_check.proofs.Lists.{is_line, may_follow, followed}
 use Rattle.report_check.proofs.walker.Walker.follow.Goals as goal
