@@ -14,7 +14,8 @@ use Rattle.report_check.specs.declared.walkers.Walkers.{Walkers}
 use Rattle.report_check.specs.Counting.{count_of, counted_in}
 
 -- a worker has seen what its walks among these saw, and its lists are those of a point no later than that
-pub record IsWalker (journal : List Edit) (outcomes : List Outcome) (number : ℕ) (walker : Walker) : Type 0 where
+pub record IsWalker (journal : List Edit) (outcomes : List Outcome) (number : ℕ) (walker : Walker)
+    : Type 0 where
   pub seen : walker.seen ≡ seen_by number outcomes
   pub early : walker.at ≤ walker.seen
   pub within : walker.at ≤ length journal

@@ -1,5 +1,6 @@
 //! The lines behind the rounds of a report.
-ghost use Rattle.std.specs.Prelude.{◌≡◌, ◌+◌, ◌<◌, ◌^◌, ◌++◌, ◌∷◌, [], List, ℕ, true, false, codes, length, Ok};
+ghost use Rattle.std.specs.Prelude.{◌≡◌, ◌+◌, ◌<◌, ◌^◌, ◌++◌, ◌∷◌, [], List, ℕ, true, false, codes};
+ghost use Rattle.std.specs.Prelude.{length, Ok};
 ghost use Rattle.filter_state.specs.declared.edit.Edit.{Edit};
 ghost use Rattle.walk_texts.specs.Texts.{counter_line, summary_line};
 ghost use Rattle.run_report.specs.declared.record.RunRecord.{RunRecord};

@@ -6,13 +6,13 @@
 //!
 //! It never looks for a run. `report_laws` says which line may come next by what was told before, and so the
 //! lines are judged one after the other: the text that has to stand there is made, and compared. Behind the
-//! title each round tells its events (`report_events`), then its packets, and then comes its last line; behind
-//! the rounds come the counters, the summary and `end`.
+//! title each round tells its events (`report_events`), then its packets, and then comes its last line;
+//! behind the rounds come the counters, the summary and `end`.
 //!
 //! Of a packet's line the worker and the points are read, and the packet is walked again at these points
 //! (`point_walks`): masks and actions as they stood there, by the journal's past, and the tables by lists of
-//! the worker's own. A worker never walks behind what it saw, so its lists follow the journal once through the
-//! whole report. What it has seen bounds its next walk.
+//! the worker's own. A worker never walks behind what it saw, so its lists follow the journal once through
+//! the whole report. What it has seen bounds its next walk.
 //!
 //! # Who may call what
 //!

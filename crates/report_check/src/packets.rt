@@ -2,11 +2,12 @@
 ghost use Rattle.batch_run.specs.declared.limit.TheConstants.{COMMANDS_MAX};
 ghost use Rattle.frame_edit.specs.declared.limits.TheConstants.{FRAME_MAX};
 ghost use Rattle.walk_ends.specs.declared.limits.TheConstants.{PACKETS_MAX};
-ghost use Rattle.std.specs.Prelude.{◌≡◌, ◌≤◌, ◌<◌, ◌+◌, ◌^◌, true, false, max, fold, length, map, Ok, Some, IfOk, OnOk, ℕ, if◌then◌else◌};
+ghost use Rattle.std.specs.Prelude.{◌≡◌, ◌≤◌, ◌<◌, ◌+◌, ◌^◌, ℕ, true, false, max, length, Ok, Some};
+ghost use Rattle.std.specs.Prelude.{IfOk, OnOk, if◌then◌else◌};
 ghost use Rattle.pcap_io.specs.Captures.{AreShort};
 ghost use Rattle.walk_rules.specs.Steps.{Standing};
 ghost use Rattle.walk_rules.specs.Walks.{Outcome as WalkOutcome, outcome_of};
-ghost use Rattle.walk_steps.specs.Told.{execution, IsShortRun};
+ghost use Rattle.walk_steps.specs.Told.{IsShortRun};
 ghost use Rattle.run_report.specs.PacketTexts.{packet_line};
 ghost use Rattle.lawful_runs.specs.Points.{greatest};
 ghost use Rattle.report_laws.specs.OfNextLines.Walks.{recorded_by};
@@ -79,7 +80,8 @@ fn walk_again(
     requires seen { walker.old.at ≤ walker.old.seen }
     ensures yes { result ≡ Ok true → WalksTo journal.now hook frame.now (max least walker.old.seen) points.now
         walk.new.standing }
-    ensures walker { result ≡ Ok true → StandsIn journal.now walker.new × StandsAtFirst points.now walker.new }
+    ensures walker { result ≡ Ok true
+        → StandsIn journal.now walker.new × StandsAtFirst points.now walker.new }
     ensures seen { result ≡ Ok true → walker.new.seen ≡ walker.old.seen }
     ensures no { result ≡ Ok false → (end : Standing)
         → WalksTo journal.now hook frame.now (max least walker.old.seen) points.now end → ⊥ }

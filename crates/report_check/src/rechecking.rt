@@ -1,5 +1,6 @@
 //! The judge of a report.
-ghost use Rattle.std.specs.Prelude.{◌≡◌, ◌+◌, ◌<◌, ◌^◌, [], List, length, IfOk};
+ghost use Rattle.std.specs.Prelude.{[], List, IfOk};
+ghost use Rattle.lawful_runs.specs.declared.loaded.LoadedJob.{LoadedJob as LoadedValue};
 ghost use Rattle.filter_state.specs.declared.edit.Edit.{Edit};
 ghost use Rattle.run_report.specs.declared.record.RunRecord.{RunRecord};
 ghost use Rattle.lawful_runs.specs.Given.{IsLoaded};
@@ -18,31 +19,27 @@ use std::alloc::Global;
 use tc_base::NoMemory;
 
 // The answer where the report is stuck.
-fn stuck_at(job: &LoadedJob, report: &[u8], cursor: Cursor) -> Check
-    requires loaded { IsLoaded job.now }
-    requires cursor { IsWithin report.now cursor }
-    requires stuck { IsStuck job.now report.now cursor }
-    ensures { IsCheckOf job.now report.now result }
+fn stuck_at(report: &[u8], cursor: Cursor) -> Check
+    requires { IsWithin report.now cursor }
+    ensures { (loaded : LoadedValue) → IsLoaded loaded → IsStuck loaded report.now cursor
+        → IsCheckOf loaded report.now result }
 {
     // For the proof: a report has fewer bytes than a number of 64 bits counts.
     let _bytes = report.len();
-    let _job = &job.job;
     Check::Unlawful {
         line: cursor.line + 1,
     }
 }
 
 // The answer behind the last line of a lawful run: whether nothing follows it.
-fn ended_at(job: &LoadedJob, report: &[u8], cursor: Cursor) -> Check
-    requires loaded { IsLoaded job.now }
-    requires cursor { IsWithin report.now cursor }
-    requires end { (run : RunRecord) × (journal : List Edit)
-        × IsAt job.now report.now cursor (closing run journal []) }
-    ensures { IsCheckOf job.now report.now result }
+fn ended_at(report: &[u8], cursor: Cursor) -> Check
+    requires { IsWithin report.now cursor }
+    ensures { (loaded : LoadedValue) (run : RunRecord) (journal : List Edit) → IsLoaded loaded
+        → IsAt loaded report.now cursor (closing run journal []) → IsCheckOf loaded report.now result }
 {
     match cursor.next_line(report) {
         None => Check::Lawful,
-        Some(_) => stuck_at(job, report, cursor),
+        Some(_) => stuck_at(report, cursor),
     }
 }
 
@@ -60,12 +57,12 @@ fn judge(
     ensures { IfOk result (IsCheckOf job.now report.now) }
 {
     if !check_rounds(alloc, job, report, progress, text)? {
-        return Ok(stuck_at(job, report, progress.cursor));
+        return Ok(stuck_at(report, progress.cursor));
     }
     if !check_closing(report, progress, text)? {
-        return Ok(stuck_at(job, report, progress.cursor));
+        return Ok(stuck_at(report, progress.cursor));
     }
-    Ok(ended_at(job, report, progress.cursor))
+    Ok(ended_at(report, progress.cursor))
 }
 
 /// Whether bytes are the report of a lawful run of a job, or else the first line with which no lawful report
@@ -78,7 +75,7 @@ pub fn recheck(alloc: Global, job: &LoadedJob, report: &[u8]) -> Result<Check, N
 {
     let mut cursor = Cursor::start();
     if !cursor.take(report, b"clsact report 1\n") {
-        return Ok(stuck_at(job, report, cursor));
+        return Ok(stuck_at(report, cursor));
     }
     let walkers = Walkers::new(alloc, job.job.workers)?;
     let mut progress = Progress {

@@ -39,7 +39,8 @@ fn check_capture(
     requires round { (1 ≤ number) × (number ≤ length job.now.job.rounds) }
     requires cursor { IsWithin report.now cursor.old }
     requires captures { captures ≡ captures_named (take (number - 1) job.now.job.rounds) }
-    requires packets { walkers.old.passed + walkers.old.dropped ≡ packet_count (take captures job.now.captures) }
+    requires packets { walkers.old.passed + walkers.old.dropped
+        ≡ packet_count (take captures job.now.captures) }
     requires told { (told : ToldRound)
         × IsAtCapture told job.now report.now number cursor.old replay.now walkers.old least }
     ensures within { IsWithin report.now cursor.new }

@@ -41,5 +41,5 @@ SomeLeft loaded number places = (control : ℕ) × (text : List ℕ) × (line ne
 
 -- none has
 abbrev pub NoLines : LoadedJob → ℕ → List Place → Type 0
-NoLines loaded number places =
-    (control : ℕ) → 1 ≤ control → control ≤ loaded.job.controls → HasNoLine (files_of loaded number) places control
+NoLines loaded number places = (control : ℕ) → 1 ≤ control → control ≤ loaded.job.controls
+    → HasNoLine (files_of loaded number) places control

@@ -11,8 +11,8 @@
 //! (`Replay`). What that comes to is the event, and its line is compared. A line that names no control with a
 //! command left is bad as long as any control has one.
 //!
-//! A `Replay` is the journal of the accepted edits, with the lists that it leads to, what stood at each of its
-//! points (`state_past`), the names of the actions that it made, and how many lines were refused.
+//! A `Replay` is the journal of the accepted edits, with the lists that it leads to, what stood at each of
+//! its points (`state_past`), the names of the actions that it made, and how many lines were refused.
 //!
 //! # Who may call what
 //!

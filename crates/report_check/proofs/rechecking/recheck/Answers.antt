@@ -3,10 +3,11 @@ use Rattle.report_laws.specs.Stands.{start, settled}
 use Rattle.report_check.proofs.LastLines.{at_title, title_must_be, title_takes, start_open, first_between}
 use Rattle.report_check.proofs.rechecking.recheck.Goals as goal
 
-pub stuck_at-requires-clause-stuck : goal.stuck_at-requires-clause-stuck
-stuck_at-requires-clause-stuck c =
+pub returns-then-not-take : goal.returns-then-not-take
+returns-then-not-take c =
     let no : c.take.result ≡ false = search rules in
-    c.take.ensures.stuck no c.args.job.now start (at_title c.args.job.now c.args.report.now c.start-cursor.result c.start-cursor.ensures) start_open (title_must_be c.args.job.now c.args.report.now c.start-cursor.result)
+    c.stuck_at.ensures c.args.job.now c.requires
+    (c.take.ensures.stuck no c.args.job.now start (at_title c.args.job.now c.args.report.now c.start-cursor.result c.start-cursor.ensures) start_open (title_must_be c.args.job.now c.args.report.now c.start-cursor.result))
 
 pub judge-requires-clause-between : goal.judge-requires-clause-between
 judge-requires-clause-between c =
