@@ -37,13 +37,13 @@ use Rattle.lawful_runs.proofs.GivenCommands.{AreGiven, all_given, one_words, con
 use Rattle.report_laws.proofs.LineTexts.{kind_head, packet_head, end_head, control_told, IsToldBy, outcome_told, first_of, second_of}
 
 -- ---- one result
-abbrev AreSame : EventKind → EventKind → List Edit → List Edit → Type 0
+abbrev pub AreSame : EventKind → EventKind → List Edit → List Edit → Type 0
 AreSame kind other own more = (kind ≡ other) × (own ≡ more)
 
 done_of : (next other : State) (done again : Done) (stepped : Stepped) → stepped ≡ Ok (next, done) → stepped ≡ Ok (other, again) → done ≡ again
 done_of next other done again stepped is at = let both : ◌≡◌ {A = State × Done} (next, done) (other, again) = cc in ap (λ (pair : State × Done). pair.1) both
 
-one_kind : (s : State) (words : List (List ℕ)) (kind other : EventKind) (next later : State) (own more : List Edit) → IsResult s words kind next own → IsResult s words other later more → AreSame kind other own more
+pub one_kind : (s : State) (words : List (List ℕ)) (kind other : EventKind) (next later : State) (own more : List Edit) → IsResult s words kind next own → IsResult s words other later more → AreSame kind other own more
 one_kind s words (kinds.Accepted done) (kinds.Accepted again) next later own more (edit, gives, stepped, is) (second, says, goes, are) =
     let same : edit ≡ second = one_edit words edit second gives says in
     (ap kinds.Accepted (done_of next later done again (step s edit) stepped (ap (step s) same ∙ goes)), is ∙ ap (λ (e : Edit). e ∷ []) same ∙ sym are)

@@ -174,10 +174,14 @@ files_short (round ∷ rounds) files captures =
     sum_by-cons round_commands own others in
     omega (arith, rest, here, sum)
 
--- so the journal's points are numbers of 64 bits
-pub journal_short : (loaded : LoadedJob) (run : RunRecord) (journal : List Edit) → IsLoaded loaded → IsRunWith loaded run journal → length journal < 2 ^ 64
-journal_short loaded run journal is ran =
+-- so the journal's points are at most as many as a run has commands
+pub journal_few : (loaded : LoadedJob) (run : RunRecord) (journal : List Edit) → IsLoaded loaded → IsRunWith loaded run journal → length journal ≤ 262144
+journal_few loaded run journal is ran =
     let most = rounds_short loaded.job.workers (given_rounds loaded) [] [] run.rounds journal ran.rounds in
     let all = files_short loaded.job.rounds loaded.batches loaded.captures in
     let few : command_count loaded.batches ≤ 262144 = is.commands in
     omega (arith, most, all, few)
+
+-- and numbers of 64 bits
+pub journal_short : (loaded : LoadedJob) (run : RunRecord) (journal : List Edit) → IsLoaded loaded → IsRunWith loaded run journal → length journal < 2 ^ 64
+journal_short loaded run journal is ran = let few = journal_few loaded run journal is ran in omega (arith, few)

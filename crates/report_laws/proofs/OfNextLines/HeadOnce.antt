@@ -17,6 +17,8 @@ use Rattle.walk_rules.specs.Questions.{Head, Question, heads_of, filter_of, para
 use Rattle.walk_rules.specs.Heads.{heads_on}
 use Rattle.walk_rules.specs.Steps.{Place, at_head, at_mask, at_action, ended, Standing, begun, tries, masks_or, first_stop, question_at, question_of, after_list, after_action, after_found, after_at, after, ran, action_at}
 use Rattle.point_walks.specs.Over.{Answering, answered_at, moved_by, one_visit, stands_after}
+use Rattle.point_walks.specs.Visits.{visit_more, visits_over}
+use Rattle.walk_points.specs.Points.{Visit}
 use Rattle.report_laws.specs.OfNextLines.Walks.{answers_of, AgreesFrom}
 
 abbrev Headless : Place → Type 0
@@ -102,3 +104,22 @@ module _ (answers : Answering) (journal : List Edit) (hook : Hook) (first : ℕ)
   same_walk bytes points =
       ap (λ (a : Option Answer). option_and_then (λ next. stands_after answers next points) (moved_by (begun hook bytes) a)) agrees.head
       ∙ same_from (after (begun hook bytes) (told_heads (heads_on hook (state_at first journal)))) points (stop_headless 0 _ (heads_on hook (state_at first journal)))
+
+  -- and the same visits
+  more_same : (o : Option Question) (a : Option Answer) (point : ℕ) (one other : Answer → List Visit) → ((answer : Answer) → one answer ≡ other answer) → visit_more o a point one ≡ visit_more o a point other
+  more_same None a point one other rest = refl
+  more_same (Some question) None point one other rest = refl
+  more_same (Some question) (Some answer) point one other rest = ap (λ (vs : List Visit). record { question = question; point = point } ∷ vs) (rest answer)
+
+  visits_from : (st : Standing) (points : List ℕ) → Headless st.place → visits_over answers st points ≡ visits_over (answers_of journal) st points
+  visits_from st [] is = refl
+  visits_from st (point ∷ points) is =
+      ap (λ (a : Option Answer). visit_more (question_of st) a point (λ (answer : Answer). visits_over answers (after st answer) points)) (same_cond (nat_lt st.visits VISITS_MAX) (question_at st st.place) point (same_at st st.place point is))
+      ∙ more_same (question_of st) (answered_at (answers_of journal) point (question_of st)) point (λ (answer : Answer). visits_over answers (after st answer) points) (λ (answer : Answer). visits_over (answers_of journal) (after st answer) points)
+      (λ answer. visits_from (after st answer) points (headless st st.place answer is))
+
+  pub same_visits : (bytes points : List ℕ) → visits_over answers (begun hook bytes) (first ∷ points) ≡ visits_over (answers_of journal) (begun hook bytes) (first ∷ points)
+  same_visits bytes points =
+      let heads : Answer = told_heads (heads_on hook (state_at first journal)) in
+      ap (λ (a : Option Answer). visit_more (Some (heads_of hook)) a first (λ (answer : Answer). visits_over answers (after (begun hook bytes) answer) points)) agrees.head
+      ∙ ap (λ (vs : List Visit). record { question = heads_of hook; point = first } ∷ vs) (visits_from (after (begun hook bytes) heads) points (stop_headless 0 _ (heads_on hook (state_at first journal))))

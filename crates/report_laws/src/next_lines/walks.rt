@@ -8,6 +8,7 @@ ghost use Rattle.run_report.specs.declared.outcomes.Outcome.{Outcome};
 ghost use Rattle.lawful_runs.specs.Given.{Arrival};
 ghost use Rattle.lawful_runs.specs.Outcomes.{IsWalked};
 ghost use Rattle.point_walks.specs.Over.{Answering, stands_after};
+ghost use Rattle.point_walks.specs.Visits.{visits_over};
 ghost use Rattle.report_laws.specs.OfNextLines.Walks.{answers_of, recorded_by, WalksAt, AgreesFrom};
 
 /// A packet's walk is the walk at its points.
@@ -22,10 +23,14 @@ pub fn walks_at_points()
 {}
 
 /// A walk asks for the tables once: whoever tells them at the walk's first point alone takes it to the same
-/// end.
+/// end, by the same visits.
 pub fn head_once()
-    ensures { (answers : Answering) (journal : List Edit) (hook : Hook) (first : ℕ)
+    ensures end { (answers : Answering) (journal : List Edit) (hook : Hook) (first : ℕ)
         → AgreesFrom answers journal hook first → (bytes points : List ℕ)
         → stands_after answers (begun hook bytes) (first ∷ points)
         ≡ stands_after (answers_of journal) (begun hook bytes) (first ∷ points) }
+    ensures visits { (answers : Answering) (journal : List Edit) (hook : Hook) (first : ℕ)
+        → AgreesFrom answers journal hook first → (bytes points : List ℕ)
+        → visits_over answers (begun hook bytes) (first ∷ points)
+        ≡ visits_over (answers_of journal) (begun hook bytes) (first ∷ points) }
 {}

@@ -1,0 +1,12 @@
+pub mod Tallies
+pub mod Lists
+pub mod Begun
+pub mod Stuck
+pub mod Again
+pub mod Walking
+pub mod Seen
+pub mod Ended
+pub mod Arriving
+pub mod Captures
+pub mod Rounding
+pub mod LastLines

@@ -1,0 +1,6 @@
+pub mod Checks
+pub mod Counting
+pub mod Walked
+pub mod Walks
+pub mod Rounds
+pub mod Between

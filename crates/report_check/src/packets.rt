@@ -1,0 +1,283 @@
+//! The lines of a round's packets.
+ghost use Rattle.batch_run.specs.declared.limit.TheConstants.{COMMANDS_MAX};
+ghost use Rattle.frame_edit.specs.declared.limits.TheConstants.{FRAME_MAX};
+ghost use Rattle.walk_ends.specs.declared.limits.TheConstants.{PACKETS_MAX};
+ghost use Rattle.std.specs.Prelude.{◌≡◌, ◌≤◌, ◌<◌, ◌+◌, ◌^◌, ℕ, true, false, max, length, Ok, Some};
+ghost use Rattle.std.specs.Prelude.{IfOk, OnOk, if◌then◌else◌};
+ghost use Rattle.pcap_io.specs.Captures.{AreShort};
+ghost use Rattle.walk_rules.specs.Steps.{Standing};
+ghost use Rattle.walk_rules.specs.Walks.{Outcome as WalkOutcome, outcome_of};
+ghost use Rattle.walk_steps.specs.Told.{IsShortRun};
+ghost use Rattle.run_report.specs.PacketTexts.{packet_line};
+ghost use Rattle.lawful_runs.specs.Points.{greatest};
+ghost use Rattle.report_laws.specs.OfNextLines.Walks.{recorded_by};
+ghost use Rattle.state_past.specs.Remembering.{Remembers};
+ghost use Rattle.report_events.specs.Cursors.{IsWithin, IsStuck};
+ghost use Rattle.walk_ends.specs.Passing.{is_pass};
+ghost use Rattle.report_check.specs.Counting.{AreAtMost, count_of, counted_in, both};
+ghost use Rattle.report_check.specs.Walks.{ShowsWalk, WalksTo, StandsIn, StandsAtFirst};
+ghost use Rattle.report_check.specs.Rounds.{ToldRound, IsNextPacket, IsAtPackets, AreWalked};
+
+use crate::counts::RunCounts;
+use crate::walker::Walker;
+use crate::walkers::{Room, Walkers};
+use filter_lists::Edit;
+use journal_answers::JournalAnswers;
+use pcap_io::Packets;
+use point_walks::{Bounds, LatestPoints, walk_at};
+use report_events::{Cursor, Replay};
+use report_reading::read_packet_line;
+use run_report::push_packet_line;
+use state_past::StatePast;
+use std::alloc::AllocError;
+use tc_base::{Hook, NoMemory, Point};
+use walk_rules::Verdict;
+use walk_steps::Walk;
+
+// The worker and the points that the next line shows.
+fn read_next(
+    report: &[u8],
+    cursor: Cursor,
+    points: &mut Vec<Point>,
+) -> Result<Option<u32>, NoMemory>
+    requires { IsWithin report.now cursor }
+    ensures { IfOk result (λ worker. ShowsWalk report.now cursor worker points.new.items) }
+{
+    match cursor.next_line(report) {
+        Some(line) => read_packet_line(line, points),
+        None => Ok(None),
+    }
+}
+
+// The greatest point.
+fn greatest(points: &[Point]) -> Point
+    ensures { result ≡ greatest points.now }
+{
+    let mut most = 0;
+    for point in points {
+        most = most.max(*point);
+    }
+    most
+}
+
+// Walks a frame again at these points, within what the worker has seen and the journal's end. The worker's
+// lists follow to the first point.
+fn walk_again(
+    walk: &mut Walk,
+    latest: &mut LatestPoints,
+    walker: &mut Walker,
+    journal: &[Edit],
+    past: &StatePast,
+    least: Point,
+    hook: Hook,
+    frame: &[u8],
+    points: &[Point],
+) -> Result<bool, NoMemory>
+    requires short { length frame.now ≤ FRAME_MAX }
+    requires past { Remembers past.now journal.now }
+    requires few { length journal.now ≤ COMMANDS_MAX }
+    requires walker { StandsIn journal.now walker.old }
+    requires seen { walker.old.at ≤ walker.old.seen }
+    ensures yes { result ≡ Ok true → WalksTo journal.now hook frame.now (max least walker.old.seen) points.now
+        walk.new.standing }
+    ensures walker { result ≡ Ok true
+        → StandsIn journal.now walker.new × StandsAtFirst points.now walker.new }
+    ensures seen { result ≡ Ok true → walker.new.seen ≡ walker.old.seen }
+    ensures no { result ≡ Ok false → (end : Standing)
+        → WalksTo journal.now hook frame.now (max least walker.old.seen) points.now end → ⊥ }
+{
+    let floor = least.max(walker.seen);
+    let ceiling = past.point();
+    if points.is_empty() {
+        return Ok(false);
+    }
+    let first = points[0];
+    if first < floor {
+        return Ok(false);
+    }
+    if ceiling < first {
+        return Ok(false);
+    }
+    walker.follow(journal, first)?;
+    // For the proof: what lists always keep.
+    let _actions = walker.lists.actions();
+    let answers = JournalAnswers::new(journal, past, &walker.lists);
+    walk_at(
+        walk,
+        latest,
+        &answers,
+        hook,
+        frame,
+        Bounds { floor, ceiling },
+        points,
+    )
+}
+
+// Puts the line of a walk that has ended in place of what is there.
+fn put_line(
+    text: &mut Vec<u8>,
+    number: u64,
+    worker: u32,
+    walk: &Walk,
+    points: &[Point],
+) -> Result<(), AllocError>
+    ensures { (ended : WalkOutcome) → outcome_of walk.now.standing ≡ Some ended
+        → OnOk result (text.new.items ≡ packet_line number (recorded_by worker points.now ended)) }
+{
+    text.clear();
+    let frame = walk.frame();
+    push_packet_line(
+        text,
+        number,
+        worker,
+        walk.verdict(),
+        frame.bytes().len() as u64,
+        frame.meta(),
+        points,
+    )
+}
+
+// Adds a walk that has ended to what its worker saw and to the counts.
+fn note_walk(
+    walker: &mut Walker,
+    counts: &mut RunCounts,
+    walk: &Walk,
+    points: &[Point],
+) -> Result<(), NoMemory>
+    requires few { AreAtMost (2 ^ 62) counts.old }
+    ensures seen { walker.new ≡ record walker.old { seen = max walker.old.seen (greatest points.now) } }
+    ensures counts { (ended : WalkOutcome) → outcome_of walk.now.standing ≡ Some ended → OnOk result
+        ((serial : ℕ) → count_of counts.new serial ≡ both (count_of counts.old serial)
+        (counted_in (recorded_by 1 points.now ended).executed serial)) }
+    ensures short { (ended : WalkOutcome) → outcome_of walk.now.standing ≡ Some ended
+        → IsShortRun (recorded_by 1 points.now ended).executed }
+{
+    walker.seen = walker.seen.max(greatest(points));
+    counts.add(walk.executed())
+}
+
+// How many packets passed by this verdict.
+fn passes(verdict: Verdict) -> u64
+    ensures { result ≡ (if is_pass verdict then 1 else 0) }
+{
+    u64::from(matches!(verdict, Verdict::Pass))
+}
+
+/// Goes behind the line of a packet, the one at that place of the capture from 0, of a round before which
+/// `least` edits were accepted: `true`, where the line may come, and `false`, where the report is stuck.
+pub(crate) fn check_packet(
+    report: &[u8],
+    cursor: &mut Cursor,
+    replay: &Replay,
+    walkers: &mut Walkers,
+    least: Point,
+    place: u64,
+    hook: Hook,
+    frame: &[u8],
+) -> Result<bool, NoMemory>
+    requires cursor { IsWithin report.now cursor.old }
+    requires short { length frame.now ≤ FRAME_MAX }
+    requires few { walkers.old.passed + walkers.old.dropped < PACKETS_MAX }
+    requires number { place + 1 < 2 ^ 64 }
+    requires packet { (told : ToldRound)
+        × IsNextPacket told report.now cursor.old replay.now walkers.old least place hook frame.now }
+    ensures within { IsWithin report.now cursor.new }
+    ensures further { result ≡ Ok true → cursor.new.line ≡ cursor.old.line + 1 }
+    ensures taken { result ≡ Ok true → (told : ToldRound)
+        → IsNextPacket told report.now cursor.old replay.now walkers.old least place hook frame.now
+        → AreWalked told report.now cursor.new walkers.new (place + 1) }
+    ensures stuck { result ≡ Ok false → (told : ToldRound)
+        → IsNextPacket told report.now cursor.old replay.now walkers.old least place hook frame.now
+        → IsStuck told.loaded report.now cursor.new }
+{
+    let Walkers {
+        each,
+        counts,
+        passed,
+        dropped,
+        room,
+    } = walkers;
+    let Room {
+        walk,
+        latest,
+        points,
+        text,
+    } = room;
+    let Some(worker) = read_next(report, *cursor, points)? else {
+        return Ok(false);
+    };
+    if worker == 0 {
+        return Ok(false);
+    }
+    let place_of_worker = worker as usize - 1;
+    if place_of_worker >= each.len() {
+        return Ok(false);
+    }
+    let walker = &mut each[place_of_worker];
+    let points = points.as_slice();
+    let journal = replay.journal.as_slice();
+    if !walk_again(
+        walk,
+        latest,
+        walker,
+        journal,
+        &replay.past,
+        least,
+        hook,
+        frame,
+        points,
+    )? {
+        return Ok(false);
+    }
+    put_line(text, place + 1, worker, walk, points)?;
+    if !cursor.take(report, text.as_slice()) {
+        return Ok(false);
+    }
+    let passes = passes(walk.verdict());
+    *passed += passes;
+    *dropped += 1 - passes;
+    note_walk(walker, counts, walk, points)?;
+    Ok(true)
+}
+
+/// Goes behind the lines of a round's packets, all of which come at one hook.
+pub(crate) fn check_packets(
+    report: &[u8],
+    cursor: &mut Cursor,
+    replay: &Replay,
+    walkers: &mut Walkers,
+    least: Point,
+    hook: Hook,
+    packets: &Packets,
+) -> Result<bool, NoMemory>
+    requires cursor { IsWithin report.now cursor.old }
+    requires short { AreShort packets.now }
+    requires few { walkers.old.passed + walkers.old.dropped + length packets.now ≤ PACKETS_MAX }
+    requires packets { (told : ToldRound)
+        × IsAtPackets told report.now cursor.old replay.now walkers.old least hook packets.now }
+    ensures within { IsWithin report.now cursor.new }
+    ensures onward { result ≡ Ok true → cursor.old.line ≤ cursor.new.line }
+    ensures taken { result ≡ Ok true → (told : ToldRound)
+        → IsAtPackets told report.now cursor.old replay.now walkers.old least hook packets.now
+        → AreWalked told report.now cursor.new walkers.new (length packets.now) }
+    ensures stuck { result ≡ Ok false → (told : ToldRound)
+        → IsAtPackets told report.now cursor.old replay.now walkers.old least hook packets.now
+        → IsStuck told.loaded report.now cursor.new }
+{
+    for place in 0..packets.len() {
+        let frame = packets.get(place).bytes;
+        if !check_packet(
+            report,
+            cursor,
+            replay,
+            walkers,
+            least,
+            place as u64,
+            hook,
+            frame,
+        )? {
+            return Ok(false);
+        }
+    }
+    Ok(true)
+}

@@ -1,0 +1,4 @@
+pub mod Parts
+pub mod AtLines
+pub mod Meeting
+pub mod Turning

@@ -1,0 +1,5 @@
+pub mod Blanks
+pub mod Cursors
+pub mod Lines
+pub mod Replays
+pub mod Told
