@@ -1,0 +1,13 @@
+-- What is answered of a report (this project's own).
+use Rattle.std.specs.Prelude.{ℕ, List}
+use Rattle.lawful_runs.specs.declared.loaded.LoadedJob.{LoadedJob}
+use Rattle.lawful_runs.specs.Lawful.{IsLawfulReport}
+use Rattle.report_laws.specs.OfWholePaths.FirstBadLines.{IsFirstBadLine}
+use Rattle.report_check.specs.declared.check.Check.{Check}
+use Rattle.report_check.specs.declared.check.Check.TheVariants as checks
+
+-- THE ANSWER: the bytes are the report of a lawful run of the job, or this is the first line with which none
+-- goes on
+abbrev pub IsCheckOf : LoadedJob → List ℕ → Check → Type 0
+IsCheckOf loaded bytes checks.Lawful = IsLawfulReport loaded bytes
+IsCheckOf loaded bytes (checks.Unlawful line) = IsFirstBadLine loaded bytes line
