@@ -10,3 +10,4 @@ pub mod Arriving
 pub mod Captures
 pub mod Rounding
 pub mod LastLines
+pub mod OneCheck

@@ -25,6 +25,7 @@
 mod check;
 mod closing;
 mod counts;
+mod law;
 mod lines;
 mod packets;
 mod rechecking;
@@ -33,4 +34,5 @@ mod walker;
 mod walkers;
 
 pub use check::Check;
+pub use law::one_check;
 pub use rechecking::recheck;

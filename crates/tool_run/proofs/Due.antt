@@ -23,6 +23,7 @@ use Rattle.tool_run.specs.Holdings.{HasCommands}
 use Rattle.tool_run.specs.Work.{BatchEnds, BatchBreaks, Ends, Breaks, IsRead, Stops}
 use Rattle.tool_run.specs.Causes.{DueTo}
 use Rattle.tool_run.proofs.Readings.{same_run}
+use Rattle.tool_run.proofs.Rechecking.{recheck_due, one_recheck, rechecked_stands}
 
 -- ---- a batch: it ran, or it passes the limit of commands
 abbrev IsPast : Option Held → List ℕ → Status → Type 0
@@ -67,7 +68,7 @@ show_due told b (statuses.LinesRefused n) due = inl due
 show_due told b (statuses.BadInput name place kind) due = inr (past_due told b name place kind due)
 show_due told b (statuses.NotBuilt name place) due = absurd due
 show_due told b (statuses.ReadFault name) due = absurd due
-show_due told b (statuses.NotLawful line) due = absurd due
+show_due told b (statuses.NotLawful line) due = inl due
 show_due told b statuses.Usage due = absurd due
 show_due told b statuses.WriteFault due = absurd due
 show_due told b statuses.NoMemory due = absurd due
@@ -109,7 +110,7 @@ walk_due told hook b c o (statuses.LinesRefused n) due = inl due
 walk_due told hook b c o (statuses.BadInput name place kind) due = break_due told b c name place kind due
 walk_due told hook b c o (statuses.NotBuilt name place) due = absurd due
 walk_due told hook b c o (statuses.ReadFault name) due = absurd due
-walk_due told hook b c o (statuses.NotLawful line) due = absurd due
+walk_due told hook b c o (statuses.NotLawful line) due = inl due
 walk_due told hook b c o statuses.Usage due = absurd due
 walk_due told hook b c o statuses.WriteFault due = absurd due
 walk_due told hook b c o statuses.NoMemory due = absurd due
@@ -148,7 +149,7 @@ gen_due told count front (statuses.LinesRefused n) due = due
 gen_due told count front (statuses.BadInput name place kind) due = absurd due
 gen_due told count front (statuses.NotBuilt name place) due = absurd due
 gen_due told count front (statuses.ReadFault name) due = absurd due
-gen_due told count front (statuses.NotLawful line) due = absurd due
+gen_due told count front (statuses.NotLawful line) due = due
 gen_due told count front statuses.Usage due = absurd due
 gen_due told count front statuses.WriteFault due = absurd due
 gen_due told count front statuses.NoMemory due = absurd due
@@ -173,7 +174,8 @@ stopped_due told r ends breaks stops (statuses.NotBuilt name place) due =
     let at = stops name place due in
     ap (λ (x : List ℕ). statuses.NotBuilt x place) at.0 ∙ ap (statuses.NotBuilt (verb_of r)) at.1
 stopped_due told r ends breaks stops (statuses.ReadFault name) due = absurd due
-stopped_due told r ends breaks stops (statuses.NotLawful line) due = absurd due
+stopped_due told r ends breaks stops (statuses.NotLawful line) due =
+    absurd (ends (statuses.NotLawful line) due)
 stopped_due told r ends breaks stops statuses.Usage due = absurd due
 stopped_due told r ends breaks stops statuses.WriteFault due = absurd due
 stopped_due told r ends breaks stops statuses.NoMemory due = absurd due
@@ -189,8 +191,7 @@ one_due held (Run j) x y h k =
     let is = stopped_due (Some held) (Run j) (λ s e. e) (λ n p w e. e) (λ n p e. e) in
     is x h ∙ sym (is y k)
 one_due held (Recheck j p) x y h k =
-    let is = stopped_due (Some held) (Recheck j p) (λ s e. e) (λ n p w e. e) (λ n p e. e) in
-    is x h ∙ sym (is y k)
+    one_recheck held j p x y (recheck_due (Some held) j p x h) (recheck_due (Some held) j p y k)
 one_due held (Gen n p) x y h k =
     one_gen (Some held) n p x y (gen_due (Some held) n p x h) (gen_due (Some held) n p y k)
 
@@ -207,5 +208,6 @@ stands held (Walk hook b c o) name status (inr is) due =
     let there = capture_stands held b c status is.1 (walk_due (Some held) hook b c o status due) in
     (there.0, subst (λ (n : List ℕ). Holds (Some held) n there.0) (sym is.0) there.1)
 stands held (Run j) name status is due = absurd is
-stands held (Recheck j p) name status is due = absurd is
+stands held (Recheck j p) name status is due =
+    rechecked_stands held j p name status (recheck_due (Some held) j p status due) is
 stands held (Gen n p) name status is due = absurd is

@@ -19,6 +19,7 @@ use Rattle.tool_run.specs.Work.{Ends, IsRead}
 use Rattle.tool_run.specs.Causes.{DueTo, DueIn, CausedTo, FailedOutside, IsNotBuilt}
 use Rattle.tool_run.specs.Ready.{IsReady}
 use Rattle.tool_run.proofs.Due.{one_due, stands}
+use Rattle.tool_run.proofs.Rechecking.{recheck_complete}
 
 -- ---- at most one answer is due, wherever the shelf tells what it holds
 nothing_told : (o : Option Held) → o ≡ None → IsSome o → ⊥
@@ -81,7 +82,7 @@ exact_to held read_faults failed_name write_faults faults old new a b r statuses
     absurd cause
 exact_to held read_faults failed_name write_faults faults old new a b r (statuses.NotLawful n) cause some
     status due =
-    absurd cause
+    inl (due_is (held old) r (statuses.NotLawful n) status some cause due)
 
 -- the same where these words ask for it
 pub exact : {S O : Type 0} (held : S → Option Held) (read_faults : S → ℕ) (failed_name : S → Option (List ℕ))
@@ -112,25 +113,27 @@ ran told b bytes batch =
     let some = some_ran no_state 0 (commands_of bytes) in
     (some.0, record { bytes = bytes; batch = batch; runs = some.1 })
 
-owes : (told : Option Held) (r : Request) → IsReady told r → Owes told r
+-- a recheck owes one of its answers, and only whoever judges the report tells which
+owes : (told : Option Held) (r : Request) → IsReady told r
+    → Owes told r ⊎ ((job : List ℕ) × (report : List ℕ) × (r ≡ Recheck job report))
 owes told (Show b) ready =
     let has = ran told b ready.bytes ready.batch in
-    batch_owes told (Show b) (is_some has.0.stop) (has.0, has.1, refl)
+    inl (batch_owes told (Show b) (is_some has.0.stop) (has.0, has.1, refl))
 owes told (Walk hook b c o) ready =
     let has = ran told b ready.bytes ready.batch_stands in
-    batch_owes told (Walk hook b c o) (is_some has.0.stop)
-    ((has.0, has.1, refl), (ready.packets, ready.capture_stands))
+    inl (batch_owes told (Walk hook b c o) (is_some has.0.stop)
+    ((has.0, has.1, refl), (ready.packets, ready.capture_stands)))
 owes told (Run j) ready = absurd ready
-owes told (Recheck j p) ready = absurd ready
+owes told (Recheck j p) ready = inr (j, p, refl)
 owes told (Gen count front) ready =
     let has = some_ran no_state 0 (commands_of (batch_text count)) in
-    batch_owes told (Gen count front) (is_some has.0.stop) (has.0, has.1, refl)
+    inl (batch_owes told (Gen count front) (is_some has.0.stop) (has.0, has.1, refl))
 
 tells : (told : Option Held) (r : Request) → IsReady told r → IsSome told
 tells told (Show b) ready = subst (λ (o : Option Held). IsSome o) (sym ready.tells) refl
 tells told (Walk hook b c o) ready = subst (λ (o : Option Held). IsSome o) (sym ready.tells) refl
 tells told (Run j) ready = absurd ready
-tells told (Recheck j p) ready = absurd ready
+tells told (Recheck j p) ready = subst (λ (o : Option Held). IsSome o) (sym ready.tells) refl
 tells told (Gen count front) ready = ready
 
 -- where no count rose, only memory keeps an answer from being the one that is due
@@ -173,9 +176,7 @@ complete_to : {S O : Type 0} (held : S → Option Held) (read_faults : S → ℕ
     → IsAllDone result ⊎ IsNotBuilt result ⊎ (result ≡ statuses.NoMemory)
 complete_to held read_faults failed_name write_faults faults old new a b r result cause ready reads writes
     sinks =
-    let due = owes (held old) r ready in
-    by_answer due (exact_to held read_faults failed_name write_faults faults old new a b r result cause
-    (tells (held old) r ready) due.0 due.1)
+    by_owed (owes (held old) r ready)
   where
     by_answer : (due : Owes (held old) r) → (result ≡ due.0)
         ⊎ FailedOutside read_faults write_faults faults old new a b result → IsAllDone result
@@ -183,6 +184,16 @@ complete_to held read_faults failed_name write_faults faults old new a b r resul
     by_answer due (inl e) = owed result due.0 e due.2
     by_answer due (inr failed) =
         inr (inr (quiet read_faults write_faults faults old new a b result failed reads writes sinks))
+
+    by_owed : Owes (held old) r ⊎ ((job : List ℕ) × (report : List ℕ) × (r ≡ Recheck job report))
+        → IsAllDone result ⊎ IsNotBuilt result ⊎ (result ≡ statuses.NoMemory)
+    by_owed (inl due) =
+        by_answer due (exact_to held read_faults failed_name write_faults faults old new a b r result cause
+        (tells (held old) r ready) due.0 due.1)
+    by_owed (inr (job, report, is)) =
+        recheck_complete held read_faults failed_name write_faults faults old new a b job report result
+        (subst (λ (q : Request). CausedTo held read_faults failed_name write_faults faults old new a b q result) is cause)
+        (subst (λ (q : Request). IsReady (held old) q) is ready) reads writes sinks
 
 -- the same where these words ask for it
 pub complete : {S O : Type 0} (held : S → Option Held) (read_faults : S → ℕ)

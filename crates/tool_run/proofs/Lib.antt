@@ -6,5 +6,6 @@ pub mod Lines
 pub mod Making
 pub mod PacketLines
 pub mod Readings
+pub mod Rechecking
 pub mod Walking
 pub mod Writing

@@ -5,7 +5,7 @@ use Rattle.tool_words.specs.declared.status.Status.{Status}
 use Rattle.tool_words.specs.declared.status.Status.TheVariants as statuses
 use Rattle.tool_words.specs.Command.{Request, request_of}
 use Rattle.input_files.specs.Failures.{ReadFails}
-use Rattle.tool_run.specs.Work.{Ends, Breaks, IsRead, Stops, IsUnlawful}
+use Rattle.tool_run.specs.Work.{Ends, Breaks, IsRead, Stops}
 
 -- a put or a write failed
 abbrev pub WriteFails : {S O : Type 0} → (S → ℕ) → (O → ℕ) → S → S → O → O → Type 0
@@ -17,7 +17,7 @@ abbrev pub DueTo : Option Held → Request → Status → Type 0
 DueTo told request statuses.Done = Ends told request statuses.Done
 DueTo told request (statuses.LinesRefused count) = Ends told request (statuses.LinesRefused count)
 DueTo told request (statuses.BadInput name place kind) = Breaks told request name place kind
-DueTo told request (statuses.NotLawful line) = IsUnlawful told request line
+DueTo told request (statuses.NotLawful line) = Ends told request (statuses.NotLawful line)
 DueTo told request (statuses.NotBuilt name place) = Stops told request name place
 DueTo told request status = ⊥
 

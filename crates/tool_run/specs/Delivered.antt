@@ -7,11 +7,13 @@ use Rattle.batch_show.specs.Shown.{shown}
 use Rattle.gen_run.specs.Generated.{IsRunOf, made_files, made_text}
 use Rattle.tool_words.specs.declared.status.Status.{Status}
 use Rattle.tool_words.specs.declared.status.Status.TheVariants as statuses
-use Rattle.tool_words.specs.Command.{Request, Walk, Show, Gen}
+use Rattle.tool_words.specs.Command.{Request, Walk, Show, Recheck, Gen}
+use Rattle.report_check.specs.declared.check.Check.{Check}
 use Rattle.tool_words.specs.Requests.{Names}
 use Rattle.tool_words.specs.Ends.{status_after}
 use Rattle.tool_run.specs.Holdings.{HasRun, Gives}
 use Rattle.tool_run.specs.Made.{AllStand, AllElseStay, PutUpTo}
+use Rattle.tool_run.specs.Rechecks.{Judges, status_of_check, check_text}
 
 -- the text that the held batch gives was written, whole, and nothing put
 pub record Showed (held_old held_new : Option Held) (written_old written_new : Option (List ℕ))
@@ -30,6 +32,15 @@ pub record Walked (held_old held_new : Option Held) (written_old written_new : O
   pub gives : Gives held_old hook names output text status
   pub put : Stands held_new names.output output
   pub wrote : Appended written_old written_new text
+
+-- the answer of what is held was written, and nothing put
+pub record Rechecked (held_old held_new : Option Held) (written_old written_new : Option (List ℕ))
+    (job report : List ℕ) (status : Status) : Type 0 where
+  pub check : Check
+  pub judges : Judges held_old job report check
+  pub ended : status ≡ status_of_check check
+  pub same : held_new ≡ held_old
+  pub wrote : Appended written_old written_new (check_text check)
 
 -- the four files of so many filters stand, every other name holds what it held, and the text was written
 pub record Made (held_old held_new : Option Held) (written_old written_new : Option (List ℕ)) (count : ℕ)
@@ -51,6 +62,8 @@ DeliveredTo held_old held_new written_old written_new (Walk hook b c o) status =
     status
 DeliveredTo held_old held_new written_old written_new (Gen count front) status =
     Made held_old held_new written_old written_new count front status
+DeliveredTo held_old held_new written_old written_new (Recheck job report) status =
+    Rechecked held_old held_new written_old written_new job report status
 DeliveredTo held_old held_new written_old written_new request status = ⊥
 
 abbrev pub DeliveredIn : Option Held → Option Held → Option (List ℕ) → Option (List ℕ) → Option Request
@@ -80,6 +93,13 @@ pub record ShowedFront (held_old : Option Held) (written_old written_new : Optio
   pub ran : Ran
   pub runs : HasRun held_old name ran
   pub wrote : AppendsUpTo written_old written_new (shown ran)
+
+-- a front of the answer was written
+pub record RecheckedFront (held_old : Option Held) (written_old written_new : Option (List ℕ))
+    (job report : List ℕ) : Type 0 where
+  pub check : Check
+  pub judges : Judges held_old job report check
+  pub wrote : AppendsUpTo written_old written_new (check_text check)
 
 -- a front of a walk's text was written, and then the whole output was put before
 pub record WroteFront (held_old held_new : Option Held) (written_old written_new : Option (List ℕ))
@@ -114,6 +134,9 @@ CameSoFar held_old held_new written_old written_new (Show b) =
     (held_new ≡ held_old) × ((written_new ≡ written_old) ⊎ ShowedFront held_old written_old written_new b)
 CameSoFar held_old held_new written_old written_new (Walk hook b c o) =
     WalkedSoFar held_old held_new written_old written_new hook (record { batch = b; capture = c; output = o })
+CameSoFar held_old held_new written_old written_new (Recheck job report) =
+    (held_new ≡ held_old)
+    × ((written_new ≡ written_old) ⊎ RecheckedFront held_old written_old written_new job report)
 CameSoFar held_old held_new written_old written_new (Gen count front) =
     MadeSoFar held_old held_new written_old written_new count front
 CameSoFar held_old held_new written_old written_new request =

@@ -6,4 +6,5 @@ pub mod Made
 pub mod Parts
 pub mod Promises
 pub mod Ready
+pub mod Rechecks
 pub mod Work

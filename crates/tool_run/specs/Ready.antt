@@ -4,8 +4,10 @@ use Rattle.walk_ends.specs.declared.limits.TheConstants.{PACKETS_MAX}
 use Rattle.std.specs.Prelude.{◌≡◌, ℕ, List, Option, Some, IsSome}
 use Rattle.tc_base.specs.Outside.{Held}
 use Rattle.pcap_io.specs.declared.capture.Capture.{Capture}
-use Rattle.tool_words.specs.Command.{Request, Walk, Show, Gen}
-use Rattle.input_files.specs.Holdings.{HasBatch, HasCapture}
+use Rattle.lawful_runs.specs.declared.loaded.LoadedJob.{LoadedJob}
+use Rattle.tool_words.specs.Command.{Request, Walk, Show, Recheck, Gen}
+use Rattle.input_files.specs.Holdings.{Holds, HasBatch, HasCapture}
+use Rattle.job_files.specs.Holdings.{HasJob}
 
 -- the shelf tells what it holds, and the batch stands
 pub record ShowReady (told : Option Held) (name : List ℕ) : Type 0 where
@@ -23,9 +25,19 @@ pub record WalkReady (told : Option Held) (batch capture : List ℕ) : Type 0 wh
   pub packets : Capture
   pub capture_stands : HasCapture told PACKETS_MAX capture packets
 
+-- the shelf tells what it holds, the job stands with its files, and so does the report, whatever it says
+pub record RecheckReady (told : Option Held) (job report : List ℕ) : Type 0 where
+  pub held : Held
+  pub tells : told ≡ Some held
+  pub loaded : LoadedJob
+  pub job_stands : HasJob told job loaded
+  pub bytes : List ℕ
+  pub report_stands : Holds told report bytes
+
 -- `gen` has no input: there it is enough that the shelf tells what it holds
 abbrev pub IsReady : Option Held → Request → Type 0
 IsReady told (Show b) = ShowReady told b
 IsReady told (Walk hook b c o) = WalkReady told b c
+IsReady told (Recheck job report) = RecheckReady told job report
 IsReady told (Gen count front) = IsSome told
 IsReady told request = ⊥

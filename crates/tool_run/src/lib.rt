@@ -6,10 +6,10 @@
 //! the words that run no job.
 //!
 //! Each command has a module of its own, which reads its files in their order (`input_files`), where the first
-//! fault ends the run; `run_show`, `run_walk` and `run_gen` work out all that one command asks for, then put,
-//! then write; `text` writes line by line, so that a text of a million lines is never held, and `packet_line`
+//! fault ends the run; `run_show`, `run_walk`, `run_recheck` and `run_gen` work out all that one command asks
+//! for, then put, then write; `text` writes line by line, so that a text of a million lines is never held, and `packet_line`
 //! makes each packet's line of the one before, whose number is counted up where it stands. What is put and
-//! written comes from `batch_show`, `batch_walk` and `gen_run`. A walk's output is put in pieces of its
+//! written comes from `batch_show`, `batch_walk`, `report_check` and `gen_run`. A walk's output is put in pieces of its
 //! input, which therefore lives until then.
 //!
 //! It is no part of the program since a run needs no process: tests call it with a shelf and a sink of their
@@ -22,6 +22,7 @@
 mod input;
 mod packet_line;
 mod run_gen;
+mod run_recheck;
 mod run_show;
 mod run_walk;
 mod serving;

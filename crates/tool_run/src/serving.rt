@@ -4,14 +4,17 @@ ghost use Rattle.tool_words.specs.Command.{texts, request_of, asks_for_job};
 ghost use Rattle.tool_words.specs.Requests.{request, HasFewFilters};
 ghost use Rattle.tool_words.specs.Ends.{status_after, IsAllDone};
 ghost use Rattle.tool_run.specs.Causes.{CausedTo};
+ghost use Rattle.tool_run.specs.Rechecks.{status_of_check};
 ghost use Rattle.tool_run.specs.Delivered.{DeliveredTo, LeavesAllUnlessRun, CameSoFar};
 ghost use Rattle.tool_run.specs.Promises.{UsageExactlyForNoCommand, DoneOnlyIfDelivered, HasCause};
 ghost use Rattle.tool_run.specs.Promises.{DueUnlessFailed, DoneIfReady, NothingIfAtFault, CameInOrder};
 
 use crate::input::not_built;
 use crate::run_gen::run_gen;
+use crate::run_recheck::run_recheck;
 use crate::run_show::run_show;
 use crate::run_walk::run_walk;
+use report_check::Check;
 use std::alloc::Global;
 use tc_base::{Shelf, Sink};
 use tool_words::{Command, Status, WalkNames, command_of};
@@ -23,6 +26,15 @@ fn ended(refused: bool) -> Status
         Status::LinesRefused { count: 1 }
     } else {
         Status::Done
+    }
+}
+
+fn judged(check: Check) -> Status
+    ensures { result ≡ status_of_check check }
+{
+    match check {
+        Check::Lawful => Status::Done,
+        Check::Unlawful { line } => Status::NotLawful { line },
     }
 }
 
@@ -64,6 +76,10 @@ fn serve<S: Shelf, O: Sink>(
                 Err(status) => status,
             }
         }
+        Command::Recheck { job, report } => match run_recheck(alloc, job, report, shelf, out) {
+            Ok(check) => judged(check),
+            Err(status) => status,
+        },
         Command::Gen { count, front } => match run_gen(alloc, count, front, shelf, out) {
             Ok(refused) => ended(refused),
             Err(status) => status,

@@ -15,10 +15,11 @@ abbrev pub status_after : Bool → Status
 status_after false = statuses.Done
 status_after true = statuses.LinesRefused 1
 
--- all was done, whether or not a line was refused
+-- all was done, whether or not a line was refused, or a report is lawful
 abbrev pub IsAllDone : Status → Type 0
 IsAllDone statuses.Done = Unit {0}
 IsAllDone (statuses.LinesRefused count) = Unit {0}
+IsAllDone (statuses.NotLawful line) = Unit {0}
 IsAllDone status = ⊥
 
 -- the number with which the process ends: 8 is free

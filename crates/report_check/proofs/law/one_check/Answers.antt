@@ -1,0 +1,5 @@
+use Rattle.report_check.proofs.OneCheck.{one_answer}
+use Rattle.report_check.proofs.law.one_check.Goals as goal
+
+pub returns : goal.returns
+returns c = one_answer
