@@ -27,11 +27,11 @@ use Rattle.report_laws.proofs.ShortJournals.{journal_few}
 use Rattle.report_laws.proofs.OfWholePaths.Completing.{completes}
 use Rattle.report_laws.proofs.OfWholePaths.Reached.{run_of_path}
 use Rattle.report_laws.proofs.OfWholePaths.Exact.{bad_line, cut_short, whole_report}
-use Rattle.report_events.specs.declared.cursor.Cursor.{Cursor}
-use Rattle.report_events.specs.Cursors.{lines_left, IsAt, GetsStuck, IsStuck, MustBe}
+use Rattle.report_check.specs.declared.events.cursor.Cursor.{Cursor}
+use Rattle.report_check.specs.OfEvents.Cursors.{lines_left, IsAt, GetsStuck, IsStuck, MustBe}
 use Rattle.report_check.specs.declared.rounds.Progress.{Progress}
 use Rattle.report_check.specs.Counting.{count_of, counted_in, counted_lines}
-use Rattle.report_events.specs.Replays.{IsKept}
+use Rattle.report_check.specs.OfEvents.Replays.{IsKept}
 use Rattle.report_check.specs.Walked.{AreWalkers}
 use Rattle.report_check.specs.Between.{IsBetween}
 use Rattle.report_check.proofs.Captures.{given_end}

@@ -11,3 +11,4 @@ pub mod Captures
 pub mod Rounding
 pub mod LastLines
 pub mod OneCheck
+pub mod OfEvents

@@ -12,7 +12,7 @@ use Rattle.hook_lists.specs.declared.kept.Kept.{Kept}
 use Rattle.filter_lists.specs.Spells.{Spells}
 use Rattle.filter_lists.specs.Edits.{IsStepped, MayStep}
 use Rattle.std.proofs.lemmas.List.{length-take}
-use Rattle.report_events.proofs.Meeting.{may_step}
+use Rattle.report_check.proofs.OfEvents.Meeting.{may_step}
 
 step_from : (s : State) (journal : List Edit) (k : ℕ) (edit : Edit) → slice_get journal k ≡ Some edit
     → state_from s (take (k + 1) journal) ≡ state_after (state_from s (take k journal)) (step (state_from s (take k journal)) edit)

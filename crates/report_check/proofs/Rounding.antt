@@ -23,10 +23,10 @@ use Rattle.report_laws.specs.OfWholePaths.FirstBadLines.{IsOpen}
 use Rattle.report_laws.proofs.Paths.{outcomes_push}
 use Rattle.report_laws.proofs.Texts.{edits_append, edits_cons}
 use Rattle.report_laws.proofs.OfNextLines.NextOutcomes.{takes_end_alone}
-use Rattle.report_events.specs.declared.cursor.Cursor.{Cursor}
-use Rattle.report_events.specs.declared.replay.Replay.{Replay}
-use Rattle.report_events.specs.Cursors.{IsAt, MustBe}
-use Rattle.report_events.specs.Told.{HasBegun, AreOver}
+use Rattle.report_check.specs.declared.events.cursor.Cursor.{Cursor}
+use Rattle.report_check.specs.declared.events.replay.Replay.{Replay}
+use Rattle.report_check.specs.OfEvents.Cursors.{IsAt, MustBe}
+use Rattle.report_check.specs.OfEvents.Told.{HasBegun, AreOver}
 use Rattle.report_check.specs.declared.rounds.Progress.{Progress}
 use Rattle.report_check.specs.declared.walkers.Walkers.{Walkers}
 use Rattle.report_check.specs.Walked.{AreWalkers}

@@ -5,9 +5,9 @@ use Rattle.lawful_runs.specs.declared.loaded.LoadedJob.{LoadedJob}
 use Rattle.line_cut_laws.specs.Cuts.{byte_before, cut}
 use Rattle.report_laws.specs.Stands.{Stand, Takes}
 use Rattle.report_laws.specs.OfWholePaths.FirstBadLines.{IsOpen}
-use Rattle.report_events.specs.declared.cursor.Cursor.{Cursor}
-use Rattle.report_events.specs.Cursors.{IsWithin, IsNextLine, lines_left, IsAt, IsStuck}
-use Rattle.report_events.proofs.AtLines.{next_is, stuck_at_end, stuck_at_line}
+use Rattle.report_check.specs.declared.events.cursor.Cursor.{Cursor}
+use Rattle.report_check.specs.OfEvents.Cursors.{IsWithin, IsNextLine, lines_left, IsAt, IsStuck}
+use Rattle.report_check.proofs.OfEvents.AtLines.{next_is, stuck_at_end, stuck_at_line}
 
 abbrev IsRest : List ℕ → List ℕ → List (List ℕ) → Type 0
 IsRest bytes line rest = cut (drop (length line) bytes) ≡ rest

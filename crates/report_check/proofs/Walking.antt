@@ -21,10 +21,10 @@ use Rattle.report_laws.proofs.OfNextLines.Walked.{walked}
 use Rattle.report_laws.proofs.OfNextLines.NextPackets.{is_walked}
 use Rattle.report_laws.proofs.OfNextLines.NextOutcomes.{takes_walk, takes_walk_alone}
 use Rattle.report_reading.specs.Packets.{IsSmall}
-use Rattle.report_events.specs.declared.cursor.Cursor.{Cursor}
-use Rattle.report_events.specs.declared.replay.Replay.{Replay}
-use Rattle.report_events.specs.Cursors.{IsNextLine, IsAt, MustBe}
-use Rattle.report_events.proofs.Turning.{short_journal, unended}
+use Rattle.report_check.specs.declared.events.cursor.Cursor.{Cursor}
+use Rattle.report_check.specs.declared.events.replay.Replay.{Replay}
+use Rattle.report_check.specs.OfEvents.Cursors.{IsNextLine, IsAt, MustBe}
+use Rattle.report_check.proofs.OfEvents.Turning.{short_journal, unended}
 use Rattle.report_check.specs.declared.walkers.Walkers.{Walkers}
 use Rattle.report_check.specs.Walks.{ShowsWalk, WalksTo}
 use Rattle.report_check.specs.declared.walker.Walker.{Walker}

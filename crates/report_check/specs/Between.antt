@@ -6,10 +6,10 @@ use Rattle.lawful_runs.specs.declared.loaded.LoadedJob.{LoadedJob}
 use Rattle.lawful_runs.specs.Given.{captures_named, packet_count}
 use Rattle.lawful_runs.specs.Lawful.{outcomes_in}
 use Rattle.report_laws.specs.Stands.{settled}
-use Rattle.report_events.specs.declared.cursor.Cursor.{Cursor}
-use Rattle.report_events.specs.declared.replay.Replay.{Replay}
-use Rattle.report_events.specs.Cursors.{IsAt}
-use Rattle.report_events.specs.Replays.{IsKept}
+use Rattle.report_check.specs.declared.events.cursor.Cursor.{Cursor}
+use Rattle.report_check.specs.declared.events.replay.Replay.{Replay}
+use Rattle.report_check.specs.OfEvents.Cursors.{IsAt}
+use Rattle.report_check.specs.OfEvents.Replays.{IsKept}
 use Rattle.report_check.specs.declared.rounds.Progress.{Progress}
 use Rattle.report_check.specs.declared.walkers.Walkers.{Walkers}
 use Rattle.report_check.specs.Walked.{AreWalkers}

@@ -4,3 +4,4 @@ pub mod Walked
 pub mod Walks
 pub mod Rounds
 pub mod Between
+pub mod OfEvents

@@ -10,8 +10,8 @@ use Rattle.run_report.specs.declared.outcomes.Outcome.{Outcome}
 use Rattle.run_report.specs.PacketTexts.{packet_line}
 use Rattle.report_laws.specs.OfNextLines.Walks.{answers_of}
 use Rattle.report_reading.specs.Packets.{IsSmall}
-use Rattle.report_events.specs.declared.cursor.Cursor.{Cursor}
-use Rattle.report_events.specs.Cursors.{IsNextLine}
+use Rattle.report_check.specs.declared.events.cursor.Cursor.{Cursor}
+use Rattle.report_check.specs.OfEvents.Cursors.{IsNextLine}
 use Rattle.report_check.specs.declared.walker.Walker.{Walker}
 
 -- if the next line is a packet's, it shows this worker and these points

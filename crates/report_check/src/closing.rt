@@ -7,14 +7,14 @@ ghost use Rattle.run_report.specs.declared.record.RunRecord.{RunRecord};
 ghost use Rattle.lawful_runs.specs.declared.loaded.LoadedJob.{LoadedJob};
 ghost use Rattle.lawful_runs.specs.Given.{IsLoaded};
 ghost use Rattle.report_laws.specs.Stands.{closing};
-ghost use Rattle.report_events.specs.Cursors.{IsWithin, IsAt, IsStuck};
+ghost use Rattle.report_check.specs.OfEvents.Cursors.{IsWithin, IsAt, IsStuck};
 ghost use Rattle.report_check.specs.Between.{IsBetween};
 ghost use Rattle.report_check.specs.Counting.{counted_lines};
 
 use crate::counts::RunCounts;
 use crate::rounds::Progress;
 use batch_run::MadeAction;
-use report_events::Cursor;
+use crate::events::Cursor;
 use tc_base::NoMemory;
 use walk_texts::{Summary, push_counter, push_summary};
 

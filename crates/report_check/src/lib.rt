@@ -6,7 +6,7 @@
 //!
 //! It never looks for a run. `report_laws` says which line may come next by what was told before, and so the
 //! lines are judged one after the other: the text that has to stand there is made, and compared. Behind the
-//! title each round tells its events (`report_events`), then its packets, and then comes its last line;
+//! title each round tells its events (`events`), then its packets, and then comes its last line;
 //! behind the rounds come the counters, the summary and `end`.
 //!
 //! Of a packet's line the worker and the points are read, and the packet is walked again at these points
@@ -25,6 +25,7 @@
 mod check;
 mod closing;
 mod counts;
+mod events;
 mod law;
 mod lines;
 mod packets;

@@ -4,9 +4,9 @@ ghost use Rattle.lawful_runs.specs.declared.loaded.LoadedJob.{LoadedJob};
 ghost use Rattle.run_report.specs.Reports.{numbered_line};
 ghost use Rattle.report_laws.specs.Stands.{Stand, Takes};
 ghost use Rattle.report_laws.specs.OfWholePaths.FirstBadLines.{IsOpen};
-ghost use Rattle.report_events.specs.Cursors.{IsWithin, IsAt, IsStuck, MustBe};
+ghost use Rattle.report_check.specs.OfEvents.Cursors.{IsWithin, IsAt, IsStuck, MustBe};
 
-use report_events::Cursor;
+use crate::events::Cursor;
 use std::alloc::AllocError;
 use tc_base::NoMemory;
 use walk_texts::{push_count, push_text};

@@ -5,7 +5,7 @@ ghost use Rattle.filter_state.specs.declared.edit.Edit.{Edit};
 ghost use Rattle.run_report.specs.declared.record.RunRecord.{RunRecord};
 ghost use Rattle.lawful_runs.specs.Given.{IsLoaded};
 ghost use Rattle.report_laws.specs.Stands.{closing};
-ghost use Rattle.report_events.specs.Cursors.{IsWithin, IsAt, IsStuck};
+ghost use Rattle.report_check.specs.OfEvents.Cursors.{IsWithin, IsAt, IsStuck};
 ghost use Rattle.report_check.specs.Checks.{IsCheckOf};
 ghost use Rattle.report_check.specs.Between.{IsBetween};
 
@@ -14,7 +14,7 @@ use crate::closing::check_closing;
 use crate::rounds::{Progress, check_rounds};
 use crate::walkers::Walkers;
 use lawful_runs::LoadedJob;
-use report_events::{Cursor, Replay};
+use crate::events::{Cursor, Replay};
 use std::alloc::Global;
 use tc_base::NoMemory;
 

@@ -2,7 +2,7 @@
 ghost use Rattle.std.specs.Prelude.{◌≡◌, ◌+◌, ◌-◌, ◌≤◌, true, false, length, take, slice_get, Some, Ok};
 ghost use Rattle.job_lines.specs.declared.job.Round.{Round};
 ghost use Rattle.lawful_runs.specs.Given.{IsLoaded, capture_count, captures_named, packet_count};
-ghost use Rattle.report_events.specs.Cursors.{IsWithin, IsStuck};
+ghost use Rattle.report_check.specs.OfEvents.Cursors.{IsWithin, IsStuck};
 ghost use Rattle.report_check.specs.Rounds.{ToldRound, AreWalked};
 ghost use Rattle.report_check.specs.Between.{IsBetween, IsAtCapture};
 
@@ -10,7 +10,7 @@ use crate::lines::take_numbered;
 use crate::packets::check_packets;
 use crate::walkers::Walkers;
 use lawful_runs::LoadedJob;
-use report_events::{Cursor, Replay, check_events};
+use crate::events::{Cursor, Replay, check_events};
 use std::alloc::Global;
 use tc_base::{NoMemory, Point};
 

@@ -1,7 +1,7 @@
 use Rattle.std.proofs.Common.{rules, ◌≡◌, ◌++◌, Bool, true, false, List, Ok, length, ap, sym, subst}
 use Rattle.batch_run.specs.declared.made_action.MadeAction.{MadeAction}
 use Rattle.report_laws.specs.Stands.{closing, run_of}
-use Rattle.report_events.specs.Cursors.{IsAt}
+use Rattle.report_check.specs.OfEvents.Cursors.{IsAt}
 use Rattle.report_check.specs.Counting.{counted_lines}
 use Rattle.report_check.proofs.LastLines.{end_lines, at_closing, at_end}
 use Rattle.report_check.proofs.closing.check_closing.Goals as goal

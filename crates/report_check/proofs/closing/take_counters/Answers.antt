@@ -3,7 +3,7 @@ use Rattle.act_kinds.specs.declared.params.Kind.TheVariants.{Gact}
 use Rattle.batch_run.specs.declared.made_action.MadeAction.{MadeAction}
 use Rattle.round_terms.proofs.JobFiles.{there_at}
 use Rattle.report_laws.specs.Stands.{closing}
-use Rattle.report_events.specs.Cursors.{IsAt}
+use Rattle.report_check.specs.OfEvents.Cursors.{IsAt}
 use Rattle.report_check.specs.Counting.{counted_lines}
 use Rattle.report_check.proofs.LastLines.{counters_next, counter_text}
 use Rattle.report_check.proofs.closing.take_counters.Goals as goal

@@ -3,7 +3,7 @@ use Rattle.filter_state.specs.declared.edit.Edit.{Edit}
 use Rattle.run_report.specs.declared.record.RunRecord.{RunRecord}
 use Rattle.lawful_runs.specs.declared.loaded.LoadedJob.{LoadedJob}
 use Rattle.report_laws.specs.Stands.{closing}
-use Rattle.report_events.specs.Cursors.{IsWithin, IsAt}
+use Rattle.report_check.specs.OfEvents.Cursors.{IsWithin, IsAt}
 use Rattle.report_check.specs.Counting.{counted_lines}
 use Rattle.report_check.proofs.closing.take_counters.Given as goal
 

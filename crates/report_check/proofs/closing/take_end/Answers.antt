@@ -1,7 +1,7 @@
 use Rattle.std.proofs.Common.{rules, ◌≡◌, ◌∙◌, ◌++◌, ◌∷◌, [], true, false, List, ℕ, ap, sym, subst}
 use Rattle.walk_texts.specs.Texts.{summary_line}
 use Rattle.report_laws.specs.Stands.{closing}
-use Rattle.report_events.specs.Cursors.{IsAt}
+use Rattle.report_check.specs.OfEvents.Cursors.{IsAt}
 use Rattle.report_check.proofs.closing.take_end.Goals as goal
 
 pub returns-then-not-take_left-clause-stuck : goal.returns-then-not-take_left-clause-stuck

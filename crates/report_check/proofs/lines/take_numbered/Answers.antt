@@ -1,5 +1,5 @@
 use Rattle.std.proofs.Common.{◌≡◌, ◌∙◌, false, List, ℕ, sym, subst}
-use Rattle.report_events.specs.Cursors.{MustBe}
+use Rattle.report_check.specs.OfEvents.Cursors.{MustBe}
 use Rattle.report_check.proofs.lines.take_numbered.Goals as goal
 
 pub returns-clause-stuck : goal.returns-clause-stuck

@@ -1,6 +1,6 @@
 use Rattle.std.proofs.Common.{◌≤◌}
 use Rattle.report_check.specs.Rounds.{ToldRound, IsAtPackets, AreWalked}
-use Rattle.report_events.specs.Cursors.{IsWithin}
+use Rattle.report_check.specs.OfEvents.Cursors.{IsWithin}
 use Rattle.report_check.proofs.packets.check_packets.Given as goal
 
 abbrev pub invariant-loop-place : goal.invariant-loop-place

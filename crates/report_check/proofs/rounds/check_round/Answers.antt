@@ -1,6 +1,6 @@
 use Rattle.std.proofs.Common.{rules, ◌≡◌, ◌∙◌, ◌+◌, ◌-◌, ◌++◌, ◌∷◌, [], Bool, true, false, Ok, ap, arith}
 use Rattle.report_laws.specs.Stands.{opening, inside, no_round, settled}
-use Rattle.report_events.proofs.Turning.{unended}
+use Rattle.report_check.proofs.OfEvents.Turning.{unended}
 use Rattle.report_check.specs.Rounds.{journal_of, record_with, stand_with}
 use Rattle.report_check.proofs.Captures.{count_most, captures_few}
 use Rattle.report_check.proofs.Rounding.{is_opening, opening_open, first_must_be, first_takes, has_begun, told_of, is_told, at_capture, last_takes, last_must_be, is_between}

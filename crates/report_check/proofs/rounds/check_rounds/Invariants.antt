@@ -1,5 +1,5 @@
 use Rattle.std.proofs.Common.{◌-◌}
-use Rattle.report_events.specs.Cursors.{IsWithin}
+use Rattle.report_check.specs.OfEvents.Cursors.{IsWithin}
 use Rattle.report_check.specs.Between.{IsBetween}
 use Rattle.report_check.proofs.rounds.check_rounds.Given as goal
 

@@ -1,0 +1,116 @@
+//! A journal, and what its edits lead to.
+
+use batch_run::{MadeAction, log_made};
+use filter_lists::{Done, Edit, Lists, Refusal};
+use run_report::EventKind;
+use state_past::StatePast;
+use std::alloc::Global;
+use tc_base::NoMemory;
+use tc_batch::{LineFault, line};
+
+/// The accepted edits of a report so far, and what they lead to.
+#[derive(Drop)]
+pub struct Replay {
+    /// The edits, in order.
+    pub journal: Vec<Edit>,
+    /// What stood at each point of the journal.
+    pub past: StatePast,
+    /// The state behind it.
+    pub lists: Lists,
+    /// The name of each action that it made, in order.
+    pub made: Vec<MadeAction>,
+    /// How many command lines were refused.
+    pub refused: u64,
+}
+
+impl Replay {
+    ghost use Rattle.std.specs.Prelude.{◌≡◌, ◌≢◌, ◌≤◌, ◌<◌, ◌+◌, ◌^◌, [], length, Err};
+    ghost use Rattle.std.specs.Prelude.{IfOk, IfErr, OnOk, if◌then◌else◌};
+    ghost use Rattle.tc_words.specs.Lines.{words_of};
+    ghost use Rattle.filter_state.specs.declared.refusal.Refusal.TheVariants as refusals;
+    ghost use Rattle.filter_state.specs.Lines.{IsLine};
+    ghost use Rattle.filter_state.specs.States.{no_state};
+    ghost use Rattle.filter_state.specs.Steps.{step};
+    ghost use Rattle.filter_state.specs.Journals.{state_from};
+    ghost use Rattle.batch_run.specs.declared.limit.TheConstants.{COMMANDS_MAX};
+    ghost use Rattle.run_report.specs.Counts.{is_accepted};
+    ghost use Rattle.round_terms.specs.Underway.{IsMet};
+    ghost use Rattle.report_check.specs.OfEvents.Replays.{IsKept, IsAccepted};
+
+    /// No edits. It takes no memory yet.
+    pub fn new(alloc: Global) -> Replay
+        ensures kept { IsKept result }
+        ensures journal { result.journal.items ≡ [] }
+        ensures refused { result.refused ≡ 0 }
+    {
+        Replay {
+            journal: Vec::new(alloc),
+            past: StatePast::new(alloc),
+            lists: Lists::new(alloc),
+            made: Vec::new(alloc),
+            refused: 0,
+        }
+    }
+
+    /// Reads a command line, and applies its edit where it gives one: what the line comes to on the state
+    /// behind the journal. An accepted edit is put behind the journal, and any other line is counted as
+    /// refused.
+    ///
+    /// `NoMemory`: memory was refused, and nothing is promised of the replay.
+    pub fn meet(&mut self, alloc: Global, text: &[u8]) -> Result<EventKind, NoMemory>
+        requires kept { IsKept self.old }
+        requires short { length self.old.journal.items ≤ COMMANDS_MAX }
+        requires few { self.old.refused + 1 < 2 ^ 64 }
+        ensures met { IfOk result (IsMet self.old.journal.items self.new.journal.items (words_of text.now)) }
+        ensures kept { OnOk result (IsKept self.new) }
+        ensures refused { IfOk result (λ kind. self.new.refused
+            ≡ self.old.refused + (if is_accepted kind then 0 else 1)) }
+    {
+        let edit = match line(alloc, text) {
+            Ok(edit) => edit,
+            Err(LineFault::NoMemory) => return Err(NoMemory),
+            Err(LineFault::Syntax { word }) => {
+                self.refused += 1;
+                return Ok(EventKind::Syntax { word });
+            }
+        };
+        match self.apply(edit) {
+            Ok(done) => Ok(EventKind::Accepted(done)),
+            Err(refusal) => match refusal {
+                Refusal::NoMemory => Err(NoMemory),
+                _ => {
+                    self.refused += 1;
+                    Ok(EventKind::Refused(refusal))
+                }
+            },
+        }
+    }
+
+    // Applies an edit, and puts it behind the journal where it is accepted. Behind `NoMemory` nothing is
+    // promised.
+    fn apply(&mut self, edit: Edit) -> Result<Done, Refusal>
+        requires kept { IsKept self.old }
+        requires line { IsLine edit }
+        requires short { length self.old.journal.items ≤ COMMANDS_MAX }
+        ensures accepted { IfOk result (IsAccepted self.old.journal.items self.new.journal.items edit) }
+        ensures refused { IfErr result (λ refusal. refusal ≢ refusals.NoMemory
+            → step (state_from no_state self.old.journal.items) edit ≡ Err refusal) }
+        ensures kept { OnOk result (IsKept self.new) }
+        ensures stays { IfErr result (λ refusal. refusal ≢ refusals.NoMemory
+            → IsKept self.new × (self.new.journal.items ≡ self.old.journal.items)) }
+        ensures count { self.new.refused ≡ self.old.refused }
+    {
+        let before = self.lists.actions().made();
+        let done = match self.past.follow(&mut self.lists, &edit) {
+            Ok(done) => done,
+            Err(refusal) => return Err(refusal),
+        };
+        if log_made(&mut self.made, self.lists.actions().entries(), before).is_err() {
+            return Err(Refusal::NoMemory);
+        }
+        match self.journal.push(edit) {
+            Ok(()) => Ok(done),
+            Err(_) => Err(Refusal::NoMemory),
+        }
+    }
+}
