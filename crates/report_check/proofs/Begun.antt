@@ -7,7 +7,7 @@ use Rattle.filter_lists.specs.Spells.{Spells}
 use Rattle.walk_ends.specs.declared.counts.Count.{Count}
 use Rattle.report_check.specs.declared.walker.Walker.{Walker}
 use Rattle.report_check.specs.declared.walkers.Walkers.{Walkers}
-use Rattle.report_check.specs.Counting.{no_count, count_of}
+use Rattle.run_counts.specs.Counting.{no_count, count_of}
 use Rattle.report_check.specs.Walked.{IsWalker, AreWalkers}
 
 pub record IsFresh (walker : Walker) : Type 0 where

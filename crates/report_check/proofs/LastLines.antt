@@ -30,7 +30,8 @@ use Rattle.report_laws.proofs.OfWholePaths.Exact.{bad_line, cut_short, whole_rep
 use Rattle.report_check.specs.declared.events.cursor.Cursor.{Cursor}
 use Rattle.report_check.specs.OfEvents.Cursors.{lines_left, IsAt, GetsStuck, IsStuck, MustBe}
 use Rattle.report_check.specs.declared.rounds.Progress.{Progress}
-use Rattle.report_check.specs.Counting.{count_of, counted_in, counted_lines}
+use Rattle.run_counts.specs.Counting.{count_of, counted_in}
+use Rattle.report_check.specs.Counting.{counted_lines}
 use Rattle.report_check.specs.OfEvents.Replays.{IsKept}
 use Rattle.report_check.specs.Walked.{AreWalkers}
 use Rattle.report_check.specs.Between.{IsBetween}

@@ -1,4 +1,3 @@
-pub mod Tallies
 pub mod Lists
 pub mod Begun
 pub mod Stuck

@@ -19,10 +19,10 @@ use Rattle.lawful_runs.specs.Points.{is_by, greatest, seen_by}
 use Rattle.lawful_runs.specs.Lawful.{executed_in}
 use Rattle.report_check.specs.declared.walker.Walker.{Walker}
 use Rattle.report_check.specs.declared.walkers.Walkers.{Walkers}
-use Rattle.report_check.specs.Counting.{count_of, counted_in, both}
+use Rattle.run_counts.specs.Counting.{count_of, counted_in, both}
 use Rattle.report_check.specs.Walked.{IsWalker, AreWalkers}
 use Rattle.report_check.specs.Walks.{StandsIn, StandsAtFirst}
-use Rattle.report_check.proofs.Tallies.{counted_append}
+use Rattle.run_counts.proofs.Tallies.{counted_append}
 
 -- ---- the greatest of points
 fold_most : (start : ℕ) (points : List ℕ) → fold max start points ≡ max start (fold max 0 points)

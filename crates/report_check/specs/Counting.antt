@@ -1,31 +1,10 @@
--- How often each action ran, by serial (this project's own).
-use Rattle.std.specs.Prelude.{ℕ, ◌+◌, ◌≤◌, ◌==◌, List, map, get_or, count_by, sum_by, if◌then◌else◌}
+-- The lines of a run's counters (this project's own).
+use Rattle.std.specs.Prelude.{ℕ, List, map}
 use Rattle.batch_run.specs.declared.made_action.MadeAction.{MadeAction}
 use Rattle.walk_ends.specs.declared.counts.Count.{Count}
 use Rattle.walk_texts.specs.Texts.{counter_line}
+use Rattle.run_counts.specs.Counting.{count_of}
 
-abbrev pub no_count : Count
-no_count = record { packets = 0; bytes = 0 }
-
--- the count of a serial; a serial that never ran has none
-abbrev pub count_of : List Count → ℕ → Count
-count_of counts serial = get_or counts serial no_count
-
--- what these executions, each a serial and a length, come to for a serial
-abbrev pub counted_in : List (ℕ × ℕ) → ℕ → Count
-counted_in executed serial = record {
-  packets = count_by (λ (e : ℕ × ℕ). e.0 == serial) executed;
-  bytes = sum_by (λ (e : ℕ × ℕ). if e.0 == serial then e.1 else 0) executed;
-}
-
-abbrev pub both : Count → Count → Count
-both one other = record { packets = one.packets + other.packets; bytes = one.bytes + other.bytes }
-
--- no count is greater
-abbrev pub AreAtMost : ℕ → List Count → Type 0
-AreAtMost most counts =
-    (serial : ℕ) → ((count_of counts serial).packets ≤ most) × ((count_of counts serial).bytes ≤ most)
-
--- the lines of the counters of these actions
+-- one for each of these actions, in order
 abbrev pub counted_lines : List Count → List MadeAction → List (List ℕ)
 counted_lines counts made = map (λ (m : MadeAction). counter_line m (count_of counts m.serial)) made

@@ -11,7 +11,7 @@ use Rattle.lawful_runs.specs.Points.{seen_by}
 use Rattle.lawful_runs.specs.Lawful.{executed_in}
 use Rattle.report_check.specs.declared.walker.Walker.{Walker}
 use Rattle.report_check.specs.declared.walkers.Walkers.{Walkers}
-use Rattle.report_check.specs.Counting.{count_of, counted_in}
+use Rattle.run_counts.specs.Counting.{count_of, counted_in}
 
 -- a worker has seen what its walks among these saw, and its lists are those of a point no later than that
 pub record IsWalker (journal : List Edit) (outcomes : List Outcome) (number : ℕ) (walker : Walker)

@@ -11,7 +11,7 @@ ghost use Rattle.report_check.specs.OfEvents.Cursors.{IsWithin, IsAt, IsStuck};
 ghost use Rattle.report_check.specs.Between.{IsBetween};
 ghost use Rattle.report_check.specs.Counting.{counted_lines};
 
-use crate::counts::RunCounts;
+use run_counts::RunCounts;
 use crate::rounds::Progress;
 use batch_run::MadeAction;
 use crate::events::Cursor;

@@ -24,7 +24,6 @@
 
 mod check;
 mod closing;
-mod counts;
 mod events;
 mod law;
 mod lines;

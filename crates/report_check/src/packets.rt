@@ -14,11 +14,11 @@ ghost use Rattle.report_laws.specs.OfNextLines.Walks.{recorded_by};
 ghost use Rattle.state_past.specs.Remembering.{Remembers};
 ghost use Rattle.report_check.specs.OfEvents.Cursors.{IsWithin, IsStuck};
 ghost use Rattle.walk_ends.specs.Passing.{is_pass};
-ghost use Rattle.report_check.specs.Counting.{AreAtMost, count_of, counted_in, both};
+ghost use Rattle.run_counts.specs.Counting.{AreAtMost, count_of, counted_in, both};
 ghost use Rattle.report_check.specs.Walks.{ShowsWalk, WalksTo, StandsIn, StandsAtFirst};
 ghost use Rattle.report_check.specs.Rounds.{ToldRound, IsNextPacket, IsAtPackets, AreWalked};
 
-use crate::counts::RunCounts;
+use run_counts::RunCounts;
 use crate::walker::Walker;
 use crate::walkers::{Room, Walkers};
 use filter_lists::Edit;

@@ -1,6 +1,6 @@
 //! The workers of a run, as its packets' lines tell them.
 
-use crate::counts::RunCounts;
+use run_counts::RunCounts;
 use crate::walker::Walker;
 use point_walks::LatestPoints;
 use std::alloc::Global;

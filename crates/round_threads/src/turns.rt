@@ -12,7 +12,7 @@ use std::sync::Wait;
 use tc_base::Ear;
 
 // A line is tried only while fewer epochs began. A round would have to last for centuries to reach this.
-const EPOCHS_MAX: u64 = 1 << 60;
+pub const EPOCHS_MAX: u64 = 1 << 60;
 
 /// A turn, where few enough epochs began. Else it waits for ever.
 pub(crate) fn turn_while<N: RoundName, E: Ear, R: Wait>(

@@ -16,7 +16,7 @@ use Rattle.report_check.specs.Walks.{ShowsWalk, WalksTo, StandsIn, StandsAtFirst
 use Rattle.report_check.specs.Walked.{AreWalkers}
 use Rattle.report_check.specs.Rounds.{journal_of, stand_with}
 use Rattle.report_check.proofs.Stuck.{stuck_unless}
-use Rattle.report_check.proofs.Tallies.{are_at_most, one_most}
+use Rattle.run_counts.proofs.Tallies.{are_at_most, one_most}
 use Rattle.report_check.proofs.Seen.{IsWalkMore, walked_more}
 use Rattle.report_check.proofs.Walking.{is_open, few_edits, none_shown, no_worker, no_walk, has_ended, at_walk, must_be, walker_of, floor_of, worker_most, at_journal, some_holds}
 use Rattle.report_check.proofs.packets.check_packet.Goals as goal

@@ -1,16 +1,16 @@
 -- How often each action ran, by serial.
 use Rattle.std.proofs.Common.{◌≡◌, ◌∙◌, ℕ, zero, suc, ◌+◌, ◌*◌, ◌^◌, ◌<◌, ◌≤◌, ◌==◌, Bool, true, false, List, [], ◌∷◌, ◌++◌, length, get_or, set, take, refl, sym, ap, arith}
-use Rattle.std.specs.Prelude.{◌≢◌, replicate, if◌then◌else◌}
+use Rattle.std.specs.Prelude.{◌≢◌, replicate, count_by, sum_by, if◌then◌else◌}
 use Rattle.std.proofs.lemmas.Bool.Decides.{nat_tests}
 use Rattle.std.proofs.lemmas.Grind.{get_or-set_at}
-use Rattle.std.proofs.lemmas.List.{get_or-set_other, length-take}
+use Rattle.std.proofs.lemmas.List.{get_or-set_other, length-append, length-take}
 use Rattle.std.proofs.lemmas.List.Sums.{sum_by-append, sum_by-cons}
 use Rattle.filter_state.specs.Sound.{Each}
 use Rattle.walk_ends.specs.declared.counts.Count.{Count}
 use Rattle.walk_steps.specs.Told.{IsShortRun}
 use Rattle.run_report.specs.declared.outcomes.Outcome.{Outcome}
 use Rattle.lawful_runs.specs.Lawful.{executed_in}
-use Rattle.report_check.specs.Counting.{no_count, count_of, counted_in, both, AreAtMost}
+use Rattle.run_counts.specs.Counting.{no_count, count_of, counted_in, both, AreAtMost}
 
 -- ---- more places
 padded : (places : List Count) (k n : ℕ) → get_or (places ++ replicate k no_count) n no_count ≡ get_or places n no_count

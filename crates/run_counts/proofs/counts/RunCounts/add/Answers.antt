@@ -1,7 +1,7 @@
-use Rattle.std.proofs.Common.{get_or, ap, arith}
+use Rattle.std.proofs.Common.{◌^◌, get_or, ap, arith}
 use Rattle.walk_ends.specs.declared.counts.Count.{Count}
-use Rattle.report_check.proofs.Tallies.{part_most, run_small}
-use Rattle.report_check.proofs.counts.RunCounts.add.Goals as goal
+use Rattle.run_counts.proofs.Tallies.{part_most, run_small}
+use Rattle.run_counts.proofs.counts.RunCounts.add.Goals as goal
 
 pub add_one-requires-clause-bytes : goal.add_one-requires-clause-bytes
 add_one-requires-clause-bytes c =

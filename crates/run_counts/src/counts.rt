@@ -1,5 +1,5 @@
 //! How often each action ran.
-ghost use Rattle.report_check.specs.Counting.{count_of};
+ghost use Rattle.run_counts.specs.Counting.{count_of};
 
 use std::alloc::Global;
 use std::marker::Model;
@@ -24,10 +24,10 @@ impl Model for RunCounts {
 impl RunCounts {
     ghost use Rattle.std.specs.Prelude.{◌≡◌, ◌+◌, ◌<◌, ◌≤◌, ◌==◌, ◌^◌, [], ℕ, length, OnOk, if◌then◌else◌};
     ghost use Rattle.walk_steps.specs.Told.{IsShortRun};
-    ghost use Rattle.report_check.specs.Counting.{count_of, counted_in, both, AreAtMost};
+    ghost use Rattle.run_counts.specs.Counting.{count_of, counted_in, both, AreAtMost};
 
     /// Nothing ran.
-    pub(crate) fn new(alloc: Global) -> RunCounts
+    pub fn new(alloc: Global) -> RunCounts
         ensures { result ≡ [] }
     {
         RunCounts {
@@ -36,7 +36,7 @@ impl RunCounts {
     }
 
     /// How often the action of a serial ran.
-    pub(crate) fn of(&self, serial: u32) -> Count
+    pub fn of(&self, serial: u32) -> Count
         ensures { result ≡ count_of self.now serial }
     {
         match self.places.get(serial as usize) {
@@ -83,7 +83,7 @@ impl RunCounts {
     }
 
     /// Adds the executions of a walk, each a serial and a frame's length in bytes.
-    pub(crate) fn add(&mut self, executed: &[(u32, u32)]) -> Result<(), NoMemory>
+    pub fn add(&mut self, executed: &[(u32, u32)]) -> Result<(), NoMemory>
         requires short { IsShortRun executed.now }
         requires few { AreAtMost (2 ^ 62) self.old }
         ensures { OnOk result ((serial : ℕ)

@@ -1,0 +1,12 @@
+pub mod RoundPackets
+pub mod Zipping
+pub mod RoundCommands
+pub mod RoundEvents
+pub mod RoundNames
+pub mod Ready
+pub mod RoundWorkers
+pub mod Further
+pub mod ShortRuns
+pub mod Tallied
+pub mod Beginning
+pub mod Whole

@@ -1,0 +1,7 @@
+pub mod Hooks
+pub mod Names
+pub mod Left
+pub mod SoFar
+pub mod Taught
+pub mod Counted
+pub mod Runs
