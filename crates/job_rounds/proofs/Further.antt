@@ -31,9 +31,9 @@ use Rattle.worker_rounds.specs.declared.worker.Worker.{Worker}
 use Rattle.worker_rounds.specs.Worked.{arrivals_of}
 use Rattle.round_state.specs.Views.{journal}
 use Rattle.round_state.specs.Rounds.{StoreName, IsDeskOf}
-use Rattle.round_threads.specs.Rounds.{AreEvents}
-use Rattle.round_threads.specs.Ends.{HaveWalked, IsLawfulRound}
-use Rattle.round_threads.proofs.Zips.{zip_long}
+use Rattle.job_rounds.specs.OfOneRound.Rounds.{AreEvents}
+use Rattle.job_rounds.specs.OfOneRound.Ends.{HaveWalked, IsLawfulRound}
+use Rattle.job_rounds.proofs.OfOneRound.Zips.{zip_long}
 use Rattle.job_rounds.specs.declared.course.Course.{Course}
 use Rattle.job_rounds.specs.Left.{commands_left, packets_left}
 use Rattle.job_rounds.specs.Names.{names_in}

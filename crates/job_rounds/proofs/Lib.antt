@@ -10,3 +10,4 @@ pub mod ShortRuns
 pub mod Tallied
 pub mod Beginning
 pub mod Whole
+pub mod OfOneRound

@@ -14,10 +14,10 @@ use Rattle.lawful_runs.specs.OfLogs.Logs.{ArePointsTo}
 use Rattle.round_terms.specs.Files.{files_of, commands_in_all}
 use Rattle.worker_rounds.specs.declared.worker.Worker.{Worker}
 use Rattle.round_state.specs.Rounds.{StoreName}
-use Rattle.round_threads.specs.Rounds.{IsRoundWithRoom}
-use Rattle.round_threads.specs.Hands.{AreReady}
-use Rattle.round_threads.specs.Ends.{HaveSeen}
-use Rattle.round_threads.proofs.Zips.{zip_long, zip_at}
+use Rattle.job_rounds.specs.OfOneRound.Rounds.{IsRoundWithRoom}
+use Rattle.job_rounds.specs.OfOneRound.Hands.{AreReady}
+use Rattle.job_rounds.specs.OfOneRound.Ends.{HaveSeen}
+use Rattle.job_rounds.proofs.OfOneRound.Zips.{zip_long, zip_at}
 use Rattle.job_rounds.specs.Left.{commands_left}
 use Rattle.job_rounds.specs.Taught.{IsAway, IsTaught, AreTaught}
 use Rattle.job_rounds.specs.SoFar.{IsBetween}

@@ -11,7 +11,7 @@ use Rattle.lawful_runs.specs.declared.loaded.LoadedJob.{LoadedJob}
 use Rattle.lawful_runs.specs.Given.{batches_named, command_count, IsLoaded}
 use Rattle.round_terms.specs.Files.{RoundFile, files_with, files_at, files_of, commands_in_all}
 use Rattle.round_terms.proofs.JobFiles.{first_further, first_within}
-use Rattle.round_threads.proofs.Zips.{there_within}
+use Rattle.job_rounds.proofs.OfOneRound.Zips.{there_within}
 use Rattle.job_rounds.specs.Left.{commands_left}
 
 -- the commands of as many files as there are names, and those of the others

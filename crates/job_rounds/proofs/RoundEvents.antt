@@ -13,7 +13,7 @@ use Rattle.lawful_runs.specs.Events.{GoesOn, IsThrough, AreInOrder, events_of}
 use Rattle.lawful_runs.proofs.Results.{results_counted}
 use Rattle.round_terms.specs.Files.{RoundFile, given_of, batches_of, commands_in_all}
 use Rattle.round_terms.proofs.Counting.{given_at, sum_most, each_counted}
-use Rattle.round_threads.specs.Rounds.{AreEvents}
+use Rattle.job_rounds.specs.OfOneRound.Rounds.{AreEvents}
 
 one_or_none : (b : Bool) (n m : ℕ) → n ≤ m → (if b then 1 else 0) + n ≤ suc m
 one_or_none true n m less = omega (arith, less)

@@ -13,8 +13,8 @@ use Rattle.worker_walk.specs.Walked.{journal_of}
 use Rattle.worker_rounds.specs.declared.worker.Worker.{Worker}
 use Rattle.worker_rounds.specs.Worked.{arrivals_of, IsWorked}
 use Rattle.round_state.specs.Rounds.{StoreName}
-use Rattle.round_threads.specs.Ends.{IsWorkedAt, HaveWalked}
-use Rattle.round_threads.proofs.Zips.{there_within}
+use Rattle.job_rounds.specs.OfOneRound.Ends.{IsWorkedAt, HaveWalked}
+use Rattle.job_rounds.proofs.OfOneRound.Zips.{there_within}
 use Rattle.job_rounds.specs.Taught.{AreTaught}
 use Rattle.job_rounds.specs.SoFar.{IsBetween}
 use Rattle.job_rounds.proofs.Ready.{Was, was_at, more_points, within_by}

@@ -5,3 +5,4 @@ pub mod SoFar
 pub mod Taught
 pub mod Counted
 pub mod Runs
+pub mod OfOneRound

@@ -2,9 +2,9 @@
 ghost use Rattle.std.specs.Prelude.{◌≡◌, ◌+◌, ◌++◌, ◌∷◌, ℕ, [], IfOk};
 ghost use Rattle.job_rounds.specs.SoFar.{HasRoom};
 
+use crate::one_round::RoundEnd;
 use round_state::Desk;
 use round_terms::MadeAction;
-use round_threads::RoundEnd;
 use run_report::RoundRecord;
 use std::alloc::Global;
 use tc_base::{Ear, NoMemory};

@@ -1,7 +1,7 @@
 //! A job on threads: its rounds, one after the other.
 //!
-//! `run_job` runs each round of a job (`round_threads`) over one hook, and keeps what happened in the record
-//! of the run. Its clause says that the run is lawful, and that its journal is the desk's: whatever the
+//! `run_job` runs each round of a job (`one_round`) over one hook, and keeps what happened in the record of
+//! the run. Its clause says that the run is lawful, and that its journal is the desk's: whatever the
 //! interleaving of threads was, each accepted edit stands exactly once in the journal, and each packet's walk
 //! is one over the states of that journal.
 //!
@@ -20,12 +20,13 @@
 //! One thread calls this, with a handle by which it may start threads and wait. It owns hook, ear and tender.
 //! Where memory is refused all threads are gone before the call returns, with hook and ear.
 //!
-//! Not promised: that memory suffices, and that a run ends (see `round_threads`).
+//! Not promised: that memory suffices, and that a run ends (see `one_round`).
 #![tactic(auto)]
 
 mod counting;
 mod course;
 mod hooks;
+mod one_round;
 mod packets;
 mod readying;
 mod rounds;

@@ -5,9 +5,9 @@ ghost use Rattle.round_state.specs.Views.{journal};
 ghost use Rattle.round_state.specs.Rounds.{store_name};
 ghost use Rattle.job_rounds.specs.Taught.{IsAway, IsTaught, AreTaught};
 
+use crate::one_round::EPOCHS_MAX;
 use hook_store_law::HookStore;
 use round_state::Desk;
-use round_threads::EPOCHS_MAX;
 use worker_rounds::Worker;
 
 // Lets a worker see what the desk has seen.

@@ -9,12 +9,12 @@ ghost use Rattle.desk_parts.specs.Desk.{hook_shape};
 ghost use Rattle.job_rounds.specs.SoFar.{IsSoFar, HasRoom};
 
 use crate::course::{Course, behind};
+use crate::one_round::run_round;
 use crate::packets::packets_of;
 use crate::readying::make_ready;
 use hook_store_law::HookStore;
 use pcap_io::Packets;
 use round_terms::LoadedJob;
-use round_threads::run_round;
 use std::alloc::Global;
 use std::sync::Wait;
 use std::thread::Threads;

@@ -11,10 +11,10 @@ ghost use Rattle.report_check.specs.OfEvents.Cursors.{IsWithin, IsAt, IsStuck};
 ghost use Rattle.report_check.specs.Between.{IsBetween};
 ghost use Rattle.report_check.specs.Counting.{counted_lines};
 
-use run_counts::RunCounts;
+use crate::events::Cursor;
 use crate::rounds::Progress;
 use batch_run::MadeAction;
-use crate::events::Cursor;
+use run_counts::RunCounts;
 use tc_base::NoMemory;
 use walk_texts::{Summary, push_counter, push_summary};
 

@@ -18,15 +18,15 @@ ghost use Rattle.run_counts.specs.Counting.{AreAtMost, count_of, counted_in, bot
 ghost use Rattle.report_check.specs.Walks.{ShowsWalk, WalksTo, StandsIn, StandsAtFirst};
 ghost use Rattle.report_check.specs.Rounds.{ToldRound, IsNextPacket, IsAtPackets, AreWalked};
 
-use run_counts::RunCounts;
+use crate::events::{Cursor, Replay};
 use crate::walker::Walker;
 use crate::walkers::{Room, Walkers};
 use filter_lists::Edit;
 use journal_answers::JournalAnswers;
 use pcap_io::Packets;
 use point_walks::{Bounds, LatestPoints, walk_at};
-use crate::events::{Cursor, Replay};
 use report_reading::read_packet_line;
+use run_counts::RunCounts;
 use run_report::push_packet_line;
 use state_past::StatePast;
 use std::alloc::AllocError;

@@ -11,10 +11,10 @@ ghost use Rattle.report_check.specs.Between.{IsBetween};
 
 use crate::check::Check;
 use crate::closing::check_closing;
+use crate::events::{Cursor, Replay};
 use crate::rounds::{Progress, check_rounds};
 use crate::walkers::Walkers;
 use lawful_runs::LoadedJob;
-use crate::events::{Cursor, Replay};
 use std::alloc::Global;
 use tc_base::NoMemory;
 

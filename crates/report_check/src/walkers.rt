@@ -1,8 +1,8 @@
 //! The workers of a run, as its packets' lines tell them.
 
-use run_counts::RunCounts;
 use crate::walker::Walker;
 use point_walks::LatestPoints;
+use run_counts::RunCounts;
 use std::alloc::Global;
 use tc_base::{NoMemory, Point};
 use walk_steps::Walk;

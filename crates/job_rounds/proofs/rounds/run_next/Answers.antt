@@ -15,9 +15,9 @@ use Rattle.shared_hook.specs.Views.{DeskView}
 use Rattle.worker_rounds.specs.declared.worker.Worker.{Worker}
 use Rattle.round_state.specs.Views.{journal}
 use Rattle.round_state.specs.Rounds.{store_name, IsDeskOf}
-use Rattle.round_threads.specs.Rounds.{AreEvents}
-use Rattle.round_threads.specs.Ends.{HaveWalked, IsLawfulRound}
-use Rattle.round_threads.specs.Hands.{AreReady}
+use Rattle.job_rounds.specs.OfOneRound.Rounds.{AreEvents}
+use Rattle.job_rounds.specs.OfOneRound.Ends.{HaveWalked, IsLawfulRound}
+use Rattle.job_rounds.specs.OfOneRound.Hands.{AreReady}
 use Rattle.job_rounds.specs.Left.{packets_left}
 use Rattle.job_rounds.specs.SoFar.{all_made}
 use Rattle.job_rounds.specs.Taught.{IsAway, AreTaught}

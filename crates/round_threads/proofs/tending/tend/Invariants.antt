@@ -1,5 +1,0 @@
-use Rattle.std.proofs.Common.{◌≡◌}
-use Rattle.round_threads.proofs.tending.tend.Given as goal
-
-abbrev pub invariant-loop : goal.invariant-loop
-invariant-loop g l = g.T.Tender.name l.tender ≡ g.T.Tender.name l.initial.tender
