@@ -16,12 +16,7 @@ use tool_words::Status;
 use walk_texts::{push_count, push_text};
 
 // Loads the job under the one name and the report under the other, in that order, and judges it.
-fn judge<S: Shelf>(
-    alloc: Global,
-    job: &str,
-    report: &str,
-    shelf: &mut S,
-) -> Result<Check, Status>
+fn judge<S: Shelf>(alloc: Global, job: &str, report: &str, shelf: &mut S) -> Result<Check, Status>
     ensures judged { IfOk result (Judges (S.held shelf.old) job.now report.now) }
     ensures cause { IfErr result
         (JudgingFails S.held S.read_faults S.failed_name shelf.old shelf.new job.now report.now) }
