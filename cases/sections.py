@@ -5,6 +5,8 @@
 import os
 import re
 
+from frames import capture
+
 HERE = os.path.dirname(os.path.realpath(__file__))
 
 def batch(lines):
@@ -29,7 +31,7 @@ def cases_of(path):
                 cases.append((line[3:], [], {}))
                 section = None
             elif line.startswith("-- "):
-                section, *more = re.match(r"(file \S+|\S+)(?: (.*))?$", line[3:]).groups("")
+                section, *more = re.match(r"((?:file|given) \S+|\S+)(?: (.*))?$", line[3:]).groups("")
                 cases[-1][2][section] = ("".join(more), [])
             elif cases and section:
                 cases[-1][2][section][1].append(line)
@@ -55,3 +57,15 @@ def short_batches(*more):
         if os.path.exists(path):
             with open(path, "rb") as file:
                 yield name, file.read()
+
+
+def put_inputs(sections, room):
+    """The files that are there before the program runs."""
+    how, packets = sections.get("capture", ("", []))
+    made = capture(list(enumerate(packets, 1)), how.startswith("big"))
+    if how.startswith("cut"):
+        made = made[: int(how.split()[1])]
+    given = [(section[6:], batch(it)) for section, (_, it) in sections.items() if section.startswith("given ")]
+    for name, data in [("batch", batch(sections.get("batch", ("", []))[1])), ("capture", made), *given]:
+        with open(os.path.join(room, name), "wb") as file:
+            file.write(data)

@@ -33,6 +33,13 @@ const TWO: &str = "packet 1 drop length 60\npacket 2 pass length 60\n\
     counter serial 1 gact index 1 packets 1 bytes 60\n\
     summary edits 2 refused 0 packets 2 passed 1 dropped 1\nend\n";
 
+const JOB: &str = "clsact job 1\nworkers 1\ncontrols 1\nround\nbatch 1 batch\n\
+    capture ingress capture output\nend\n";
+
+// The report of its only run, where batch and capture are HOOK and EMPTY.
+const REPORT: &str = "clsact report 1\nround 1\nedit 1 control 1 line 1 hooked\nend round 1\n\
+    summary edits 1 refused 0 packets 0 passed 0 dropped 0\nend\n";
+
 const WALK: [&str; 5] = ["walk", "ingress", "batch", "capture", "output"];
 
 fn word(big: bool, number: u8) -> [u8; 4] {
@@ -210,6 +217,29 @@ fn faults_at_a_gen_are_told(rt: HostRuntime) -> Result<(), Fail> {
             assert_eq!(rt; held.get(name).is_some(), index < made);
         }
         assert!(rt; out.bytes().is_empty());
+    }
+    Ok(())
+}
+
+#[test]
+fn faults_at_a_recheck_are_told(rt: HostRuntime) -> Result<(), Fail> {
+    // The job is read, then its files, then the report, and then the answer is written by one call.
+    let rows: [(&[u32], &[u32], &str, &str); 6] = [
+        (&[1], &[], "4 cannot read job", ""),
+        (&[2], &[], "4 cannot read batch", ""),
+        (&[3], &[], "4 cannot read capture", ""),
+        (&[4], &[], "4 cannot read report", ""),
+        (&[], &[1], "5 cannot write", ""),
+        (&[5], &[2], "0 ", "lawful\n"),
+    ];
+    for (calls, writes, told, text) in rows {
+        let mut held = shelf(rt.alloc(), HOOK, &EMPTY, calls)?;
+        held.insert("job", JOB.as_bytes())?;
+        held.insert("report", REPORT.as_bytes())?;
+        let mut out = MemSink::new(rt.alloc(), numbers(rt.alloc(), writes)?);
+        let status = run(&rt, &["recheck", "job", "report"], &mut held, &mut out)?;
+        assert_eq!(rt; status.as_str(), told);
+        assert_eq!(rt; out.bytes(), text.as_bytes());
     }
     Ok(())
 }
