@@ -1,6 +1,6 @@
 """Which reports of small jobs are lawful: a twin of the rules in docs/FORMATS.md and docs/DEFINITIONS.md, which shares nothing with
-the program. It knows one grammar of lines alone: `qdisc add`; filters on dst_ip with a length, a pref, a handle and gact actions; dels
-of filters and tables; actions that are added, changed and deleted. Frames have 60 bytes.
+the program. It knows these lines alone: `qdisc add`; filters on dst_ip with a length, a pref, a handle and gact actions with an index;
+dels of filters and tables; actions that are added, changed and deleted; and `#`, which is no command. Frames have 60 bytes.
 """
 import copy
 import ipaddress
@@ -148,7 +148,7 @@ def report_lines(job, choices):
     for number, (batches, hook, addresses) in enumerate(job["rounds"], 1):
         yield f"round {number}\n"
         before = len(states) - 1
-        left = {control: list(enumerate(lines, 1)) for control, _, lines in batches}
+        left = {control: [it for it in enumerate(lines, 1) if it[1] != "#"] for control, _, lines in batches}
         force = {control: force for control, force, _ in batches}
         while any(left.values()):
             options = []
