@@ -20,9 +20,11 @@ mod end_iter;
 mod end_list;
 mod end_words;
 mod ends;
+mod regrowing;
 mod walking;
 
 pub use end_iter::EndIter;
 pub use end_list::Ends;
 pub use ends::PacketEnd;
+pub use regrowing::regrown;
 pub use walking::{WalkedCapture, walk_capture};

@@ -11,12 +11,12 @@ ghost use Rattle.filter_lists.specs.Spells.{Spells};
 ghost use Rattle.plain_walk.specs.Walked.{walked_from};
 ghost use Rattle.walk_ends.specs.declared.limits.TheConstants.{PACKETS_MAX};
 ghost use Rattle.capture_walk.specs.Captures.{outcomes_of, end_of, output_of, counts_of, executed_in};
-ghost use Rattle.walk_ends.specs.Passing.{regrown};
 ghost use Rattle.capture_walk.specs.Captures.{passed_one};
 
 use crate::counts::{add_executed, no_counts};
 use crate::end_list::Ends;
 use crate::ends::PacketEnd;
+use crate::regrowing::regrown;
 use filter_lists::Lists;
 use pcap_io::{Capture, Excerpt, PacketView};
 use plain_walk::PlainWalk;
@@ -156,14 +156,4 @@ fn keep(
         original: regrown(packet.original, packet.bytes.len(), bytes.len()),
         bytes,
     })
-}
-
-// The original length of a frame that had so many bytes and now has others.
-fn regrown(original: u32, before: usize, after: usize) -> u32
-    requires before { before ≤ FRAME_MAX }
-    requires after { after ≤ FRAME_MAX }
-    ensures { result ≡ regrown original before after }
-{
-    let grown = (u64::from(original) + after as u64).saturating_sub(before as u64);
-    grown.min(u64::from(u32::MAX)) as u32
 }

@@ -27,3 +27,4 @@ mod names;
 
 pub use law::one_loading;
 pub use loading::load_job;
+pub use names::text_of;

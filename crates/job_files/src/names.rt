@@ -4,8 +4,8 @@ ghost use Rattle.job_lines.specs.Jobs.{IsName};
 
 use std::str;
 
-// A name is printed ASCII, which is text.
-pub(crate) fn text_of(name: &[u8]) -> &str
+/// A name that a job may have, as text: it is printed ASCII.
+pub fn text_of(name: &[u8]) -> &str
     requires { IsName name.now }
     ensures { result.now ≡ name.now }
 {

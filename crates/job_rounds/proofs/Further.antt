@@ -29,8 +29,8 @@ use Rattle.round_terms.specs.Underway.{IsMadeSince, made_behind}
 use Rattle.round_terms.proofs.Making.{made_further}
 use Rattle.worker_rounds.specs.declared.worker.Worker.{Worker}
 use Rattle.worker_rounds.specs.Worked.{arrivals_of}
-use Rattle.round_state.specs.Views.{journal}
-use Rattle.round_state.specs.Rounds.{StoreName, IsDeskOf}
+use Rattle.job_rounds.specs.OfRoundState.Views.{journal}
+use Rattle.job_rounds.specs.OfRoundState.Rounds.{StoreName, IsDeskOf}
 use Rattle.job_rounds.specs.OfOneRound.Rounds.{AreEvents}
 use Rattle.job_rounds.specs.OfOneRound.Ends.{HaveWalked, IsLawfulRound}
 use Rattle.job_rounds.proofs.OfOneRound.Zips.{zip_long}
@@ -45,7 +45,7 @@ use Rattle.job_rounds.proofs.RoundNames.{heard_more}
 use Rattle.job_rounds.proofs.RoundPackets.{given_there, one_taken}
 use Rattle.job_rounds.proofs.Ready.{have_seen, within_by}
 use Rattle.job_rounds.proofs.RoundWorkers.{between_next, many_arrivals}
-use Rattle.job_rounds.proofs.ShortRuns.{executed_short}
+use Rattle.short_walk_laws.proofs.ShortRuns.{executed_short}
 
 outcomes_more : (its : List RoundRecord) (it : RoundRecord) → outcomes_in (its ++ it ∷ []) ≡ outcomes_in its ++ it.outcomes
 outcomes_more [] it = append-nil it.outcomes

@@ -1,3 +1,4 @@
+pub mod OfRoundState
 pub mod RoundPackets
 pub mod Zipping
 pub mod RoundCommands
@@ -6,7 +7,6 @@ pub mod RoundNames
 pub mod Ready
 pub mod RoundWorkers
 pub mod Further
-pub mod ShortRuns
 pub mod Tallied
 pub mod Beginning
 pub mod Whole

@@ -13,7 +13,7 @@ use Rattle.lawful_runs.specs.Given.{IsLoaded}
 use Rattle.lawful_runs.specs.OfLogs.Logs.{ArePointsTo}
 use Rattle.round_terms.specs.Files.{files_of, commands_in_all}
 use Rattle.worker_rounds.specs.declared.worker.Worker.{Worker}
-use Rattle.round_state.specs.Rounds.{StoreName}
+use Rattle.job_rounds.specs.OfRoundState.Rounds.{StoreName}
 use Rattle.job_rounds.specs.OfOneRound.Rounds.{IsRoundWithRoom}
 use Rattle.job_rounds.specs.OfOneRound.Hands.{AreReady}
 use Rattle.job_rounds.specs.OfOneRound.Ends.{HaveSeen}

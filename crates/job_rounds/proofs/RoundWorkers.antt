@@ -12,7 +12,7 @@ use Rattle.lawful_runs.specs.OfLogs.Logs.{LogRow, AreRows, IsRowAt, ArePointsTo,
 use Rattle.worker_walk.specs.Walked.{journal_of}
 use Rattle.worker_rounds.specs.declared.worker.Worker.{Worker}
 use Rattle.worker_rounds.specs.Worked.{arrivals_of, IsWorked}
-use Rattle.round_state.specs.Rounds.{StoreName}
+use Rattle.job_rounds.specs.OfRoundState.Rounds.{StoreName}
 use Rattle.job_rounds.specs.OfOneRound.Ends.{IsWorkedAt, HaveWalked}
 use Rattle.job_rounds.proofs.OfOneRound.Zips.{there_within}
 use Rattle.job_rounds.specs.Taught.{AreTaught}

@@ -24,8 +24,8 @@ use Rattle.lawful_runs.specs.Given.{GivenRound, IsLoaded, given_rounds, rounds_f
 use Rattle.lawful_runs.specs.Lawful.{AreRounds, counter_of, executed_in, outcomes_in, made_by, counters_of}
 use Rattle.round_terms.specs.Hearing.{ear_of}
 use Rattle.worker_rounds.specs.declared.worker.Worker.{Worker}
-use Rattle.round_state.specs.Views.{journal}
-use Rattle.round_state.specs.Rounds.{StoreName, IsDeskOf}
+use Rattle.job_rounds.specs.OfRoundState.Views.{journal}
+use Rattle.job_rounds.specs.OfRoundState.Rounds.{StoreName, IsDeskOf}
 use Rattle.run_counts.specs.Counting.{count_of, counted_in}
 use Rattle.job_rounds.specs.declared.course.Course.{Course}
 use Rattle.job_rounds.specs.Hooks.{AreWorkersOf}

@@ -1,3 +1,4 @@
+pub mod OfRoundState
 pub mod Hooks
 pub mod Names
 pub mod Left

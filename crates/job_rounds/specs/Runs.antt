@@ -4,8 +4,8 @@ use Rattle.tc_base.specs.declared.ear.EventName.{EventName}
 use Rattle.lawful_runs.specs.declared.loaded.LoadedJob.{LoadedJob}
 use Rattle.lawful_runs.specs.Lawful.{IsRunWith}
 use Rattle.round_terms.specs.Hearing.{EarView}
-use Rattle.round_state.specs.Views.{journal}
-use Rattle.round_state.specs.Rounds.{StoreName, IsDeskOf}
+use Rattle.job_rounds.specs.OfRoundState.Views.{journal}
+use Rattle.job_rounds.specs.OfRoundState.Rounds.{StoreName, IsDeskOf}
 use Rattle.job_rounds.specs.declared.running.JobEnd.{JobEnd}
 use Rattle.job_rounds.specs.Names.{names_in}
 

@@ -17,8 +17,8 @@ use Rattle.lawful_runs.specs.Lawful.{AreRounds, outcomes_in, made_by}
 use Rattle.lawful_runs.specs.OfLogs.Logs.{ArePointsTo}
 use Rattle.round_terms.specs.Hearing.{EarView}
 use Rattle.worker_rounds.specs.declared.worker.Worker.{Worker}
-use Rattle.round_state.specs.Views.{journal}
-use Rattle.round_state.specs.Rounds.{StoreName, IsDeskOf}
+use Rattle.job_rounds.specs.OfRoundState.Views.{journal}
+use Rattle.job_rounds.specs.OfRoundState.Rounds.{StoreName, IsDeskOf}
 use Rattle.std.specs.Prelude.{vec_len, vec_capacity}
 use Rattle.job_rounds.specs.declared.course.Course.{Course}
 use Rattle.job_rounds.specs.declared.course.Past.{Past}

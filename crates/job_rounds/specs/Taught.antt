@@ -3,7 +3,7 @@ use Rattle.std.specs.Prelude.{◌≡◌, ℕ, max, List, length}
 use Rattle.std.specs.List.{AllZip}
 use Rattle.pin_store.specs.Calls.{IsSeatAt, IsOutside, pin_of}
 use Rattle.worker_rounds.specs.declared.worker.Worker.{Worker}
-use Rattle.round_state.specs.Rounds.{StoreName}
+use Rattle.job_rounds.specs.OfRoundState.Rounds.{StoreName}
 
 -- its reader is one of the store, outside
 pub record IsAway (store : StoreName) (worker : Worker) : Type 0 where

@@ -3,7 +3,7 @@ ghost use Rattle.std.specs.Prelude.{◌≡◌, ◌+◌, ◌++◌, ◌∷◌, ℕ
 ghost use Rattle.job_rounds.specs.SoFar.{HasRoom};
 
 use crate::one_round::RoundEnd;
-use round_state::Desk;
+use crate::round_state::Desk;
 use round_terms::MadeAction;
 use run_report::RoundRecord;
 use std::alloc::Global;

@@ -2,9 +2,9 @@
 ghost use Rattle.std.specs.Prelude.{◌≡◌, ◌+◌, ◌≤◌, ◌++◌, length, vec_len, vec_capacity, IfOk};
 ghost use Rattle.job_rounds.specs.Hooks.{AreNewHooks};
 
+use crate::round_state::Desk;
 use hook_reader::HookReader;
 use hook_store_law::HookStore;
-use round_state::Desk;
 use shared_hook::{Passes, make_hook};
 use std::alloc::Global;
 use tc_base::NoMemory;

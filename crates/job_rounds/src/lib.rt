@@ -29,6 +29,7 @@ mod hooks;
 mod one_round;
 mod packets;
 mod readying;
+mod round_state;
 mod rounds;
 mod running;
 mod workers;

@@ -1,13 +1,13 @@
 //! What is done between two rounds.
 ghost use Rattle.std.specs.Prelude.{◌≡◌, All, length};
 ghost use Rattle.pin_store.specs.Calls.{IsSeatOf};
-ghost use Rattle.round_state.specs.Views.{journal};
-ghost use Rattle.round_state.specs.Rounds.{store_name};
+ghost use Rattle.job_rounds.specs.OfRoundState.Views.{journal};
+ghost use Rattle.job_rounds.specs.OfRoundState.Rounds.{store_name};
 ghost use Rattle.job_rounds.specs.Taught.{IsAway, IsTaught, AreTaught};
 
 use crate::one_round::EPOCHS_MAX;
+use crate::round_state::Desk;
 use hook_store_law::HookStore;
-use round_state::Desk;
 use worker_rounds::Worker;
 
 // Lets a worker see what the desk has seen.

@@ -3,8 +3,8 @@ ghost use Rattle.std.specs.Prelude.{◌≡◌, ◌-◌, ◌+◌, ◌≤◌, ℕ,
 ghost use Rattle.pin_store.specs.Calls.{IsSeatOf};
 ghost use Rattle.lawful_runs.specs.Given.{IsLoaded};
 ghost use Rattle.round_terms.specs.Hearing.{EarView};
-ghost use Rattle.round_state.specs.Views.{journal};
-ghost use Rattle.round_state.specs.Rounds.{store_name};
+ghost use Rattle.job_rounds.specs.OfRoundState.Views.{journal};
+ghost use Rattle.job_rounds.specs.OfRoundState.Rounds.{store_name};
 ghost use Rattle.desk_parts.specs.Desk.{hook_shape};
 ghost use Rattle.job_rounds.specs.SoFar.{IsSoFar, HasRoom};
 

@@ -52,3 +52,4 @@ pub use packet_lines::push_packet_line;
 pub use record::RunRecord;
 pub use reporting::report;
 pub use rounds::{RoundRecord, RoundRecords};
+pub use summing::summary_of;

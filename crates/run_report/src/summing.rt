@@ -57,8 +57,8 @@ fn add_round(summary: &mut Summary, round: &RoundRecord)
     summary.dropped += (round.outcomes.len() - passed) as u64;
 }
 
-/// What the rounds came to, together.
-pub(crate) fn summary_of(rounds: &[RoundRecord]) -> Summary
+/// What the rounds of a run came to, together.
+pub fn summary_of(rounds: &[RoundRecord]) -> Summary
     requires events { events_in rounds.now < 2 ^ 64 }
     requires packets { packets_in rounds.now < 2 ^ 64 }
     ensures value { result ≡ summary_of rounds.now }

@@ -71,13 +71,17 @@ request_of (verb ∷ first ∷ second ∷ []) = request_of_two verb first second
 request_of (verb ∷ hook ∷ batch ∷ capture ∷ output ∷ []) = request_of_four verb hook batch capture output
 request_of words = None
 
--- the word that names a command
-abbrev pub verb_of : Request → List ℕ
-verb_of (Walk hook batch capture output) = codes "walk"
-verb_of (Show batch) = codes "show"
-verb_of (Run job) = codes "run"
-verb_of (Recheck job report) = codes "recheck"
-verb_of (Gen count front) = codes "gen"
+-- what the threads of a run do decides how it ends; every other command's answer follows from its input
+abbrev pub is_run : Request → Bool
+is_run (Walk hook batch capture output) = false
+is_run (Show batch) = false
+is_run (Run job) = true
+is_run (Recheck job report) = false
+is_run (Gen count front) = false
+
+abbrev pub asks_for_run : Option Request → Bool
+asks_for_run None = false
+asks_for_run (Some request) = is_run request
 
 -- a command that runs a job, and so may start threads
 abbrev pub runs_job : Request → Bool

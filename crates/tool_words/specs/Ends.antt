@@ -1,5 +1,5 @@
 -- How the program ends. The numbers are this project's own.
-use Rattle.std.specs.Prelude.{ℕ, Bool, true, false}
+use Rattle.std.specs.Prelude.{ℕ, zero, suc, Bool, true, false}
 use Rattle.tc_base.specs.declared.outside.Put.{Put}
 use Rattle.tc_base.specs.declared.outside.Put.TheVariants as puts
 use Rattle.tool_words.specs.declared.status.Status.{Status}
@@ -15,6 +15,11 @@ abbrev pub status_after : Bool → Status
 status_after false = statuses.Done
 status_after true = statuses.LinesRefused 1
 
+-- where all was done and so many lines of a run were refused
+abbrev pub status_of_refused : ℕ → Status
+status_of_refused zero = statuses.Done
+status_of_refused (suc more) = statuses.LinesRefused (suc more)
+
 -- all was done, whether or not a line was refused, or a report is lawful
 abbrev pub IsAllDone : Status → Type 0
 IsAllDone statuses.Done = Unit {0}
@@ -22,7 +27,7 @@ IsAllDone (statuses.LinesRefused count) = Unit {0}
 IsAllDone (statuses.NotLawful line) = Unit {0}
 IsAllDone status = ⊥
 
--- the number with which the process ends: 8 is free
+-- the number with which the process ends
 abbrev pub exit_of : Status → ℕ
 exit_of statuses.Done = 0
 exit_of (statuses.LinesRefused count) = 1
@@ -32,4 +37,3 @@ exit_of (statuses.ReadFault name) = 4
 exit_of statuses.WriteFault = 5
 exit_of statuses.NoMemory = 6
 exit_of (statuses.NotLawful line) = 7
-exit_of (statuses.NotBuilt name place) = 9

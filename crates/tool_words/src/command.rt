@@ -4,7 +4,6 @@ ghost use Rattle.std.specs.List.{list_all};
 ghost use Rattle.std.specs.Option.{option_map};
 ghost use Rattle.tool_words.specs.Command.{texts, hook_of, is_name_byte, is_front, count_of, gen_request};
 ghost use Rattle.tool_words.specs.Command.{request_of_one, request_of_two, request_of_four, request_of};
-ghost use Rattle.tool_words.specs.Command.{verb_of};
 ghost use Rattle.tool_words.specs.Requests.{request, HasFewFilters};
 
 use gen_files::GEN_MAX;
@@ -173,20 +172,5 @@ pub fn command_of(words: &[String]) -> Option<Command<'_>>
             output.as_str(),
         ),
         _ => None,
-    }
-}
-
-impl<'a> Command<'a> {
-    /// The word that names the command.
-    pub fn verb(&self) -> &'static str
-        ensures { result.now ≡ verb_of (request self.now) }
-    {
-        match self {
-            Command::Walk { .. } => "walk",
-            Command::Show { .. } => "show",
-            Command::Run { .. } => "run",
-            Command::Recheck { .. } => "recheck",
-            Command::Gen { .. } => "gen",
-        }
     }
 }

@@ -45,7 +45,6 @@ impl fmt::Display for Status {
             Status::WriteFault => write!(f, "cannot write"),
             Status::NoMemory => write!(f, "no memory"),
             Status::NotLawful { line } => write!(f, "report not lawful at line {line}"),
-            Status::NotBuilt { name, place } => write!(f, "not built: {} at {place}", Name(name)),
         }
     }
 }

@@ -59,18 +59,13 @@ pub enum Status {
     ReadFault {
         name: Bytes,
     },
-    /// The output capture, a file of `gen` or the text could not be written.
+    /// An output capture, a file of `gen` or the text could not be written.
     WriteFault,
     /// Memory ran out.
     NoMemory,
     /// The report is not that of a lawful run, first at `line`.
     NotLawful {
         line: u64,
-    },
-    /// The command `name` isn't built yet; `place` is 0.
-    NotBuilt {
-        name: Bytes,
-        place: u64,
     },
 }
 
@@ -91,7 +86,6 @@ impl Status {
             Status::WriteFault => 5,
             Status::NoMemory => 6,
             Status::NotLawful { .. } => 7,
-            Status::NotBuilt { .. } => 9,
         }
     }
 }

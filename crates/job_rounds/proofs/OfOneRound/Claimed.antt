@@ -7,7 +7,7 @@ use Rattle.std.proofs.lemmas.List.{length-map, map-append}
 use Rattle.atomic_table.specs.Seated.{TableId}
 use Rattle.step_counts.specs.Seats.{Holding, Untaken, new_seat}
 use Rattle.worker_rounds.specs.declared.worker.Worker.{Worker}
-use Rattle.round_state.specs.Rounds.{StoreName}
+use Rattle.job_rounds.specs.OfRoundState.Rounds.{StoreName}
 use Rattle.job_rounds.specs.declared.one_round.hands.Hand.{Hand}
 use Rattle.job_rounds.specs.OfOneRound.Hands.{AreClaimed, AreReady, CanWork, IsReady, fresh_seat}
 use Rattle.job_rounds.proofs.OfOneRound.Zips.{each_push}

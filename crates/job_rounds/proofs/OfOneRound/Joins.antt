@@ -7,7 +7,7 @@ use Rattle.pcap_io.specs.declared.capture.Packet.{Packet}
 use Rattle.lawful_runs.specs.OfLogs.Logs.{LogRow}
 use Rattle.step_counts.specs.Seats.{Holding}
 use Rattle.worker_rounds.specs.declared.worker.Worker.{Worker}
-use Rattle.round_state.specs.Rounds.{StoreName}
+use Rattle.job_rounds.specs.OfRoundState.Rounds.{StoreName}
 use Rattle.job_rounds.specs.declared.one_round.hands.Hand.{Hand}
 use Rattle.job_rounds.specs.declared.one_round.hands.Ended.{Ended}
 use Rattle.job_rounds.specs.declared.one_round.hands.Started.{Started}

@@ -15,7 +15,7 @@ use Rattle.pin_store.specs.Calls.{pin_of}
 use Rattle.walk_logs.specs.Rows.{numbers_of}
 use Rattle.worker_rounds.specs.declared.worker.Worker.{Worker}
 use Rattle.worker_rounds.specs.Worked.{arrivals_of, IsWorked}
-use Rattle.round_state.specs.Rounds.{StoreName}
+use Rattle.job_rounds.specs.OfRoundState.Rounds.{StoreName}
 use Rattle.job_rounds.specs.OfOneRound.Ends.{HaveSeen, HaveWalked, IsWorkedAt}
 use Rattle.job_rounds.proofs.OfOneRound.OfOutcomes.Rising.{short_from}
 

@@ -31,8 +31,8 @@ use Rattle.round_terms.specs.Underway.{made_behind}
 use Rattle.round_terms.proofs.JobFiles.{are_files, given_is}
 use Rattle.worker_rounds.specs.declared.worker.Worker.{Worker}
 use Rattle.worker_rounds.specs.Worked.{arrivals_of}
-use Rattle.round_state.specs.Rounds.{StoreName, IsDeskOf, IsRoundOf, Underway}
-use Rattle.round_state.specs.Views.{DeskView, journal}
+use Rattle.job_rounds.specs.OfRoundState.Rounds.{StoreName, IsDeskOf, IsRoundOf, Underway}
+use Rattle.job_rounds.specs.OfRoundState.Views.{DeskView, journal}
 use Rattle.job_rounds.specs.declared.one_round.round_end.RoundEnd.{RoundEnd}
 use Rattle.job_rounds.specs.declared.one_round.hands.Hand.{Hand}
 use Rattle.job_rounds.specs.declared.one_round.joining.Back.{Back}

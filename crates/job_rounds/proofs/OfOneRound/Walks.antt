@@ -19,7 +19,7 @@ use Rattle.walk_logs.specs.Rows.{numbers_of}
 use Rattle.worker_walk.specs.Walked.{journal_of}
 use Rattle.worker_rounds.specs.declared.worker.Worker.{Worker}
 use Rattle.worker_rounds.specs.Worked.{arrivals_of, HasDrawn, IsWorked}
-use Rattle.round_state.specs.Rounds.{StoreName}
+use Rattle.job_rounds.specs.OfRoundState.Rounds.{StoreName}
 use Rattle.job_rounds.specs.OfOneRound.OfOutcomes.Draws.{AreAllSeats, AreDrawn, IsOneSeat, IsRising}
 use Rattle.job_rounds.specs.OfOneRound.OfOutcomes.Met.{AreBack, IsSameWorker}
 use Rattle.job_rounds.specs.declared.one_round.hands.Hand.{Hand}

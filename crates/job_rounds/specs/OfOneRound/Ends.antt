@@ -21,8 +21,8 @@ use Rattle.walk_logs.specs.Rows.{numbers_of}
 use Rattle.worker_walk.specs.Walked.{journal_of}
 use Rattle.worker_rounds.specs.declared.worker.Worker.{Worker}
 use Rattle.worker_rounds.specs.Worked.{arrivals_of, IsWorked}
-use Rattle.round_state.specs.Views.{journal}
-use Rattle.round_state.specs.Rounds.{StoreName, IsDeskOf}
+use Rattle.job_rounds.specs.OfRoundState.Views.{journal}
+use Rattle.job_rounds.specs.OfRoundState.Rounds.{StoreName, IsDeskOf}
 use Rattle.job_rounds.specs.declared.one_round.round_end.RoundEnd.{RoundEnd}
 use Rattle.job_rounds.specs.OfOneRound.Rounds.{AreEvents}
 

@@ -15,7 +15,7 @@ use Rattle.lawful_runs.specs.OfLogs.Logs.{LogRow}
 use Rattle.walk_logs.specs.Rows.{numbers_of}
 use Rattle.worker_rounds.specs.declared.worker.Worker.{Worker}
 use Rattle.worker_rounds.specs.Worked.{arrivals_of, HasDrawn, IsWorked}
-use Rattle.round_state.specs.Rounds.{StoreName, store_name}
+use Rattle.job_rounds.specs.OfRoundState.Rounds.{StoreName, store_name}
 use Rattle.job_rounds.specs.declared.one_round.hands.Hand.{Hand}
 use Rattle.job_rounds.specs.declared.one_round.hands.Ended.{Ended}
 use Rattle.job_rounds.specs.declared.one_round.hands.OfRound.{OfRound}

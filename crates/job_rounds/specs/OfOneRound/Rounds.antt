@@ -10,7 +10,7 @@ use Rattle.round_terms.specs.LoadedJob.{LoadedJob}
 use Rattle.round_terms.specs.Given.{IsLoaded}
 use Rattle.round_terms.specs.Files.{RoundFile, files_of, batches_of, commands_in_all}
 use Rattle.round_terms.specs.Coming.{IsThroughAll}
-use Rattle.round_state.specs.Rounds.{StoreName}
+use Rattle.job_rounds.specs.OfRoundState.Rounds.{StoreName}
 
 -- a round of a loaded job that has room for all its lines: in the journal, and at the ear
 pub record IsRoundWithRoom (job : LoadedJob) (number before spare : ℕ) : Type 0 where

@@ -1,12 +1,12 @@
 //! What a control's thread does.
 ghost use Rattle.std.specs.Prelude.{◌≡◌, ◌≤◌, length};
-ghost use Rattle.round_state.specs.Rounds.{store_name};
+ghost use Rattle.job_rounds.specs.OfRoundState.Rounds.{store_name};
 ghost use Rattle.job_rounds.specs.OfOneRound.Rounds.{IsNamedRound};
 
 use crate::one_round::bell::Bell;
 use crate::one_round::turns::turn_while;
+use crate::round_state::{RoundName, RoundState, Turned};
 use hook_store_law::HookStore;
-use round_state::{RoundName, RoundState, Turned};
 use round_terms::LoadedJob;
 use std::sync::{Mutex, Wait};
 use std::thread;

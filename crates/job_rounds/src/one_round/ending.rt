@@ -1,7 +1,7 @@
 //! The end of a round, behind its threads.
 ghost use Rattle.std.specs.Prelude.{◌≡◌, length, map, IfOk};
 ghost use Rattle.round_terms.specs.Files.{files_of};
-ghost use Rattle.round_state.specs.Rounds.{store_name};
+ghost use Rattle.job_rounds.specs.OfRoundState.Rounds.{store_name};
 ghost use Rattle.job_rounds.specs.OfOneRound.Rounds.{IsNamedRound, AreThrough};
 ghost use Rattle.job_rounds.specs.OfOneRound.Hands.{AreClaimed, AreWalkable, IsBackFrom};
 ghost use Rattle.job_rounds.specs.OfOneRound.Ends.{IsRoundEnd};
@@ -11,7 +11,7 @@ use crate::one_round::hands::Hand;
 use crate::one_round::joining::Back;
 use crate::one_round::outcomes::{meet_all, settle};
 use crate::one_round::round_end::RoundEnd;
-use round_state::{RoundName, RoundState};
+use crate::round_state::{RoundName, RoundState};
 use round_terms::LoadedJob;
 use run_report::RoundRecord;
 use std::alloc::Global;

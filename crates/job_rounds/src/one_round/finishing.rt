@@ -3,12 +3,12 @@ ghost use Rattle.std.specs.Prelude.{◌≡◌, ◌≢◌, ◌≤◌, ℕ, length
 ghost use Rattle.lawful_runs.specs.Events.{events_of};
 ghost use Rattle.round_terms.specs.Files.{files_of};
 ghost use Rattle.round_terms.specs.Coming.{IsThroughAll};
-ghost use Rattle.round_state.specs.Rounds.{store_name};
+ghost use Rattle.job_rounds.specs.OfRoundState.Rounds.{store_name};
 ghost use Rattle.job_rounds.specs.OfOneRound.Rounds.{IsNamedRound, AreThrough};
 
 use crate::one_round::turns::turn_while;
+use crate::round_state::{RoundName, RoundState, Turned};
 use hook_store_law::HookStore;
-use round_state::{RoundName, RoundState, Turned};
 use round_terms::LoadedJob;
 use std::sync::Wait;
 use std::thread;

@@ -1,7 +1,7 @@
 //! What goes into a worker's thread, and what comes back.
 ghost use Rattle.std.specs.Prelude.{◌≡◌, length, map, IfOk};
 ghost use Rattle.std.specs.List.{AllByRecursion};
-ghost use Rattle.round_state.specs.Rounds.{store_name};
+ghost use Rattle.job_rounds.specs.OfRoundState.Rounds.{store_name};
 ghost use Rattle.job_rounds.specs.OfOneRound.Hands.{AreWalkable, CanWork, HasWorked, fresh_seat};
 
 use crate::one_round::bell::Bell;

@@ -3,7 +3,7 @@ ghost use Rattle.std.specs.Prelude.{◌≡◌, ◌++◌, ◌∷◌, [], List, If
 ghost use Rattle.std.specs.List.{AllZip};
 ghost use Rattle.tc_base.specs.declared.hook.Hook.{Hook as AHook};
 ghost use Rattle.pcap_io.specs.declared.capture.Packet.{Packet};
-ghost use Rattle.round_state.specs.Rounds.{StoreName};
+ghost use Rattle.job_rounds.specs.OfRoundState.Rounds.{StoreName};
 ghost use Rattle.job_rounds.specs.declared.one_round.hands.Hand.{Hand as AHand};
 ghost use Rattle.job_rounds.specs.OfOneRound.Hands.{HasWorked, IsPut, IsStartedFor, IsBackFrom};
 

@@ -6,7 +6,7 @@ ghost use Rattle.pin_store.specs.Calls.{pin_of};
 ghost use Rattle.filter_state.specs.declared.edit.Edit.{Edit};
 ghost use Rattle.run_report.specs.declared.outcomes.Outcome.{Outcome};
 ghost use Rattle.worker_rounds.specs.declared.worker.Worker.{Worker};
-ghost use Rattle.round_state.specs.Rounds.{StoreName};
+ghost use Rattle.job_rounds.specs.OfRoundState.Rounds.{StoreName};
 ghost use Rattle.job_rounds.specs.OfOneRound.Ends.{HaveSeen, HaveWalked};
 
 /// Behind a round its workers have seen all points of their own outcomes, those of the round as well. So a

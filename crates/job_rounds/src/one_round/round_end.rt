@@ -1,6 +1,6 @@
 //! What a round leaves.
 
-use round_state::Desk;
+use crate::round_state::Desk;
 use round_terms::MadeAction;
 use run_report::RoundRecord;
 use tc_base::Ear;

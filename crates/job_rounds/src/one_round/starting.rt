@@ -1,15 +1,15 @@
 //! Starts the threads of a round.
 ghost use Rattle.std.specs.Prelude.{◌≡◌, ◌≤◌, length, IfOk};
 ghost use Rattle.std.specs.List.{AllByRecursion, AllZip};
-ghost use Rattle.round_state.specs.Rounds.{store_name};
+ghost use Rattle.job_rounds.specs.OfRoundState.Rounds.{store_name};
 ghost use Rattle.job_rounds.specs.OfOneRound.Rounds.{IsNamedRound};
 ghost use Rattle.job_rounds.specs.OfOneRound.Hands.{AreWalkable, CanWork, HasWorked, IsStartedFor};
 
 use crate::one_round::bell::Bell;
 use crate::one_round::controls::{control_all, line_of};
 use crate::one_round::hands::{Ended, Hand, OfRound, Started, work_of};
+use crate::round_state::{RoundName, RoundState};
 use hook_store_law::HookStore;
-use round_state::{RoundName, RoundState};
 use round_terms::LoadedJob;
 use std::alloc::Global;
 use std::snapshot::Snapshot;

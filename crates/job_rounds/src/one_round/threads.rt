@@ -1,6 +1,6 @@
 //! The threads of a round, from their start to their end.
 ghost use Rattle.std.specs.Prelude.{◌≡◌, length, map, IfOk};
-ghost use Rattle.round_state.specs.Rounds.{store_name};
+ghost use Rattle.job_rounds.specs.OfRoundState.Rounds.{store_name};
 ghost use Rattle.job_rounds.specs.OfOneRound.Rounds.{IsNamedRound};
 ghost use Rattle.job_rounds.specs.OfOneRound.Hands.{AreClaimed, AreWalkable, IsBackFrom};
 ghost use Rattle.job_rounds.specs.OfOneRound.Ends.{IsRoundEnd};
@@ -12,7 +12,7 @@ use crate::one_round::joining::{Back, join_workers};
 use crate::one_round::round_end::RoundEnd;
 use crate::one_round::starting::{start_controls, start_workers};
 use crate::one_round::tending::tend;
-use round_state::{RoundName, RoundState};
+use crate::round_state::{RoundName, RoundState};
 use round_terms::LoadedJob;
 use std::alloc::Global;
 use std::snapshot::Snapshot;

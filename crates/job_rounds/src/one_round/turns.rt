@@ -1,12 +1,12 @@
 //! A control's turn, where the store allows one.
 ghost use Rattle.std.specs.Prelude.{◌≡◌, ◌≤◌, length};
 ghost use Rattle.round_terms.specs.Files.{files_of};
-ghost use Rattle.round_state.specs.Rounds.{store_name};
-ghost use Rattle.round_state.specs.Turns.{IsTurned};
+ghost use Rattle.job_rounds.specs.OfRoundState.Rounds.{store_name};
+ghost use Rattle.job_rounds.specs.OfRoundState.Turns.{IsTurned};
 ghost use Rattle.job_rounds.specs.OfOneRound.Rounds.{IsNamedRound};
 
+use crate::round_state::{RoundName, RoundState, Turned};
 use hook_store_law::HookStore;
-use round_state::{RoundName, RoundState, Turned};
 use round_terms::LoadedJob;
 use std::sync::Wait;
 use tc_base::Ear;

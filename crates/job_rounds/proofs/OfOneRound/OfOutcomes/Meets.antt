@@ -9,7 +9,7 @@ use Rattle.store_history.specs.declared.history.Commit.{Commit}
 use Rattle.pin_store.specs.Calls.{seen_by}
 use Rattle.filter_state.specs.declared.edit.Edit.{Edit}
 use Rattle.worker_rounds.specs.declared.worker.Worker.{Worker}
-use Rattle.round_state.specs.Views.{DeskView}
+use Rattle.job_rounds.specs.OfRoundState.Views.{DeskView}
 use Rattle.job_rounds.specs.OfOneRound.OfOutcomes.Met.{IsSameDesk, IsSameWorker}
 
 pub same_desk_self : (desk : DeskView) → IsSameDesk desk desk

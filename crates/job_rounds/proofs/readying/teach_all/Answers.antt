@@ -1,6 +1,6 @@
 use Rattle.std.proofs.Common.{length, arith}
-use Rattle.round_state.specs.Views.{journal}
-use Rattle.round_state.specs.Rounds.{store_name}
+use Rattle.job_rounds.specs.OfRoundState.Views.{journal}
+use Rattle.job_rounds.specs.OfRoundState.Rounds.{store_name}
 use Rattle.job_rounds.specs.Taught.{IsTaught}
 use Rattle.job_rounds.proofs.Zipping.{zipped}
 use Rattle.job_rounds.proofs.readying.teach_all.Goals as goal

@@ -1,8 +1,8 @@
 use Rattle.std.proofs.Common.{◌≡◌, ℕ, ◌≤◌, ◌<◌, length, get_or}
 use Rattle.pin_store.specs.Calls.{IsSeatOf}
 use Rattle.worker_rounds.specs.declared.worker.Worker.{Worker}
-use Rattle.round_state.specs.Views.{journal}
-use Rattle.round_state.specs.Rounds.{store_name}
+use Rattle.job_rounds.specs.OfRoundState.Views.{journal}
+use Rattle.job_rounds.specs.OfRoundState.Rounds.{store_name}
 use Rattle.job_rounds.specs.Taught.{IsTaught}
 use Rattle.job_rounds.proofs.readying.teach_all.Given as goal
 

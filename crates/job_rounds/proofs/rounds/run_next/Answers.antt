@@ -13,8 +13,8 @@ use Rattle.round_terms.specs.Underway.{IsMadeSince}
 use Rattle.worker_rounds.specs.Worked.{arrivals_of}
 use Rattle.shared_hook.specs.Views.{DeskView}
 use Rattle.worker_rounds.specs.declared.worker.Worker.{Worker}
-use Rattle.round_state.specs.Views.{journal}
-use Rattle.round_state.specs.Rounds.{store_name, IsDeskOf}
+use Rattle.job_rounds.specs.OfRoundState.Views.{journal}
+use Rattle.job_rounds.specs.OfRoundState.Rounds.{store_name, IsDeskOf}
 use Rattle.job_rounds.specs.OfOneRound.Rounds.{AreEvents}
 use Rattle.job_rounds.specs.OfOneRound.Ends.{HaveWalked, IsLawfulRound}
 use Rattle.job_rounds.specs.OfOneRound.Hands.{AreReady}

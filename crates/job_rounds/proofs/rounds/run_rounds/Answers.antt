@@ -1,6 +1,6 @@
 use Rattle.std.proofs.Common.{◌≡◌, ◌∙◌, ◌+◌, ◌-◌, ℕ, length, ap, subst, arith}
 use Rattle.round_terms.specs.Hearing.{EarView}
-use Rattle.round_state.specs.Rounds.{store_name}
+use Rattle.job_rounds.specs.OfRoundState.Rounds.{store_name}
 use Rattle.job_rounds.specs.SoFar.{IsSoFar, HasRoom}
 use Rattle.job_rounds.proofs.rounds.run_rounds.Goals as goal
 

@@ -5,7 +5,7 @@ use Rattle.run_report.specs.declared.rounds.RoundRecord.{RoundRecord}
 use Rattle.lawful_runs.specs.Given.{GivenRound, given_rounds}
 use Rattle.lawful_runs.specs.Lawful.{AreRounds, outcomes_in, counters_of}
 use Rattle.worker_rounds.specs.declared.worker.Worker.{Worker}
-use Rattle.round_state.specs.Views.{journal}
+use Rattle.job_rounds.specs.OfRoundState.Views.{journal}
 use Rattle.job_rounds.specs.Names.{names_in}
 use Rattle.job_rounds.specs.SoFar.{all_made}
 use Rattle.job_rounds.specs.Counted.{AreCounted, lines_of}

@@ -1,6 +1,6 @@
 use Rattle.std.proofs.Common.{refl}
 use Rattle.round_terms.specs.Hearing.{EarView, ear_of}
-use Rattle.round_state.specs.Rounds.{store_name}
+use Rattle.job_rounds.specs.OfRoundState.Rounds.{store_name}
 use Rattle.job_rounds.specs.SoFar.{IsSoFar}
 use Rattle.job_rounds.proofs.Whole.{begins}
 use Rattle.job_rounds.proofs.running.run_over.Goals as goal

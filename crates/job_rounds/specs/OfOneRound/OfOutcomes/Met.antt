@@ -9,7 +9,7 @@ use Rattle.lawful_runs.specs.OfLogs.Logs.{LogRow, ArePointsTo}
 use Rattle.worker_walk.specs.Walked.{journal_of}
 use Rattle.worker_rounds.specs.declared.worker.Worker.{Worker}
 use Rattle.worker_rounds.specs.Worked.{IsWorked}
-use Rattle.round_state.specs.Views.{DeskView}
+use Rattle.job_rounds.specs.OfRoundState.Views.{DeskView}
 
 -- a desk but for its place in the store's table; it has seen the same commits
 pub record IsSameDesk (old new : DeskView) : Type 0 where

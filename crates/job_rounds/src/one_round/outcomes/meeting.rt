@@ -4,11 +4,11 @@ ghost use Rattle.std.specs.List.{AllZip};
 ghost use mathlib.Core.List.{IsPrefix};
 ghost use Rattle.pin_store.specs.Calls.{seen_by, IsSeatOf};
 ghost use Rattle.worker_walk.specs.Walked.{journal_of};
-ghost use Rattle.round_state.specs.Views.{journal};
+ghost use Rattle.job_rounds.specs.OfRoundState.Views.{journal};
 ghost use Rattle.job_rounds.specs.OfOneRound.OfOutcomes.Met.{IsSameDesk, IsSameWorker};
 
+use crate::round_state::Desk;
 use hook_store_law::HookStore;
-use round_state::Desk;
 use worker_rounds::Worker;
 
 // Meets the reader of one worker.

@@ -7,7 +7,7 @@ use Rattle.round_terms.specs.LoadedJob.{LoadedJob}
 use Rattle.round_terms.specs.Given.{IsLoaded}
 use Rattle.round_terms.specs.Files.{files_of}
 use Rattle.worker_rounds.specs.declared.worker.Worker.{Worker}
-use Rattle.round_state.specs.Rounds.{StoreName, IsDeskOf, store_name}
+use Rattle.job_rounds.specs.OfRoundState.Rounds.{StoreName, IsDeskOf, store_name}
 use Rattle.job_rounds.specs.declared.one_round.round_end.RoundEnd.{RoundEnd}
 use Rattle.job_rounds.specs.OfOneRound.OfOutcomes.Draws.{AreDrawn}
 use Rattle.job_rounds.specs.OfOneRound.OfOutcomes.Met.{IsSameWorker}

@@ -3,7 +3,7 @@ use Rattle.std.specs.List.{AllZip}
 use Rattle.std.specs.Vec.Iter.{into_iter_items, into_iter_len}
 use Rattle.tc_base.specs.declared.hook.Hook.{Hook}
 use Rattle.pcap_io.specs.declared.capture.Packet.{Packet}
-use Rattle.round_state.specs.Rounds.{StoreName}
+use Rattle.job_rounds.specs.OfRoundState.Rounds.{StoreName}
 use Rattle.job_rounds.specs.declared.one_round.hands.Hand.{Hand}
 use Rattle.job_rounds.specs.OfOneRound.Hands.{IsStartedFor}
 use Rattle.job_rounds.proofs.OfOneRound.Joins.{AreJoining}

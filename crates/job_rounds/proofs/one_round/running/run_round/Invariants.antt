@@ -1,6 +1,6 @@
 use Rattle.round_terms.specs.Hearing.{ear_of}
-use Rattle.round_state.specs.Views.{journal}
-use Rattle.round_state.specs.Rounds.{store_name}
+use Rattle.job_rounds.specs.OfRoundState.Views.{journal}
+use Rattle.job_rounds.specs.OfRoundState.Rounds.{store_name}
 use Rattle.job_rounds.proofs.one_round.running.run_round.Given as goal
 
 -- the round that this call names

@@ -1,7 +1,7 @@
 use Rattle.std.proofs.Common.{◌≡◌, length, subst}
 use Rattle.std.specs.List.{AllByRecursion}
 use Rattle.step_counts.specs.Seats.{Untaken}
-use Rattle.round_state.specs.Rounds.{store_name}
+use Rattle.job_rounds.specs.OfRoundState.Rounds.{store_name}
 use Rattle.job_rounds.specs.declared.one_round.hands.Hand.{Hand}
 use Rattle.job_rounds.specs.OfOneRound.Hands.{fresh_seat}
 use Rattle.job_rounds.proofs.OfOneRound.Claimed.{claimed}

@@ -1,6 +1,6 @@
 use Rattle.std.proofs.Common.{length}
 use Rattle.std.specs.Vec.Iter.{into_iter_items}
-use Rattle.round_state.specs.Rounds.{store_name}
+use Rattle.job_rounds.specs.OfRoundState.Rounds.{store_name}
 use Rattle.job_rounds.specs.OfOneRound.Hands.{CanWork}
 use Rattle.job_rounds.proofs.OfOneRound.Zips.{left_next}
 use Rattle.job_rounds.proofs.OfOneRound.Starts.{one_started}

@@ -1,6 +1,6 @@
 use Rattle.std.proofs.Common.{◌≡◌, length}
 use Rattle.std.specs.Vec.Iter.{into_iter_items, into_iter_len}
-use Rattle.round_state.specs.Rounds.{store_name}
+use Rattle.job_rounds.specs.OfRoundState.Rounds.{store_name}
 use Rattle.job_rounds.specs.OfOneRound.Hands.{CanWork}
 use Rattle.job_rounds.proofs.OfOneRound.Starts.{AreStarting}
 use Rattle.job_rounds.proofs.one_round.starting.start_workers.Given as goal

@@ -1,0 +1,8 @@
+use Rattle.short_walk_laws.proofs.ShortRuns.{executed_short, frame_short}
+use Rattle.short_walk_laws.proofs.walks_are_short.Goals as goal
+
+pub returns-clause-executed : goal.returns-clause-executed
+returns-clause-executed c = executed_short
+
+pub returns-clause-frame : goal.returns-clause-frame
+returns-clause-frame c = frame_short
