@@ -5,6 +5,7 @@ pub mod Generating
 pub mod JobFaults
 pub mod Lines
 pub mod Making
+pub mod OfOutputs
 pub mod PacketLines
 pub mod Readings
 pub mod Rechecking

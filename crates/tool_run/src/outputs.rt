@@ -1,30 +1,20 @@
-//! The output captures of a run.
-ghost use Rattle.std.specs.Prelude.{◌≡◌, ◌≤◌, IfErr, OnOk};
-ghost use Rattle.lawful_runs.specs.Given.{IsLoaded};
-ghost use Rattle.lawful_runs.specs.Lawful.{IsLawfulRun};
-ghost use Rattle.tool_run.specs.OfOutputs.Outputs.{outputs_of};
-ghost use Rattle.tool_run.specs.OfOutputs.Puts.{ArePut, ArePutUpTo};
-ghost use Rattle.tool_run.specs.Parts.{PutFails};
+//! Puts what a finished run of a job leaves: the packets that passed, round by round.
+//!
+//! A round with a capture names a file for its output. Once the run has ended that file is put: the packets
+//! that passed, as their walks left them (`specs/OfOutputs/Outputs.antt`). It stands also where none passed, as
+//! a capture without packets. Outputs are put in the order of the rounds, and where two have one name the
+//! later stands. So what is held then depends on nothing but the job and the record of its run.
+//!
+//! A packet whose frame is byte for byte as it came takes no copy: it is a stretch of the input's bytes
+//! (`pcap_io::Excerpt`). Of the others the frame is copied, and the original length grows or shrinks with it.
+//! One output is held at a time.
+//!
+//! What is asked of the record is that it is one of a lawful run. `specs/OfOutputs/Ready.antt` says which plain
+//! facts follow from that, and all but `put_outputs` asks for these alone.
+//!
+//! One thread calls this, and it keeps nothing between calls. Not promised: that memory suffices, and what a
+//! shelf holds that doesn't tell it.
+mod passing;
+mod putting;
 
-use lawful_runs::LoadedJob;
-use run_report::RunRecord;
-use std::alloc::Global;
-use tc_base::Shelf;
-use tool_words::Status;
-
-/// Puts the output captures of a run.
-pub fn put_outputs<S: Shelf>(
-    alloc: Global,
-    loaded: &LoadedJob,
-    run: &RunRecord,
-    shelf: &mut S,
-) -> Result<(), Status>
-    requires loaded { IsLoaded loaded.now }
-    requires run { IsLawfulRun loaded.now run.now }
-    ensures put { OnOk result (ArePut (S.held shelf.old) (S.held shelf.new) (outputs_of loaded.now run.now)) }
-    ensures up_to { ArePutUpTo (S.held shelf.old) (S.held shelf.new) (outputs_of loaded.now run.now) }
-    ensures later { S.write_faults shelf.old ≤ S.write_faults shelf.new }
-    ensures cause { IfErr result (PutFails S.write_faults shelf.old shelf.new) }
-{
-    Err(Status::NoMemory)
-}
+pub use putting::put_outputs;
