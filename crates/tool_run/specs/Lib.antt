@@ -7,4 +7,6 @@ pub mod Parts
 pub mod Promises
 pub mod Ready
 pub mod Rechecks
+pub mod OfOutputs
+pub mod Runs
 pub mod Work
