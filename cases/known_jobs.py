@@ -1,4 +1,6 @@
-"""The jobs of examples/overlap and of `gen`, for cases/lawful.py: with the handles, lengths and indices that their lines leave to the program."""
+"""The jobs of examples/overlap and of `gen`, for cases/lawful.py: with the handles, lengths and indices that their lines leave to the
+program.
+"""
 
 FILTER = "filter add dev eth0 ingress protocol ip pref 10 handle {0} flower dst_ip 10.0.0.{0}/32 action drop index {0}"
 OVERLAP_JOB = {"workers": 2, "controls": 1, "outs": [None, "passed.pcap"], "first": 1, "rounds": [

@@ -1,6 +1,7 @@
-"""Which reports of small jobs are lawful, and what a run with such a report puts: a twin of the rules in docs/FORMATS.md and
-docs/DEFINITIONS.md, which shares nothing with the program. It knows these lines alone: `qdisc add`; filters on dst_ip with a length, a pref, a handle and gact actions with an index;
-dels of filters and tables; actions that are added, changed and deleted; and `#`, which is no command. Frames have 60 bytes.
+"""Which reports of jobs are lawful, and what a run with such a report puts: a twin of the rules in docs/FORMATS.md and
+docs/DEFINITIONS.md, which shares nothing with the program. It knows these lines alone: `qdisc add`; filters on dst_ip with a length, a
+pref, a handle and gact actions with an index; dels of filters and tables; actions that are added, changed and deleted; and `#`, which is
+no command. Frames have 60 bytes.
 """
 import ipaddress
 import re

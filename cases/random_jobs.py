@@ -25,8 +25,8 @@ def random_line(chance):
 
 
 def random_job(chance):
-    """A job for cases/lawful.py: of each round its batches, with control, `force` and lines, its hook and its packets; and under which names
-    its captures are put, or None for a round without one."""
+    """A job for cases/lawful.py: of each round its batches, with control, `force` and lines, its hook and its packets; the names under which
+    its captures are put, or None for a round without one; and the seconds of each capture's first packet."""
     rounds = []
     for number in range(chance.choice([1, 2, 2, 3])):
         controls = sorted(chance.sample([1, 2], chance.choice([0, 1, 2] if number else [1, 2])))
@@ -44,8 +44,8 @@ def random_batch(chance, length):
 
 
 def random_run(chance, lines, packets):
-    """A job to be run: its rounds have up to so many lines in a batch and up to so many packets, or no batch, no line, no capture, no packet.
-    Mostly the first line of its first batch adds the qdisc; two rounds may name one OUT."""
+    """A job to be run: its rounds have up to so many lines in a batch and up to so many packets, or no batch, no line, no capture, no
+    packet. Mostly the first line of its first batch adds the qdisc; two rounds may name one OUT."""
     controls, rounds, outs = chance.randint(1, 4), [], []
     for number in range(chance.choice([1, 2, 2, 3, 4])):
         named = sorted(chance.sample(range(1, controls + 1), chance.randint(not number, controls)))

@@ -13,20 +13,20 @@ BLOCK = "filter add dev eth0 ingress protocol ip pref 5 flower src_ip 198.18.0.{
 
 
 def packets():
-    """What each packet is, in the words of cases/frames.py."""
+    """What each packet is, in the words of cases/frames.py: eight kinds in turn, from addresses by chance."""
     chance = random.Random(10_000)
-    for _ in range(10_000):
+    for number in range(1, 10_001):
         blocked, other = f"198.18.0.{chance.randrange(256)}", f"203.0.113.{chance.randrange(256)}"
-        yield chance.choice([
+        yield [
+            f"udp {other} 10.0.0.1 53",
+            f"udp {other} 10.0.0.1 53",
             f"udp {blocked} 10.0.0.1 53",
-            f"udp {other} 10.0.0.1 53",
-            f"udp {other} 10.0.0.1 53",
-            f"tcp {blocked} 10.0.0.1 443 0x002",
-            f"tcp {other} 10.0.0.1 443 0x002",
-            f"tcp {other} 10.0.0.1 22 0x002",
-            f"tcp {blocked} 10.0.0.1 80 0x010",
             f"tag 100 udp {other} 10.0.0.1 53",
-        ])
+            f"tcp {other} 10.0.0.1 443 0x002",
+            f"tcp {blocked} 10.0.0.1 443 0x002",
+            f"tcp {blocked} 10.0.0.1 80 0x010",
+            f"tcp {other} 10.0.0.1 22 0x002",
+        ][number % 8]
 
 
 def main():
