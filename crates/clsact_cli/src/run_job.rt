@@ -1,7 +1,5 @@
 //! The command `run`.
-ghost use Rattle.batch_run.specs.declared.limit.TheConstants.{COMMANDS_MAX};
-ghost use Rattle.walk_ends.specs.declared.limits.TheConstants.{PACKETS_MAX};
-ghost use Rattle.std.specs.Prelude.{◌≡◌, ◌⊎◌, ◌≤◌, IfOk, IfErr, OnOk};
+ghost use Rattle.std.specs.Prelude.{◌≡◌, ◌⊎◌, ◌<◌, ◌^◌, IfOk, IfErr, OnOk};
 ghost use Rattle.tc_base.specs.Outside.{Appended, AppendsUpTo};
 ghost use Rattle.run_report.specs.Counts.{events_in, packets_in};
 ghost use Rattle.run_report.specs.Reports.{report_text};
@@ -67,8 +65,8 @@ fn deliver<S: Shelf, O: Sink>(
 
 // How a run ends: with how many of its lines were refused.
 fn ended(run: &RunRecord) -> Status
-    requires events { events_in run.now.rounds ≤ COMMANDS_MAX }
-    requires packets { packets_in run.now.rounds ≤ PACKETS_MAX }
+    requires events { events_in run.now.rounds < 2 ^ 32 }
+    requires packets { packets_in run.now.rounds < 2 ^ 64 }
     ensures status { result ≡ status_of_run run.now }
     ensures done { IsAllDone result }
 {
