@@ -1,4 +1,4 @@
-//! Waiting for no one: an epoch begins, and the readers are looked at twice.
+//! Waiting for no one: an epoch begins, and the readers are looked at once or twice.
 ghost use Rattle.std.specs.Prelude.{◌≡◌, ◌<◌, ◌≤◌, ◌+◌, ◌^◌, length};
 ghost use Rattle.pin_store.specs.declared.scan.Scan.TheVariants.{Quiet};
 ghost use Rattle.pin_store.specs.Sheets.{base_of};
@@ -6,10 +6,22 @@ ghost use Rattle.pin_store.specs.Calls.{seen_by, sheet_of, IsSeatOf};
 ghost use Rattle.desk_tidy.specs.Tidied.{IsTwiceIn};
 
 use pin_store::{Scan, Store, Writer};
+use std::hint::spin_loop;
 use store_history::Law;
 
-/// Begins an epoch, and scans the readers twice. Where it is quiet the base is the number of all commits. A
-/// reader that is named was seen twice inside with the same pin.
+// How often the processor is told to pause: some microseconds, in which most walks end.
+const PAUSES: u32 = 128;
+
+// Lets a moment pass.
+fn pause() {
+    for _ in 0..PAUSES {
+        spin_loop();
+    }
+}
+
+/// Begins an epoch, and scans the readers. Where a reader was inside it scans them once more a moment later, as
+/// else readers that walk without a pause would hardly ever be found outside, all of them. Where it is quiet
+/// the base is the number of all commits. A reader that is named was seen twice inside with the same pin.
 pub fn settle<L: Law>(writer: &mut Writer<L>, store: &Store<L>) -> Scan
     requires store { IsSeatOf store.now writer.old.place }
     requires few { (sheet_of writer.old.place).epoch < 2 ^ 62 }
@@ -24,6 +36,11 @@ pub fn settle<L: Law>(writer: &mut Writer<L>, store: &Store<L>) -> Scan
     ensures twice { IsTwiceIn (sheet_of writer.new.place).notes result }
 {
     writer.bump(store);
-    writer.scan(store);
-    writer.scan(store)
+    match writer.scan(store) {
+        Scan::Quiet => Scan::Quiet,
+        Scan::Pinned { .. } => {
+            pause();
+            writer.scan(store)
+        }
+    }
 }
