@@ -3,6 +3,7 @@ pub mod Deciding
 pub mod ReportLines
 pub mod OnePath
 pub mod ShortJournals
+pub mod ShortRuns
 pub mod OneRun
 pub mod Places
 pub mod OneControl

@@ -26,7 +26,7 @@ use Rattle.lawful_runs.proofs.Places.{each_from}
 use Rattle.lawful_runs.proofs.Results.{result_counted}
 
 -- ---- events, and the controls that they are of
-abbrev commands_in : List GivenBatch → ℕ
+abbrev pub commands_in : List GivenBatch → ℕ
 commands_in batches = sum_by (λ (batch : GivenBatch). length batch.commands) batches
 
 told_of : List Event → GivenBatch → ℕ
@@ -123,17 +123,22 @@ edits_short batches s (event ∷ events) edits (words, next, first, rest, line, 
     let others = edits_short batches next events rest more in
     omega (arith, whole, own, one, others)
 
-round_short : (batches : List GivenBatch) (s : State) (events : List Event) (edits : List Edit) → AreInOrder batches events → AreResults batches s events edits → length edits ≤ commands_in batches
-round_short batches s events edits order results =
+pub events_short : (batches : List GivenBatch) (s : State) (events : List Event) (edits : List Edit) → AreInOrder batches events → AreResults batches s events edits → length events ≤ commands_in batches
+events_short batches s events edits order results =
     let each : Each (λ (batch : GivenBatch). IsThrough batch.force batch.commands (events_of batch.control events)) batches =
     each_from (λ (batch : GivenBatch). IsThrough batch.force batch.commands (events_of batch.control events)) batches (λ place batch is. order batch (place, is)) in
-    let fewer = edits_short batches s events edits results in
     let counted = all_counted batches s events edits results in
     let told = told_short events batches each in
-    omega (arith, fewer, counted, told)
+    omega (arith, counted, told)
+
+round_short : (batches : List GivenBatch) (s : State) (events : List Event) (edits : List Edit) → AreInOrder batches events → AreResults batches s events edits → length edits ≤ commands_in batches
+round_short batches s events edits order results =
+    let fewer = edits_short batches s events edits results in
+    let all = events_short batches s events edits order results in
+    omega (arith, fewer, all)
 
 -- ---- rounds
-abbrev round_commands : GivenRound → ℕ
+abbrev pub round_commands : GivenRound → ℕ
 round_commands round = commands_in round.batches
 
 rounds_short : (workers : ℕ) (rounds : List GivenRound) (before : List Edit) (earlier : List Outcome) (its : List RoundRecord) (journal : List Edit) → AreRounds workers rounds before earlier its journal
@@ -162,7 +167,7 @@ given_short (name ∷ names) (bytes ∷ files) =
     let rest = given_short names files in
     omega (arith, here, count, rest)
 
-files_short : (rounds : List Round) (files : List (List ℕ)) (captures : List Capture) → sum_by round_commands (rounds_from rounds files captures) ≤ command_count files
+pub files_short : (rounds : List Round) (files : List (List ℕ)) (captures : List Capture) → sum_by round_commands (rounds_from rounds files captures) ≤ command_count files
 files_short [] files captures = omega arith
 files_short (round ∷ rounds) files captures =
     let left : List (List ℕ) = drop (length round.batches) files in

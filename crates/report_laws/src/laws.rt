@@ -1,6 +1,9 @@
 //! What the text of a report tells.
-ghost use Rattle.std.specs.Prelude.{◌≡◌, ℕ, ◌<◌, ◌^◌, List};
+ghost use Rattle.std.specs.Prelude.{◌≡◌, ℕ, ◌<◌, ◌≤◌, ◌^◌, List};
 ghost use Rattle.run_report.specs.declared.record.RunRecord.{RunRecord};
+ghost use Rattle.batch_run.specs.declared.limit.TheConstants.{COMMANDS_MAX};
+ghost use Rattle.walk_ends.specs.declared.limits.TheConstants.{PACKETS_MAX};
+ghost use Rattle.run_report.specs.Counts.{events_in, packets_in};
 ghost use Rattle.run_report.specs.Reports.{report_lines, report_text};
 ghost use Rattle.lawful_runs.specs.declared.loaded.LoadedJob.{LoadedJob};
 ghost use Rattle.lawful_runs.specs.Given.{IsLoaded};
@@ -25,4 +28,13 @@ pub fn one_stand()
 /// Each line of a report, of any run, has its one end at its last byte.
 pub fn lines_of_reports()
     ensures { (run : RunRecord) → AreLines (report_lines run) }
+{}
+
+/// A lawful run of a loaded job has no more events than a job has commands at most, and no more outcomes than
+/// a job has packets at most. So whoever counts them never passes what a number of 32 bits holds.
+pub fn runs_are_short()
+    ensures events { (loaded : LoadedJob) (run : RunRecord) → IsLoaded loaded → IsLawfulRun loaded run
+        → events_in run.rounds ≤ COMMANDS_MAX }
+    ensures packets { (loaded : LoadedJob) (run : RunRecord) → IsLoaded loaded → IsLawfulRun loaded run
+        → packets_in run.rounds ≤ PACKETS_MAX }
 {}

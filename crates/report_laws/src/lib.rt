@@ -23,6 +23,9 @@
 //! commands, so no point comes near. That no two batches of a round are of one control is asked of the job as
 //! well: with two, a line might be a command of either.
 //!
+//! No lawful run is longer than its job (`runs_are_short`), so a report can be written and its events and
+//! packets counted.
+//!
 //! `whole_paths` says that each path goes on to the end, and so where lines get stuck, which is the first bad
 //! line of a report; `next_lines` says which line may come next, in words that whoever judges a report can
 //! compute.
@@ -35,5 +38,5 @@ pub mod next_lines;
 mod stands;
 pub mod whole_paths;
 
-pub use laws::{lines_of_reports, one_run_of_each_report, one_stand};
+pub use laws::{lines_of_reports, one_run_of_each_report, one_stand, runs_are_short};
 pub use stands::runs_are_paths;
