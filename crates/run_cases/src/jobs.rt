@@ -1,6 +1,5 @@
 //! Jobs in memory.
 
-use crate::trouble::Trouble;
 use std::alloc::{AllocError, Global};
 use tc_base::{MemShelf, Numbers};
 
@@ -30,16 +29,7 @@ pub(crate) fn capture_to(alloc: Global, hosts: &[u8]) -> Result<Vec<u8>, AllocEr
     Ok(bytes)
 }
 
-/// Files in memory, of which none can't be read.
+/// No files. None that is put there will fail to be read.
 pub(crate) fn no_files(alloc: Global) -> MemShelf {
     MemShelf::new(alloc, Numbers::from_vec(Vec::new(alloc)))
-}
-
-/// Files in memory with these texts.
-pub(crate) fn files_of(alloc: Global, texts: &[(&str, &str)]) -> Result<MemShelf, Trouble> {
-    let mut shelf = no_files(alloc);
-    for (name, text) in texts {
-        shelf.insert(name, text.as_bytes())?;
-    }
-    Ok(shelf)
 }

@@ -3,7 +3,7 @@
 //! The contract of `run_job` says that a run is a lawful one of its job, whatever threads did. What is added
 //! here: that threads are there at all. A run's gate (`Order`) makes steps of controls and walks come one after
 //! the other in a given order, in which a walk and an edit overlap, or two controls take turns, or an edit is
-//! held by a walk. What then has to be reported was worked out by hand (`scripts`, `held`). Whoever ran controls
+//! held by a walk. What then has to be reported was worked out by hand (`scripts`). Whoever ran controls
 //! and workers one after the other could not take these steps: the gate opens by itself after a while, and says
 //! that it did. And there are jobs at random, with all threads that a job can have (`random`): the report of
 //! each is judged as one of a lawful run, and its counters are counted again.
@@ -22,8 +22,6 @@
 #[cfg(test)]
 mod dice;
 #[cfg(test)]
-mod held;
-#[cfg(test)]
 mod jobs;
 #[cfg(test)]
 mod order;
@@ -31,6 +29,8 @@ mod order;
 mod random;
 #[cfg(test)]
 mod random_jobs;
+#[cfg(test)]
+mod script;
 #[cfg(test)]
 mod scripts;
 #[cfg(test)]

@@ -1,6 +1,6 @@
 //! A gate that has steps of a run come one after the other.
 
-use std::sync::atomic::{AtomicBool, AtomicU32, AtomicUsize, Ordering};
+use std::sync::atomic::{AtomicBool, AtomicUsize, Ordering};
 use std::thread;
 use tc_base::{Gate, Tender};
 
@@ -19,7 +19,7 @@ pub(crate) enum Step {
     Tends,
 }
 
-// How often a thread looks again while no other one comes to the gate.
+// How often a thread looks whether its turn has come.
 const PATIENCE: u32 = 10_000_000;
 
 /// A gate at which steps come in this order. Those that it doesn't name come at any time.
@@ -28,8 +28,6 @@ pub(crate) struct Order<'a> {
     steps: &'a [Step],
     // How many were taken.
     taken: AtomicUsize,
-    // How often anybody came to the gate.
-    calls: AtomicU32,
     // Somebody waited in vain. Then the gate is open.
     is_late: AtomicBool,
 }
@@ -39,7 +37,6 @@ impl<'a> Order<'a> {
         Order {
             steps,
             taken: AtomicUsize::new(0),
-            calls: AtomicU32::new(0),
             is_late: AtomicBool::new(false),
         }
     }
@@ -59,24 +56,12 @@ impl<'a> Order<'a> {
         true
     }
 
-    // Waits for the turn of the step at a place, while others come to the gate.
+    // Waits for the turn of the step at a place.
     fn wait_for(&self, place: usize) {
-        let mut calls = 0;
-        let mut still = 0u32;
-        for _ in 0..u64::MAX {
+        for _ in 0..PATIENCE {
             if self.takes(place) || self.is_late.load(Ordering::SeqCst) {
                 return;
             }
-            let now = self.calls.load(Ordering::SeqCst);
-            still = if now == calls {
-                still.saturating_add(1)
-            } else {
-                0
-            };
-            if still > PATIENCE {
-                break;
-            }
-            calls = now;
             thread::yield_now();
         }
         self.is_late.store(true, Ordering::SeqCst);
@@ -84,7 +69,6 @@ impl<'a> Order<'a> {
 
     // Comes to the gate for a step.
     fn pass(&self, step: Step) {
-        self.calls.fetch_add(1, Ordering::SeqCst);
         if let Some(place) = self.steps.iter().position(|own| *own == step) {
             self.wait_for(place);
         }

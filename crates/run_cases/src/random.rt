@@ -107,6 +107,6 @@ fn judge_many<R: Threads + Wait + Sync>(
 fn random_jobs_are_run_lawfully(rt: HostRuntime) -> Result<(), Fail> {
     let (right, packets) = judge_many(&rt, rt.alloc(), 40)?;
     assert!(rt; right);
-    assert!(rt; packets > 1_000);
+    assert!(rt; packets > 500);
     Ok(())
 }

@@ -43,7 +43,9 @@ fn filter(alloc: Global, dice: &mut Dice, command: &str) -> Result<String, Alloc
     let handle = 1 + dice.below(6);
     let fields = dice.one(FIELDS);
     let actions = dice.one(ACTIONS);
-    format!(in alloc; "filter {command} dev eth0 {table} handle {handle} flower {fields}{actions}\n")
+    format!(in alloc;
+        "filter {command} dev eth0 {table} handle {handle} flower {fields}{actions}\n"
+    )
 }
 
 fn removal(alloc: Global, dice: &mut Dice) -> Result<String, AllocError> {
@@ -99,7 +101,7 @@ fn add_batches(
         let name = format!(in alloc; "batch{round}.{control}")?;
         let force = dice.one(&["", " force", " force"]);
         job.push_str(&format!(in alloc; "batch {control} {name}{force}\n")?)?;
-        let lines = dice.below(40);
+        let lines = dice.below(30);
         shelf.insert(&name, batch(alloc, dice, lines)?.as_bytes())?;
     }
     Ok(())
@@ -108,7 +110,7 @@ fn add_batches(
 // A capture to hosts 1 to 4.
 fn capture(alloc: Global, dice: &mut Dice) -> Result<Vec<u8>, AllocError> {
     let mut hosts = Vec::new(alloc);
-    for _ in 0..dice.below(60) {
+    for _ in 0..dice.below(30) {
         hosts.push(1 + dice.below(4) as u8)?;
     }
     capture_to(alloc, &hosts)
@@ -138,7 +140,9 @@ pub(crate) fn random_job(alloc: Global, dice: &mut Dice) -> Result<MemShelf, Tro
     let controls = 1 + dice.below(4);
     let mut shelf = no_files(alloc);
     shelf.insert("base", BASE.as_bytes())?;
-    let mut job = format!(in alloc; "clsact job 1\nworkers {workers}\ncontrols {controls}\nround\nbatch 1 base\n")?;
+    let mut job = format!(in alloc;
+        "clsact job 1\nworkers {workers}\ncontrols {controls}\nround\nbatch 1 base\n"
+    )?;
     for round in 0..dice.below(5) {
         job.push_str("round\n")?;
         add_batches(alloc, dice, &mut shelf, &mut job, round, controls)?;
