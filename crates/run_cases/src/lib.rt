@@ -1,12 +1,12 @@
 //! Jobs in use: rounds on threads, with edits and walks that meet at known places.
 //!
 //! The contract of `run_job` says that a run is a lawful one of its job, whatever threads did. What is added
-//! here: that threads are there at all. A run's gate (`Order`) makes steps of controls and walks come one after
-//! the other in a given order, in which a walk and an edit overlap, or two controls take turns, or an edit is
-//! held by a walk. What then has to be reported was worked out by hand (`scripts`). Whoever ran controls
-//! and workers one after the other could not take these steps: the gate opens by itself after a while, and says
-//! that it did. And there are jobs at random, with all threads that a job can have (`random`): the report of
-//! each is judged as one of a lawful run, and its counters are counted again.
+//! here: that threads are there at all. A run's gate (`Order`) makes steps of controls and walks come one
+//! after the other in a given order, in which a walk and an edit overlap, two walks are under way at the same
+//! time, two controls take turns, or a walk holds an edit. What is then reported was worked out by hand
+//! (`scripts`). Who ran controls and workers one after the other could not take these steps: the gate opens
+//! by itself after a while, and the test fails. And there are jobs at random, with as many threads as a job
+//! can have (`random`): each report is judged as one of a lawful run, and each counter is counted again.
 //!
 //! # How it is tried
 //!

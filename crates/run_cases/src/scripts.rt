@@ -192,8 +192,8 @@ counter serial 3 gact index 9 packets 0 bytes 0
         ],
         ..PLAIN
     },
-    // Edit 14 gives the filter an action that restarts the walk, in the tables that its head told: the mask is
-    // looked up again, and edit 15, of another control, has the action drop.
+    // Edit 14 gives the filter an action that restarts the walk, in the tables that its head told: the mask
+    // is looked up again, and edit 15, of another control, has the action drop.
     Script {
         about: "a restart comes to the same mask and to an action that is another one then",
         base: SHARED,
@@ -249,30 +249,10 @@ counter serial 2 gact index 2 packets 0 bytes 0
         ],
         ..PLAIN
     },
-    // The reader is inside by then. Edit 3 is one of the tables, and its mask has no filter for the frame.
-    Script {
-        about: "the filter goes to another key before the head",
-        first: MOVES,
-        order: &[
-            Step::Comes(1, 1),
-            Step::Begins(1, 1),
-            Step::Ends(1, 1),
-            Step::Goes(1, 1),
-        ],
-        told: &[
-            "edit 3 control 1 line 1 filter pref 10 handle 0x1 actions 2
-packet 1 worker 1 pass length 42 points 3 3
-end round 2
-counter serial 1 gact index 1 packets 0 bytes 0
-counter serial 2 gact index 2 packets 0 bytes 0
-",
-        ],
-        ..PLAIN
-    },
-    // The tables of a hook have two places. Edit 3 leaves one of them, which the walk may still read, so there
-    // is none for the second line while the walk is inside. A held line is no event: it is tried again, and the
-    // tender has a turn each time. It has no other turns but one at the beginning of a round and one at its
-    // end, so of two turns one at least says that the line was held. When the walk has left it is accepted.
+    // The tables of a hook have two places. Edit 3 leaves one of them, which the walk may still read, so
+    // there is none for the second line while the walk is inside. A held line is no event: it is tried again,
+    // and the tender has a turn each time. It has no other turns but one at the beginning of a round and one
+    // at its end. So of two turns one says that the line was held. When the walk has left it is accepted.
     Script {
         about: "a walk holds an edit of the tables",
         first: "filter del dev eth0 ingress pref 10
