@@ -63,10 +63,10 @@ fn are_counted(run: &RunRecord) -> bool {
 }
 
 // How many packets were walked.
-fn walked_in(run: &RunRecord) -> u32 {
-    let mut walked = 0u32;
+fn walked_in(run: &RunRecord) -> usize {
+    let mut walked = 0usize;
     for round in run.rounds.as_slice() {
-        walked = walked.saturating_add(round.outcomes.len() as u32);
+        walked = walked.saturating_add(round.outcomes.len());
     }
     walked
 }
@@ -76,7 +76,7 @@ fn judge<R: Threads + Wait + Sync>(
     rt: &R,
     alloc: Global,
     mut shelf: MemShelf,
-) -> Result<(bool, u32), Trouble> {
+) -> Result<(bool, usize), Trouble> {
     let Ok(job) = load_job(alloc, &mut shelf, "job") else {
         return Err(Trouble::NotLoaded);
     };
@@ -92,9 +92,9 @@ fn judge_many<R: Threads + Wait + Sync>(
     rt: &R,
     alloc: Global,
     count: u32,
-) -> Result<(bool, u32), Trouble> {
+) -> Result<(bool, usize), Trouble> {
     let mut dice = Dice { seed: 2026 };
-    let (mut right, mut packets) = (true, 0u32);
+    let (mut right, mut packets) = (true, 0usize);
     for _ in 0..count {
         let (is_right, walked) = judge(rt, alloc, random_job(alloc, &mut dice)?)?;
         right = right && is_right;
