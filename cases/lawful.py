@@ -1,8 +1,8 @@
-"""Which reports of small jobs are lawful: a twin of the rules in docs/FORMATS.md and docs/DEFINITIONS.md, which shares nothing with
-the program. It knows these lines alone: `qdisc add`; filters on dst_ip with a length, a pref, a handle and gact actions with an index;
-dels of filters and tables; actions that are added, changed and deleted; and `#`, which is no command. Frames have 60 bytes.
+"""Which reports of jobs are lawful, and what a run with such a report puts: a twin of the rules in docs/FORMATS.md and
+docs/DEFINITIONS.md, which shares nothing with the program. It knows these lines alone: `qdisc add`; filters on dst_ip with a length, a
+pref, a handle and gact actions with an index; dels of filters and tables; actions that are added, changed and deleted; and `#`, which is
+no command. Frames have 60 bytes.
 """
-import copy
 import ipaddress
 import re
 
@@ -17,6 +17,13 @@ class State:
     def __init__(self):
         self.hooked, self.rows, self.actions = False, [], []
         self.tables_made = self.masks_made = self.actions_made = 0
+
+    def copied(self):
+        """Rows are never changed, and actions are."""
+        other = State()
+        vars(other).update(vars(self))
+        other.rows, other.actions = list(self.rows), [dict(it) for it in self.actions]
+        return other
 
     def action(self, test):
         return next((it for it in self.actions if test(it)), None)
@@ -112,13 +119,14 @@ class State:
 
 
 def walk(states, hook, address, floor, choose):
-    """Verdict, points and serials that ran of a packet's walk, where `choose` picks each point among those that are lawful."""
+    """Verdict, points and serials that ran of a packet's walk, where `choose` picks each point: from the least to the greatest that the
+    others allow, and one at which the visited thing stands."""
     points, ran, last = [], [], {}
     ceiling = len(states) - 1
 
     def visit(thing, stands):
         low = max(points[0] if points else floor, last.get(thing, 0))
-        points.append(choose([it for it in range(low, ceiling + 1) if stands(states[it])]))
+        points.append(choose(low, ceiling, lambda it: stands(states[it])))
         last[thing] = points[-1]
         return states[points[-1]]
 
@@ -153,7 +161,7 @@ def report_lines(job, choices):
         while any(left.values()):
             options = []
             for control in [it for it in left if left[it]]:
-                state = copy.deepcopy(states[-1])
+                state = states[-1].copied()
                 line, words = left[control][0]
                 good, text = state.apply(words)
                 edits = len(states) if good else len(states) - 1
@@ -194,7 +202,10 @@ class AnyOf:
         return self.chance.randrange(len(options))
 
     def packet(self, workers):
-        return self.chance.randint(1, workers), self.chance.choice
+        def choose(low, high, stands):
+            return self.chance.choice([it for it in range(low, high + 1) if stands(it)])
+
+        return self.chance.randint(1, workers), choose
 
 
 class AsTold:
@@ -214,12 +225,26 @@ class AsTold:
             raise Bad
         points = [int(it) for it in found[2].split()]
 
-        def choose(lawful):
-            if not points or points[0] not in lawful:
+        def choose(low, high, stands):
+            if not points or not low <= points[0] <= high or not stands(points[0]):
                 raise Bad
             return points.pop(0)
 
         return int(found[1]), choose
+
+
+def outputs(job, lines):
+    """By name, the packets that a run with these lines puts, each by its number: where two rounds have one name, those of the later."""
+    put, passed = {}, []
+    for line in lines:
+        words = line.split()
+        if words[0] == "round":
+            passed = []
+        elif words[0] == "packet" and words[4] == "pass":
+            passed.append(int(words[1]))
+        elif words[:2] == ["end", "round"] and job["outs"][int(words[2]) - 1]:
+            put[job["outs"][int(words[2]) - 1]] = int(words[2]), passed
+    return put
 
 
 def answer(job, lines):

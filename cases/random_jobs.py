@@ -25,7 +25,8 @@ def random_line(chance):
 
 
 def random_job(chance):
-    """A job for cases/lawful.py: of each round its batches, with control, `force` and lines, and its packets."""
+    """A job for cases/lawful.py: of each round its batches, with control, `force` and lines, its hook and its packets; the names under which
+    its captures are put, or None for a round without one; and the seconds of each capture's first packet."""
     rounds = []
     for number in range(chance.choice([1, 2, 2, 3])):
         controls = sorted(chance.sample([1, 2], chance.choice([0, 1, 2] if number else [1, 2])))
@@ -34,20 +35,47 @@ def random_job(chance):
             batches[0][2].insert(0, "qdisc add dev eth0 clsact")
         addresses = chance.choices(["10.0.0.1", "10.0.0.2", "10.0.1.1", "10.0.2.1"], k=chance.randint(0, 5))
         rounds.append((batches, chance.choice(["ingress", "ingress", "egress"]), addresses))
-    return {"workers": chance.randint(1, 3), "rounds": rounds}
+    return {"workers": chance.randint(1, 3), "controls": 2, "outs": ["out"] * len(rounds), "first": 1, "rounds": rounds}
+
+
+def random_batch(chance, length):
+    """The lines of a batch, some of which are no command."""
+    return [random_line(chance) if chance.random() < 0.9 else "#" for _ in range(length)]
+
+
+def random_run(chance, lines, packets):
+    """A job to be run: its rounds have up to so many lines in a batch and up to so many packets, or no batch, no line, no capture, no
+    packet. Mostly the first line of its first batch adds the qdisc; two rounds may name one OUT."""
+    controls, rounds, outs = chance.randint(1, 4), [], []
+    for number in range(chance.choice([1, 2, 2, 3, 4])):
+        named = sorted(chance.sample(range(1, controls + 1), chance.randint(not number, controls)))
+        batches = [(it, chance.random() < 0.7, random_batch(chance, chance.choice([0, lines // 3, lines, lines]))) for it in named]
+        if not number and chance.random() < 0.95:
+            batches[0][2].insert(0, "qdisc add dev eth0 clsact")
+        outs.append(chance.choice([None, "out", "other", f"{number}.out", f"{number}.out"]))
+        count = chance.choice([0, packets // 3, packets, packets]) if outs[-1] else 0
+        addresses = chance.choices(["10.0.0.1", "10.0.0.2", "10.0.1.1", "10.0.2.1"], k=count)
+        rounds.append((batches, chance.choice(["ingress", "ingress", "egress"]), addresses))
+    return {"workers": chance.randint(1, 8), "controls": controls, "outs": outs, "first": 1, "rounds": rounds}
+
+
+def packets_of(job, addresses):
+    """The packets of a capture to these addresses, each with its seconds."""
+    return list(enumerate([f"udp {it}" for it in addresses], job["first"]))
 
 
 def put_job(job, room):
     """The files of the job."""
     files = {}
-    lines = ["clsact job 1", f"workers {job['workers']}", "controls 2"]
+    lines = ["clsact job 1", f"workers {job['workers']}", f"controls {job['controls']}"]
     for number, (batches, hook, addresses) in enumerate(job["rounds"]):
         lines.append("round")
         for control, force, its in batches:
             files[f"{number}-{control}.tc"] = batch(its)
             lines.append(f"batch {control} {number}-{control}.tc" + " force" * force)
-        files[f"{number}.pcap"] = capture(list(enumerate([f"udp {it}" for it in addresses], 1)), False)
-        lines.append(f"capture {hook} {number}.pcap out")
+        if job["outs"][number]:
+            files[f"{number}.pcap"] = capture(packets_of(job, addresses), False)
+            lines.append(f"capture {hook} {number}.pcap {job['outs'][number]}")
     files["job"] = batch([*lines, "end"])
     for name, data in files.items():
         with open(os.path.join(room, name), "wb") as file:

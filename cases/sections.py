@@ -9,7 +9,8 @@ from frames import capture
 
 HERE = os.path.dirname(os.path.realpath(__file__))
 
-def batch(lines):
+def expanded(lines):
+    """The lines, with those of each `repeat` in its place."""
     made = []
     for line in lines:
         repeated = re.match(r"repeat (\d+)\.\.(\d+) (.*)$", line)
@@ -19,7 +20,11 @@ def batch(lines):
                 made += [it.format(n=n, high=n // 256, low=n % 256) for it in pieces]
         else:
             made.append(line)
-    return "".join(f"{it}\n" for it in made).encode()
+    return made
+
+
+def batch(lines):
+    return "".join(f"{it}\n" for it in expanded(lines)).encode()
 
 
 def cases_of(path):
@@ -62,7 +67,7 @@ def short_batches(*more):
 def put_inputs(sections, room):
     """The files that are there before the program runs."""
     how, packets = sections.get("capture", ("", []))
-    made = capture(list(enumerate(packets, 1)), how.startswith("big"))
+    made = capture(list(enumerate(expanded(packets), 1)), how.startswith("big"))
     if how.startswith("cut"):
         made = made[: int(how.split()[1])]
     given = [(section[6:], batch(it)) for section, (_, it) in sections.items() if section.startswith("given ")]

@@ -3,15 +3,16 @@
 //! `words` takes the words from the process, and `tool` does what they say. `main` puts the process around
 //! it: real files, standard output, the text of a status on standard error, the exit number. What the words
 //! may be and what each status says is `tool_words`; what a command does is `tool_run`. `tool` has the
-//! promise of all that (`specs/Promises.antt` of `tool_run`), and is where a command will be picked that runs
-//! a job.
+//! promise of all that (`specs/Promises.antt` of `tool_run`). It picks: the run of a job is `run_job`, which
+//! runs it on threads over a shared hook (`job_rounds`), and every other command is `tool_run`'s `obey`, which
+//! stands on no thread and on no crate of the shared hook.
 //!
-//! One thread calls all of this. Only `tool` may start others, for a job; `gen` walks on lists, and while
-//! `run` isn't built none is started.
+//! One thread calls all of this. `tool` alone starts others, for `run`, and none is left when it returns.
 //!
-//! Not promised: that memory suffices, and what a real file or terminal holds.
+//! Not promised: that memory suffices, that a run ends, and what a real file or terminal holds.
 #![tactic(auto)]
 
+mod run_job;
 #[cfg(test)]
 mod tests;
 mod tool;

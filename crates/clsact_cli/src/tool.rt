@@ -1,23 +1,53 @@
 //! The top call.
-ghost use Rattle.tool_words.specs.Command.{texts};
+ghost use Rattle.std.specs.Prelude.{◌≡◌};
+ghost use Rattle.tool_words.specs.Command.{texts, Run};
+ghost use Rattle.tool_words.specs.Ends.{IsAllDone};
+ghost use Rattle.tool_run.specs.Causes.{CausedTo};
+ghost use Rattle.tool_run.specs.Delivered.{DeliveredTo, LeavesAllUnlessRun, CameSoFar};
 ghost use Rattle.tool_run.specs.Promises.{UsageExactlyForNoCommand, DoneOnlyIfDelivered, HasCause};
 ghost use Rattle.tool_run.specs.Promises.{DueUnlessFailed, DoneIfReady, NothingIfAtFault, CameInOrder};
 
+use crate::run_job::run_named;
 use std::alloc::Global;
 use std::sync::Wait;
 use std::thread::Threads;
 use tc_base::{Gate, Shelf, Sink};
 use tool_run::obey;
-use tool_words::Status;
+use tool_words::{Command, Status, command_of};
 
-/// Does what the words say. While `run` isn't built and `gen` walks on lists, it starts no thread.
+// Runs a job.
+fn serve_run<R: Threads + Wait + Sync, S: Shelf, O: Sink, G: Gate>(
+    rt: &R,
+    alloc: Global,
+    job: &str,
+    shelf: &mut S,
+    out: &mut O,
+    gates: &G,
+) -> Status
+    ensures done { IsAllDone result → DeliveredTo (S.held shelf.old) (S.held shelf.new) (O.written out.old)
+        (O.written out.new) (Run job.now) result }
+    ensures cause { CausedTo S.held S.read_faults S.failed_name S.write_faults O.faults shelf.old shelf.new
+        out.old out.new (Run job.now) result }
+    ensures nothing { LeavesAllUnlessRun (S.held shelf.old) (S.held shelf.new) (O.written out.old)
+        (O.written out.new) result }
+    ensures so_far { CameSoFar (S.held shelf.old) (S.held shelf.new) (O.written out.old) (O.written out.new)
+        (Run job.now) }
+{
+    match run_named(rt, alloc, job, shelf, out, gates) {
+        Ok(status) => status,
+        Err(status) => status,
+    }
+}
+
+/// Does what the words say. Where they ask for the run of a job, it starts threads and waits for them; for
+/// every other command it starts none and returns always.
 pub fn tool<R: Threads + Wait + Sync, S: Shelf, O: Sink, G: Gate>(
-    _rt: &R,
+    rt: &R,
     alloc: Global,
     words: &[String],
     shelf: &mut S,
     out: &mut O,
-    _gates: &G,
+    gates: &G,
 ) -> Status
     ensures usage { UsageExactlyForNoCommand (texts words.now) result }
     ensures done { DoneOnlyIfDelivered S.held O.written shelf.old shelf.new out.old out.new (texts words.now)
@@ -31,5 +61,9 @@ pub fn tool<R: Threads + Wait + Sync, S: Shelf, O: Sink, G: Gate>(
     ensures nothing { NothingIfAtFault S.held O.written shelf.old shelf.new out.old out.new result }
     ensures so_far { CameInOrder S.held O.written shelf.old shelf.new out.old out.new (texts words.now) }
 {
-    obey(alloc, words, shelf, out)
+    match command_of(words) {
+        None => Status::Usage,
+        Some(Command::Run { job }) => serve_run(rt, alloc, job, shelf, out, gates),
+        Some(_) => obey(alloc, words, shelf, out),
+    }
 }

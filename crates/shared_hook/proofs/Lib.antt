@@ -1,3 +1,4 @@
+pub mod OfDeskEdits
 pub mod Rising
 pub mod Readers
 pub mod Shorts

@@ -1,3 +1,4 @@
+pub mod OfDeskEdits
 pub mod Views
 pub mod Short
 pub mod Applied

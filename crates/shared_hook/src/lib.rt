@@ -50,6 +50,7 @@ mod beginning;
 mod clearing;
 mod counts;
 mod desk;
+mod desk_edits;
 mod fault;
 mod making;
 mod named;

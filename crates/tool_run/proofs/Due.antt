@@ -1,4 +1,4 @@
--- At most one answer is due, and every file that a due answer reads stands.
+-- An answer that is allowed is the one that is due, and every file that a due answer reads stands.
 use Rattle.std.proofs.Common.{◌≡◌, ◌⊎◌, inl, inr, ◌∙◌, ℕ, List, Option, Some, sym, ap, subst}
 use Rattle.std.specs.Prelude.{is_some}
 use Rattle.batch_run.specs.declared.limit.TheConstants.{COMMANDS_MAX}
@@ -15,15 +15,16 @@ use Rattle.tool_words.specs.declared.status.InputKind.{InputKind}
 use Rattle.tool_words.specs.declared.status.InputKind.TheVariants as kinds
 use Rattle.tool_words.specs.declared.status.Status.{Status}
 use Rattle.tool_words.specs.declared.status.Status.TheVariants as statuses
-use Rattle.tool_words.specs.Command.{Request, Walk, Show, Run, Recheck, Gen, verb_of}
+use Rattle.tool_words.specs.Command.{Request, Walk, Show, Run, Recheck, Gen}
 use Rattle.tool_words.specs.Ends.{status_after}
 use Rattle.input_files.specs.Holdings.{Holds, HasTooManyLines, HasCapture, HasBreak}
 use Rattle.input_files.proofs.Readings.{same_past, not_past, not_broken, same_break}
 use Rattle.tool_run.specs.Holdings.{HasCommands}
-use Rattle.tool_run.specs.Work.{BatchEnds, BatchBreaks, Ends, Breaks, IsRead, Stops}
-use Rattle.tool_run.specs.Causes.{DueTo}
+use Rattle.tool_run.specs.Work.{BatchEnds, BatchBreaks, Ends, EndsOnly, IsRead}
+use Rattle.tool_run.specs.Causes.{DueTo, AllowedTo}
 use Rattle.tool_run.proofs.Readings.{same_run}
-use Rattle.tool_run.proofs.Rechecking.{recheck_due, one_recheck, rechecked_stands}
+use Rattle.tool_run.proofs.Rechecking.{RecheckDue, recheck_due, one_recheck, rechecked_stands}
+use Rattle.tool_run.proofs.Running.{one_run, ran_stands}
 
 -- ---- a batch: it ran, or it passes the limit of commands
 abbrev IsPast : Option Held → List ℕ → Status → Type 0
@@ -61,12 +62,11 @@ read_within held b status h k = not_past held COMMANDS_MAX b h.0 k.0 h.1 k.1
 abbrev ShowDue : Option Held → List ℕ → Status → Type 0
 ShowDue told b status = BatchEnds told b status ⊎ IsPast told b status
 
-show_due : (told : Option Held) (b : List ℕ) (status : Status) → DueTo told (Show b) status
+show_due : (told : Option Held) (b : List ℕ) (status : Status) → AllowedTo told (Show b) status
     → ShowDue told b status
 show_due told b statuses.Done due = inl due
 show_due told b (statuses.LinesRefused n) due = inl due
 show_due told b (statuses.BadInput name place kind) due = inr (past_due told b name place kind due)
-show_due told b (statuses.NotBuilt name place) due = absurd due
 show_due told b (statuses.ReadFault name) due = absurd due
 show_due told b (statuses.NotLawful line) due = inl due
 show_due told b statuses.Usage due = absurd due
@@ -104,11 +104,10 @@ break_due told b c name place kind (inr broken) =
     inr (inr (place, kind, broken.1, broken.2, ap (λ (x : List ℕ). statuses.BadInput x place kind) broken.0))
 
 walk_due : (told : Option Held) (hook : Hook) (b c o : List ℕ) (status : Status)
-    → DueTo told (Walk hook b c o) status → WalkDue told b c status
+    → AllowedTo told (Walk hook b c o) status → WalkDue told b c status
 walk_due told hook b c o statuses.Done due = inl due
 walk_due told hook b c o (statuses.LinesRefused n) due = inl due
 walk_due told hook b c o (statuses.BadInput name place kind) due = break_due told b c name place kind due
-walk_due told hook b c o (statuses.NotBuilt name place) due = absurd due
 walk_due told hook b c o (statuses.ReadFault name) due = absurd due
 walk_due told hook b c o (statuses.NotLawful line) due = inl due
 walk_due told hook b c o statuses.Usage due = absurd due
@@ -143,11 +142,10 @@ capture_stands held b c status read (inr (inr h)) = (h.3.bytes, h.3.held)
 
 -- ---- gen: what it makes lets it end
 gen_due : (told : Option Held) (count : ℕ) (front : List ℕ) (status : Status)
-    → DueTo told (Gen count front) status → Ends told (Gen count front) status
+    → AllowedTo told (Gen count front) status → Ends told (Gen count front) status
 gen_due told count front statuses.Done due = due
 gen_due told count front (statuses.LinesRefused n) due = due
 gen_due told count front (statuses.BadInput name place kind) due = absurd due
-gen_due told count front (statuses.NotBuilt name place) due = absurd due
 gen_due told count front (statuses.ReadFault name) due = absurd due
 gen_due told count front (statuses.NotLawful line) due = due
 gen_due told count front statuses.Usage due = absurd due
@@ -160,54 +158,64 @@ one_gen told count front x y h k =
     h.2 ∙ ap (λ (r : Ran). status_after (is_some r.stop))
     (one_ran no_state 0 (commands_of (batch_text count)) h.0 k.0 h.1 k.1) ∙ sym k.2
 
--- ---- the commands that are not built
-stopped_due : (told : Option Held) (r : Request) → ((status : Status) → Ends told r status → ⊥)
-    → ((name : List ℕ) (place : ℕ) (kind : InputKind) → Breaks told r name place kind → ⊥)
-    → ((name : List ℕ) (place : ℕ) → Stops told r name place → (name ≡ verb_of r) × (place ≡ 0))
-    → (status : Status) → DueTo told r status → status ≡ statuses.NotBuilt (verb_of r) 0
-stopped_due told r ends breaks stops statuses.Done due = absurd (ends statuses.Done due)
-stopped_due told r ends breaks stops (statuses.LinesRefused n) due =
-    absurd (ends (statuses.LinesRefused n) due)
-stopped_due told r ends breaks stops (statuses.BadInput name place kind) due =
-    absurd (breaks name place kind due)
-stopped_due told r ends breaks stops (statuses.NotBuilt name place) due =
-    let at = stops name place due in
-    ap (λ (x : List ℕ). statuses.NotBuilt x place) at.0 ∙ ap (statuses.NotBuilt (verb_of r)) at.1
-stopped_due told r ends breaks stops (statuses.ReadFault name) due = absurd due
-stopped_due told r ends breaks stops (statuses.NotLawful line) due =
-    absurd (ends (statuses.NotLawful line) due)
-stopped_due told r ends breaks stops statuses.Usage due = absurd due
-stopped_due told r ends breaks stops statuses.WriteFault due = absurd due
-stopped_due told r ends breaks stops statuses.NoMemory due = absurd due
-
 -- ---- every request
--- at most one answer is due
-pub one_due : (held : Held) (r : Request) (x y : Status) → DueTo (Some held) r x → DueTo (Some held) r y
+-- what is due is allowed, where it is no run's end
+due_allowed : (told : Option Held) (r : Request) → ((status : Status) → EndsOnly told r status → Ends told r status)
+    → (status : Status) → DueTo told r status → AllowedTo told r status
+due_allowed told r ends statuses.Done due = ends statuses.Done due
+due_allowed told r ends (statuses.LinesRefused n) due = ends (statuses.LinesRefused n) due
+due_allowed told r ends (statuses.BadInput name place kind) due = due
+due_allowed told r ends (statuses.ReadFault name) due = absurd due
+due_allowed told r ends (statuses.NotLawful line) due = ends (statuses.NotLawful line) due
+due_allowed told r ends statuses.Usage due = absurd due
+due_allowed told r ends statuses.WriteFault due = absurd due
+due_allowed told r ends statuses.NoMemory due = absurd due
+
+show_owed : (held : Held) (b : List ℕ) (status : Status) → DueTo (Some held) (Show b) status
+    → ShowDue (Some held) b status
+show_owed held b status due =
+    show_due (Some held) b status (due_allowed (Some held) (Show b) (λ s e. e) status due)
+
+walk_owed : (held : Held) (hook : Hook) (b c o : List ℕ) (status : Status)
+    → DueTo (Some held) (Walk hook b c o) status → WalkDue (Some held) b c status
+walk_owed held hook b c o status due =
+    walk_due (Some held) hook b c o status (due_allowed (Some held) (Walk hook b c o) (λ s e. e) status due)
+
+recheck_owed : (held : Held) (j p : List ℕ) (status : Status) → DueTo (Some held) (Recheck j p) status
+    → RecheckDue (Some held) j p status
+recheck_owed held j p status due =
+    recheck_due (Some held) j p status (due_allowed (Some held) (Recheck j p) (λ s e. e) status due)
+
+gen_owed : (held : Held) (n : ℕ) (p : List ℕ) (status : Status) → DueTo (Some held) (Gen n p) status
+    → Ends (Some held) (Gen n p) status
+gen_owed held n p status due =
+    gen_due (Some held) n p status (due_allowed (Some held) (Gen n p) (λ s e. e) status due)
+
+-- an answer that is allowed is the one that is due
+pub is_due : (held : Held) (r : Request) (x y : Status) → AllowedTo (Some held) r x → DueTo (Some held) r y
     → x ≡ y
-one_due held (Show b) x y h k = one_show held b x y (show_due (Some held) b x h) (show_due (Some held) b y k)
-one_due held (Walk hook b c o) x y h k =
-    one_walk held b c x y (walk_due (Some held) hook b c o x h) (walk_due (Some held) hook b c o y k)
-one_due held (Run j) x y h k =
-    let is = stopped_due (Some held) (Run j) (λ s e. e) (λ n p w e. e) (λ n p e. e) in
-    is x h ∙ sym (is y k)
-one_due held (Recheck j p) x y h k =
-    one_recheck held j p x y (recheck_due (Some held) j p x h) (recheck_due (Some held) j p y k)
-one_due held (Gen n p) x y h k =
-    one_gen (Some held) n p x y (gen_due (Some held) n p x h) (gen_due (Some held) n p y k)
+is_due held (Show b) x y h k = one_show held b x y (show_due (Some held) b x h) (show_owed held b y k)
+is_due held (Walk hook b c o) x y h k =
+    one_walk held b c x y (walk_due (Some held) hook b c o x h) (walk_owed held hook b c o y k)
+is_due held (Run j) x y h k = one_run held j x y h k
+is_due held (Recheck j p) x y h k =
+    one_recheck held j p x y (recheck_due (Some held) j p x h) (recheck_owed held j p y k)
+is_due held (Gen n p) x y h k =
+    one_gen (Some held) n p x y (gen_due (Some held) n p x h) (gen_owed held n p y k)
 
 -- a file whose reading is told stands, where some answer is due
 pub stands : (held : Held) (r : Request) (name : List ℕ) (status : Status) → IsRead (Some held) r name
     → DueTo (Some held) r status → (bytes : List ℕ) × Holds (Some held) name bytes
 stands held (Show b) name status is due =
-    let there = shown_stands held b status (show_due (Some held) b status due) in
+    let there = shown_stands held b status (show_owed held b status due) in
     (there.0, subst (λ (n : List ℕ). Holds (Some held) n there.0) (sym is) there.1)
 stands held (Walk hook b c o) name status (inl is) due =
-    let there = walked_stands held b c status (walk_due (Some held) hook b c o status due) in
+    let there = walked_stands held b c status (walk_owed held hook b c o status due) in
     (there.0, subst (λ (n : List ℕ). Holds (Some held) n there.0) (sym is) there.1)
 stands held (Walk hook b c o) name status (inr is) due =
-    let there = capture_stands held b c status is.1 (walk_due (Some held) hook b c o status due) in
+    let there = capture_stands held b c status is.1 (walk_owed held hook b c o status due) in
     (there.0, subst (λ (n : List ℕ). Holds (Some held) n there.0) (sym is.0) there.1)
-stands held (Run j) name status is due = absurd is
+stands held (Run j) name status is due = ran_stands held j name status due is
 stands held (Recheck j p) name status is due =
-    rechecked_stands held j p name status (recheck_due (Some held) j p status due) is
+    rechecked_stands held j p name status (recheck_owed held j p status due) is
 stands held (Gen n p) name status is due = absurd is

@@ -3,6 +3,7 @@ use Rattle.std.proofs.Common.{◌≡◌, ◌⊎◌, inl, inr, ℕ, Bool, true, f
 use Rattle.std.specs.Prelude.{IsSome, IsSomeAnd, IfSome, is_some}
 use Rattle.batch_run.specs.declared.limit.TheConstants.{COMMANDS_MAX}
 use Rattle.tc_base.specs.Outside.{Held, Rose}
+use Rattle.tc_base.specs.declared.hook.Hook.{Hook}
 use Rattle.filter_state.specs.States.{no_state}
 use Rattle.batch_run.specs.Commands.{commands_of}
 use Rattle.batch_run.specs.Runs.{Ran}
@@ -15,13 +16,14 @@ use Rattle.tool_words.specs.Ends.{status_after, IsAllDone}
 use Rattle.input_files.specs.Holdings.{Holds, HasBatch}
 use Rattle.input_files.specs.Failures.{ReadFails}
 use Rattle.tool_run.specs.Holdings.{HasRun}
-use Rattle.tool_run.specs.Work.{Ends, IsRead}
-use Rattle.tool_run.specs.Causes.{DueTo, DueIn, CausedTo, FailedOutside, IsNotBuilt}
-use Rattle.tool_run.specs.Ready.{IsReady}
-use Rattle.tool_run.proofs.Due.{one_due, stands}
+use Rattle.tool_run.specs.Work.{Ends, EndsOnly, IsRead}
+use Rattle.tool_run.specs.Causes.{DueTo, DueIn, AllowedTo, CausedTo, FailedOutside}
+use Rattle.tool_run.specs.Ready.{ShowReady, WalkReady, IsReady}
+use Rattle.tool_run.proofs.Due.{is_due, stands}
 use Rattle.tool_run.proofs.Rechecking.{recheck_complete}
+use Rattle.tool_run.proofs.Running.{run_complete}
 
--- ---- at most one answer is due, wherever the shelf tells what it holds
+-- ---- what is allowed is due, wherever the shelf tells what it holds
 nothing_told : (o : Option Held) → o ≡ None → IsSome o → ⊥
 nothing_told o is some = cc
 
@@ -29,10 +31,10 @@ told_of : (o : Option Held) → IsSome o → (h : Held) × (o ≡ Some h)
 told_of None some = absurd (nothing_told None refl some)
 told_of (Some h) some = (h, refl)
 
-due_is : (told : Option Held) (r : Request) (x y : Status) → IsSome told → DueTo told r x → DueTo told r y
+due_is : (told : Option Held) (r : Request) (x y : Status) → IsSome told → AllowedTo told r x → DueTo told r y
     → x ≡ y
 due_is None r x y some h k = absurd (nothing_told None refl some)
-due_is (Some held) r x y some h k = one_due held r x y h k
+due_is (Some held) r x y some h k = is_due held r x y h k
 
 -- a file that is held is no missing one
 not_missing : (held : Held) (name bytes : List ℕ) → Holds (Some held) name bytes → held name ≡ None → ⊥
@@ -72,9 +74,6 @@ exact_to held read_faults failed_name write_faults faults old new a b r statuses
 exact_to held read_faults failed_name write_faults faults old new a b r (statuses.LinesRefused n) cause some
     status due =
     inl (due_is (held old) r (statuses.LinesRefused n) status some cause due)
-exact_to held read_faults failed_name write_faults faults old new a b r (statuses.NotBuilt n p) cause some
-    status due =
-    inl (due_is (held old) r (statuses.NotBuilt n p) status some cause due)
 exact_to held read_faults failed_name write_faults faults old new a b r (statuses.BadInput n p k) cause some
     status due =
     inl (due_is (held old) r (statuses.BadInput n p k) status some cause due)
@@ -100,12 +99,12 @@ exact held read_faults failed_name write_faults faults old new a b (Some asked) 
 
 -- ---- the answer that is due where all input is ready
 abbrev Owes : Option Held → Request → Type 0
-Owes told r = (status : Status) × DueTo told r status × (IsAllDone status ⊎ IsNotBuilt status)
+Owes told r = (status : Status) × DueTo told r status × IsAllDone status
 
-batch_owes : (told : Option Held) (r : Request) (refused : Bool) → Ends told r (status_after refused)
+batch_owes : (told : Option Held) (r : Request) (refused : Bool) → EndsOnly told r (status_after refused)
     → Owes told r
-batch_owes told r false ends = (statuses.Done, ends, inl tt)
-batch_owes told r true ends = (statuses.LinesRefused 1, ends, inl tt)
+batch_owes told r false ends = (statuses.Done, ends, tt)
+batch_owes told r true ends = (statuses.LinesRefused 1, ends, tt)
 
 -- a batch that stands has a run
 ran : (told : Option Held) (b bytes : List ℕ) → HasBatch told COMMANDS_MAX b bytes → (ran : Ran) × HasRun told b ran
@@ -113,28 +112,25 @@ ran told b bytes batch =
     let some = some_ran no_state 0 (commands_of bytes) in
     (some.0, record { bytes = bytes; batch = batch; runs = some.1 })
 
--- a recheck owes one of its answers, and only whoever judges the report tells which
-owes : (told : Option Held) (r : Request) → IsReady told r
-    → Owes told r ⊎ ((job : List ℕ) × (report : List ℕ) × (r ≡ Recheck job report))
-owes told (Show b) ready =
+show_owes : (told : Option Held) (b : List ℕ) → ShowReady told b → Owes told (Show b)
+show_owes told b ready =
     let has = ran told b ready.bytes ready.batch in
-    inl (batch_owes told (Show b) (is_some has.0.stop) (has.0, has.1, refl))
-owes told (Walk hook b c o) ready =
-    let has = ran told b ready.bytes ready.batch_stands in
-    inl (batch_owes told (Walk hook b c o) (is_some has.0.stop)
-    ((has.0, has.1, refl), (ready.packets, ready.capture_stands)))
-owes told (Run j) ready = absurd ready
-owes told (Recheck j p) ready = inr (j, p, refl)
-owes told (Gen count front) ready =
-    let has = some_ran no_state 0 (commands_of (batch_text count)) in
-    inl (batch_owes told (Gen count front) (is_some has.0.stop) (has.0, has.1, refl))
+    batch_owes told (Show b) (is_some has.0.stop) (has.0, has.1, refl)
 
-tells : (told : Option Held) (r : Request) → IsReady told r → IsSome told
-tells told (Show b) ready = subst (λ (o : Option Held). IsSome o) (sym ready.tells) refl
-tells told (Walk hook b c o) ready = subst (λ (o : Option Held). IsSome o) (sym ready.tells) refl
-tells told (Run j) ready = absurd ready
-tells told (Recheck j p) ready = subst (λ (o : Option Held). IsSome o) (sym ready.tells) refl
-tells told (Gen count front) ready = ready
+walk_owes : (told : Option Held) (hook : Hook) (b c o : List ℕ) → WalkReady told b c
+    → Owes told (Walk hook b c o)
+walk_owes told hook b c o ready =
+    let has = ran told b ready.bytes ready.batch_stands in
+    batch_owes told (Walk hook b c o) (is_some has.0.stop)
+    ((has.0, has.1, refl), (ready.packets, ready.capture_stands))
+
+gen_owes : (told : Option Held) (count : ℕ) (front : List ℕ) → Owes told (Gen count front)
+gen_owes told count front =
+    let has = some_ran no_state 0 (commands_of (batch_text count)) in
+    batch_owes told (Gen count front) (is_some has.0.stop) (has.0, has.1, refl)
+
+tells : (told : Option Held) (held : Held) → told ≡ Some held → IsSome told
+tells told held is = subst (λ (o : Option Held). IsSome o) (sym is) refl
 
 -- where no count rose, only memory keeps an answer from being the one that is due
 quiet : {S O : Type 0} (read_faults : S → ℕ) (write_faults : S → ℕ) (faults : O → ℕ) (old new : S)
@@ -151,8 +147,6 @@ quiet read_faults write_faults faults old new a b statuses.WriteFault (inr faile
 quiet read_faults write_faults faults old new a b statuses.NoMemory failed reads writes sinks = refl
 quiet read_faults write_faults faults old new a b statuses.Done failed reads writes sinks = absurd failed
 quiet read_faults write_faults faults old new a b statuses.Usage failed reads writes sinks = absurd failed
-quiet read_faults write_faults faults old new a b (statuses.NotBuilt n p) failed reads writes sinks =
-    absurd failed
 quiet read_faults write_faults faults old new a b (statuses.BadInput n p k) failed reads writes sinks =
     absurd failed
 quiet read_faults write_faults faults old new a b (statuses.LinesRefused n) failed reads writes sinks =
@@ -160,12 +154,27 @@ quiet read_faults write_faults faults old new a b (statuses.LinesRefused n) fail
 quiet read_faults write_faults faults old new a b (statuses.NotLawful n) failed reads writes sinks =
     absurd failed
 
-owed : (result status : Status) → result ≡ status → IsAllDone status ⊎ IsNotBuilt status → IsAllDone result
-    ⊎ IsNotBuilt result ⊎ (result ≡ statuses.NoMemory)
-owed result status e (inl done) = inl (subst IsAllDone (sym e) done)
-owed result status e (inr not) = inr (inl (subst IsNotBuilt (sym e) not))
+-- where an answer is due and no count rose, that is the answer, or memory ran out
+owed_to : {S O : Type 0} (held : S → Option Held) (read_faults : S → ℕ) (failed_name : S → Option (List ℕ))
+    (write_faults : S → ℕ) (faults : O → ℕ) (old new : S) (sink_old sink_new : O) (r : Request)
+    (result : Status)
+    → CausedTo held read_faults failed_name write_faults faults old new sink_old sink_new r result
+    → IsSome (held old) → Owes (held old) r
+    → (Rose (read_faults old) (read_faults new) → ⊥) → (Rose (write_faults old) (write_faults new) → ⊥)
+    → (Rose (faults sink_old) (faults sink_new) → ⊥)
+    → IsAllDone result ⊎ (result ≡ statuses.NoMemory)
+owed_to held read_faults failed_name write_faults faults old new a b r result cause some due reads writes
+    sinks =
+    by_answer (exact_to held read_faults failed_name write_faults faults old new a b r result cause some due.0
+    due.1)
+  where
+    by_answer : (result ≡ due.0) ⊎ FailedOutside read_faults write_faults faults old new a b result
+        → IsAllDone result ⊎ (result ≡ statuses.NoMemory)
+    by_answer (inl e) = inl (subst IsAllDone (sym e) due.2)
+    by_answer (inr failed) =
+        inr (quiet read_faults write_faults faults old new a b result failed reads writes sinks)
 
--- where all input is ready and no count rose, all is done, or something isn't built, or memory ran out
+-- where all input is ready and no count rose, all is done, or memory ran out
 complete_to : {S O : Type 0} (held : S → Option Held) (read_faults : S → ℕ)
     (failed_name : S → Option (List ℕ)) (write_faults : S → ℕ) (faults : O → ℕ) (old new : S)
     (sink_old sink_new : O) (r : Request) (result : Status)
@@ -173,27 +182,24 @@ complete_to : {S O : Type 0} (held : S → Option Held) (read_faults : S → ℕ
     → IsReady (held old) r
     → (Rose (read_faults old) (read_faults new) → ⊥) → (Rose (write_faults old) (write_faults new) → ⊥)
     → (Rose (faults sink_old) (faults sink_new) → ⊥)
-    → IsAllDone result ⊎ IsNotBuilt result ⊎ (result ≡ statuses.NoMemory)
-complete_to held read_faults failed_name write_faults faults old new a b r result cause ready reads writes
-    sinks =
-    by_owed (owes (held old) r ready)
-  where
-    by_answer : (due : Owes (held old) r) → (result ≡ due.0)
-        ⊎ FailedOutside read_faults write_faults faults old new a b result → IsAllDone result
-        ⊎ IsNotBuilt result ⊎ (result ≡ statuses.NoMemory)
-    by_answer due (inl e) = owed result due.0 e due.2
-    by_answer due (inr failed) =
-        inr (inr (quiet read_faults write_faults faults old new a b result failed reads writes sinks))
-
-    by_owed : Owes (held old) r ⊎ ((job : List ℕ) × (report : List ℕ) × (r ≡ Recheck job report))
-        → IsAllDone result ⊎ IsNotBuilt result ⊎ (result ≡ statuses.NoMemory)
-    by_owed (inl due) =
-        by_answer due (exact_to held read_faults failed_name write_faults faults old new a b r result cause
-        (tells (held old) r ready) due.0 due.1)
-    by_owed (inr (job, report, is)) =
-        recheck_complete held read_faults failed_name write_faults faults old new a b job report result
-        (subst (λ (q : Request). CausedTo held read_faults failed_name write_faults faults old new a b q result) is cause)
-        (subst (λ (q : Request). IsReady (held old) q) is ready) reads writes sinks
+    → IsAllDone result ⊎ (result ≡ statuses.NoMemory)
+complete_to held read_faults failed_name write_faults faults old new a b (Show name) result cause ready =
+    owed_to held read_faults failed_name write_faults faults old new a b (Show name) result cause
+    (tells (held old) ready.held ready.tells) (show_owes (held old) name ready)
+complete_to held read_faults failed_name write_faults faults old new a b (Walk hook batch c o) result cause
+    ready =
+    owed_to held read_faults failed_name write_faults faults old new a b (Walk hook batch c o) result cause
+    (tells (held old) ready.held ready.tells) (walk_owes (held old) hook batch c o ready)
+complete_to held read_faults failed_name write_faults faults old new a b (Run job) result cause ready =
+    run_complete held read_faults failed_name write_faults faults old new a b job result cause ready
+complete_to held read_faults failed_name write_faults faults old new a b (Recheck job report) result cause
+    ready =
+    recheck_complete held read_faults failed_name write_faults faults old new a b job report result cause
+    ready
+complete_to held read_faults failed_name write_faults faults old new a b (Gen count front) result cause
+    ready =
+    owed_to held read_faults failed_name write_faults faults old new a b (Gen count front) result cause ready
+    (gen_owes (held old) count front)
 
 -- the same where these words ask for it
 pub complete : {S O : Type 0} (held : S → Option Held) (read_faults : S → ℕ)
@@ -204,7 +210,7 @@ pub complete : {S O : Type 0} (held : S → Option Held) (read_faults : S → �
     → IfSome asked (λ q. IsReady (held old) q
     → (Rose (read_faults old) (read_faults new) → ⊥) → (Rose (write_faults old) (write_faults new) → ⊥)
     → (Rose (faults sink_old) (faults sink_new) → ⊥)
-    → IsAllDone result ⊎ IsNotBuilt result ⊎ (result ≡ statuses.NoMemory))
+    → IsAllDone result ⊎ (result ≡ statuses.NoMemory))
 complete held read_faults failed_name write_faults faults old new a b None r result is cause = tt
 complete held read_faults failed_name write_faults faults old new a b (Some asked) r result is cause =
     λ ready. complete_to held read_faults failed_name write_faults faults old new a b r result cause

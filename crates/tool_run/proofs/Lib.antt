@@ -2,10 +2,13 @@ pub mod Counting
 pub mod Due
 pub mod Exact
 pub mod Generating
+pub mod JobFaults
 pub mod Lines
 pub mod Making
+pub mod OfOutputs
 pub mod PacketLines
 pub mod Readings
 pub mod Rechecking
+pub mod Running
 pub mod Walking
 pub mod Writing

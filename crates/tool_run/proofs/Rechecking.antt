@@ -13,33 +13,27 @@ use Rattle.input_files.specs.Failures.{ReadFails}
 use Rattle.input_files.proofs.Readings.{same_bytes}
 use Rattle.job_files.specs.Holdings.{HasJob}
 use Rattle.job_files.specs.Faults.{JobBreaks}
-use Rattle.job_files.specs.Due.{CallsFor}
-use Rattle.job_files.proofs.Exact.{one_answer, stands}
+use Rattle.job_files.proofs.Exact.{stands}
 use Rattle.report_check.specs.declared.check.Check.{Check}
 use Rattle.report_check.specs.Checks.{IsCheckOf}
 use Rattle.report_check.proofs.OneCheck.{one_answer as one_check}
 use Rattle.tool_run.specs.Rechecks.{Judges, status_of_check, RecheckReads}
-use Rattle.tool_run.specs.Causes.{DueTo, CausedTo, IsNotBuilt}
+use Rattle.tool_run.specs.Causes.{AllowedTo, CausedTo}
 use Rattle.tool_run.specs.Ready.{RecheckReady}
+use Rattle.tool_run.proofs.JobFaults.{IsJobBreak, one_job, no_break, one_break}
 
 -- what is due: what the report is judged to be, or the first fault of the job's files
 abbrev IsJudged : Option Held → List ℕ → List ℕ → Status → Type 0
 IsJudged told job report status = (check : Check) × Judges told job report check × (status ≡ status_of_check check)
 
-abbrev IsJobBreak : Option Held → List ℕ → Status → Type 0
-IsJobBreak told job status =
-    (name : List ℕ) × (place : ℕ) × (kind : InputKind) × JobBreaks told job name place kind
-    × (status ≡ statuses.BadInput name place kind)
-
 abbrev pub RecheckDue : Option Held → List ℕ → List ℕ → Status → Type 0
 RecheckDue told job report status = IsJudged told job report status ⊎ IsJobBreak told job status
 
 pub recheck_due : (told : Option Held) (job report : List ℕ) (status : Status)
-    → DueTo told (Recheck job report) status → RecheckDue told job report status
+    → AllowedTo told (Recheck job report) status → RecheckDue told job report status
 recheck_due told job report statuses.Done due = inl due
 recheck_due told job report (statuses.LinesRefused n) due = inl due
 recheck_due told job report (statuses.BadInput name place kind) due = inr (name, place, kind, due, refl)
-recheck_due told job report (statuses.NotBuilt name place) due = absurd due
 recheck_due told job report (statuses.ReadFault name) due = absurd due
 recheck_due told job report (statuses.NotLawful line) due = inl due
 recheck_due told job report statuses.Usage due = absurd due
@@ -50,41 +44,24 @@ module _ (held : Held) (job report : List ℕ) where
   abbrev told : Option Held
   told = Some held
 
-  one_job : (a b : LoadedJob) → HasJob told job a → HasJob told job b → a ≡ b
-  one_job a b h k = let same : ◌≡◌ {A = Result LoadedJob Status} (Ok a) (Ok b) = one_answer held job (Ok a) (Ok b) h k in cc
-
-  pub no_break : (loaded : LoadedJob) (name : List ℕ) (place : ℕ) (kind : InputKind) → HasJob told job loaded
-      → JobBreaks told job name place kind → ⊥
-  no_break loaded name place kind has breaks =
-      let wrong : ◌≡◌ {A = Result LoadedJob Status} (Ok loaded) (Err (statuses.BadInput name place kind)) =
-      one_answer held job (Ok loaded) (Err (statuses.BadInput name place kind)) has breaks in
-      cc
-
   one_judged : (x y : Status) → IsJudged told job report x → IsJudged told job report y → x ≡ y
   one_judged x y h k =
       let first = h.1 in
       let second = k.1 in
-      let loaded = one_job first.loaded second.loaded first.job_held second.job_held in
+      let loaded = one_job held job first.loaded second.loaded first.job_held second.job_held in
       let bytes = same_bytes held report first.bytes second.bytes first.report_held second.report_held in
       let is : IsCheckOf second.loaded second.bytes h.0 =
       subst (λ (bs : List ℕ). IsCheckOf second.loaded bs h.0) bytes
       (subst (λ (l : LoadedJob). IsCheckOf l first.bytes h.0) loaded first.is) in
       h.2 ∙ ap status_of_check (one_check second.loaded second.bytes h.0 k.0 is second.is) ∙ sym k.2
 
-  one_break : (x y : Status) → IsJobBreak told job x → IsJobBreak told job y → x ≡ y
-  one_break x y (name, place, kind, breaks, is) (other, at, what, also, same) =
-      let one : ◌≡◌ {A = Result LoadedJob Status} (Err (statuses.BadInput name place kind)) (Err (statuses.BadInput other at what)) =
-      one_answer held job (Err (statuses.BadInput name place kind)) (Err (statuses.BadInput other at what)) breaks also in
-      let status : statuses.BadInput name place kind ≡ statuses.BadInput other at what = cc one in
-      is ∙ status ∙ sym same
-
   pub one_recheck : (x y : Status) → RecheckDue told job report x → RecheckDue told job report y → x ≡ y
   one_recheck x y (inl h) (inl k) = one_judged x y h k
   one_recheck x y (inl h) (inr (name, place, kind, breaks, is)) =
-      absurd (no_break h.1.loaded name place kind h.1.job_held breaks)
+      absurd (no_break held job h.1.loaded name place kind h.1.job_held breaks)
   one_recheck x y (inr (name, place, kind, breaks, is)) (inl k) =
-      absurd (no_break k.1.loaded name place kind k.1.job_held breaks)
-  one_recheck x y (inr h) (inr k) = one_break x y h k
+      absurd (no_break held job k.1.loaded name place kind k.1.job_held breaks)
+  one_recheck x y (inr h) (inr k) = one_break held job x y h k
 
   -- ---- what is read stands
   pub read_stands : (name : List ℕ) (loaded : LoadedJob) (bytes : List ℕ) → HasJob told job loaded
@@ -100,7 +77,7 @@ module _ (held : Held) (job report : List ℕ) where
   rechecked_stands name status (inr (file, place, kind, breaks, is)) (inl reads) =
       stands held job name (Err (statuses.BadInput file place kind)) breaks reads
   rechecked_stands name status (inr (file, place, kind, breaks, is)) (inr last) =
-      absurd (no_break last.1.0 file place kind last.1.1 breaks)
+      absurd (no_break held job last.1.0 file place kind last.1.1 breaks)
 
 -- ---- where all input is ready and no count rose
 stands_ready : (told : Option Held) (job report name : List ℕ) → RecheckReady told job report
@@ -115,7 +92,7 @@ no_break_ready : (told : Option Held) (job report name : List ℕ) (place : ℕ)
     → RecheckReady told job report → JobBreaks told job name place kind → ⊥
 no_break_ready None job report name place kind ready breaks = cc ready.tells
 no_break_ready (Some held) job report name place kind ready breaks =
-    no_break held job report ready.loaded name place kind ready.job_stands breaks
+    no_break held job ready.loaded name place kind ready.job_stands breaks
 
 pub recheck_complete : {S O : Type 0} (held : S → Option Held) (read_faults : S → ℕ)
     (failed_name : S → Option (List ℕ)) (write_faults : S → ℕ) (faults : O → ℕ) (old new : S)
@@ -124,7 +101,7 @@ pub recheck_complete : {S O : Type 0} (held : S → Option Held) (read_faults : 
     → RecheckReady (held old) job report
     → (Rose (read_faults old) (read_faults new) → ⊥) → (Rose (write_faults old) (write_faults new) → ⊥)
     → (Rose (faults sink_old) (faults sink_new) → ⊥)
-    → IsAllDone result ⊎ IsNotBuilt result ⊎ (result ≡ statuses.NoMemory)
+    → IsAllDone result ⊎ (result ≡ statuses.NoMemory)
 recheck_complete held read_faults failed_name write_faults faults old new a b job report (statuses.ReadFault name) (reads, inl missing) ready quiet_reads writes sinks =
     absurd (stands_ready (held old) job report name ready reads missing)
 recheck_complete held read_faults failed_name write_faults faults old new a b job report (statuses.ReadFault name) (reads, inr rose) ready quiet_reads writes sinks =
@@ -133,9 +110,8 @@ recheck_complete held read_faults failed_name write_faults faults old new a b jo
     absurd (no_break_ready (held old) job report name place kind ready breaks)
 recheck_complete held read_faults failed_name write_faults faults old new a b job report statuses.WriteFault (ends, inl failed) ready quiet_reads writes sinks = absurd (writes failed)
 recheck_complete held read_faults failed_name write_faults faults old new a b job report statuses.WriteFault (ends, inr failed) ready quiet_reads writes sinks = absurd (sinks failed)
-recheck_complete held read_faults failed_name write_faults faults old new a b job report statuses.NoMemory cause ready quiet_reads writes sinks = inr (inr refl)
+recheck_complete held read_faults failed_name write_faults faults old new a b job report statuses.NoMemory cause ready quiet_reads writes sinks = inr refl
 recheck_complete held read_faults failed_name write_faults faults old new a b job report statuses.Done cause ready quiet_reads writes sinks = inl tt
 recheck_complete held read_faults failed_name write_faults faults old new a b job report (statuses.LinesRefused n) cause ready quiet_reads writes sinks = inl tt
 recheck_complete held read_faults failed_name write_faults faults old new a b job report (statuses.NotLawful n) cause ready quiet_reads writes sinks = inl tt
-recheck_complete held read_faults failed_name write_faults faults old new a b job report (statuses.NotBuilt n p) cause ready quiet_reads writes sinks = absurd cause
 recheck_complete held read_faults failed_name write_faults faults old new a b job report statuses.Usage cause ready quiet_reads writes sinks = absurd cause

@@ -81,6 +81,3 @@ delivery_caused held read_faults failed_name write_faults faults old between new
 delivery_caused held read_faults failed_name write_faults faults old between new a b r (statuses.NotLawful n)
     ends same fails =
     absurd fails
-delivery_caused held read_faults failed_name write_faults faults old between new a b r (statuses.NotBuilt n p)
-    ends same fails =
-    absurd fails

@@ -5,7 +5,7 @@ use Rattle.tool_words.specs.declared.status.Status.{Status}
 use Rattle.tool_words.specs.declared.status.Status.TheVariants as statuses
 use Rattle.tool_words.specs.Command.{Request, request_of}
 use Rattle.input_files.specs.Failures.{ReadFails}
-use Rattle.tool_run.specs.Work.{Ends, Breaks, IsRead, Stops}
+use Rattle.tool_run.specs.Work.{Ends, EndsOnly, Breaks, IsRead}
 
 -- a put or a write failed
 abbrev pub WriteFails : {S O : Type 0} → (S → ℕ) → (O → ℕ) → S → S → O → O → Type 0
@@ -14,12 +14,19 @@ WriteFails write_faults faults old new sink_old sink_new =
 
 -- THE ANSWER THAT A REQUEST AND THE FILES CALL FOR, where no call outside fails and memory is there
 abbrev pub DueTo : Option Held → Request → Status → Type 0
-DueTo told request statuses.Done = Ends told request statuses.Done
-DueTo told request (statuses.LinesRefused count) = Ends told request (statuses.LinesRefused count)
+DueTo told request statuses.Done = EndsOnly told request statuses.Done
+DueTo told request (statuses.LinesRefused count) = EndsOnly told request (statuses.LinesRefused count)
 DueTo told request (statuses.BadInput name place kind) = Breaks told request name place kind
-DueTo told request (statuses.NotLawful line) = Ends told request (statuses.NotLawful line)
-DueTo told request (statuses.NotBuilt name place) = Stops told request name place
+DueTo told request (statuses.NotLawful line) = EndsOnly told request (statuses.NotLawful line)
 DueTo told request status = ⊥
+
+-- an answer that they allow: it is the one that is due, but where threads decide how a request ends
+abbrev pub AllowedTo : Option Held → Request → Status → Type 0
+AllowedTo told request statuses.Done = Ends told request statuses.Done
+AllowedTo told request (statuses.LinesRefused count) = Ends told request (statuses.LinesRefused count)
+AllowedTo told request (statuses.BadInput name place kind) = Breaks told request name place kind
+AllowedTo told request (statuses.NotLawful line) = Ends told request (statuses.NotLawful line)
+AllowedTo told request status = ⊥
 
 -- words that ask for nothing are answered with Usage
 abbrev pub DueIn : Option Held → Option Request → Status → Type 0
@@ -43,7 +50,7 @@ CausedTo held read_faults failed_name write_faults faults old new sink_old sink_
     statuses.NoMemory =
     Unit {0}
 CausedTo held read_faults failed_name write_faults faults old new sink_old sink_new request status =
-    DueTo (held old) request status
+    AllowedTo (held old) request status
 
 abbrev pub CausedIn : {S O : Type 0} → (S → Option Held) → (S → ℕ) → (S → Option (List ℕ)) → (S → ℕ) → (O → ℕ)
     → S → S → O → O → Option Request → Status → Type 0
@@ -60,8 +67,3 @@ FailedOutside read_faults write_faults faults old new sink_old sink_new statuses
     WriteFails write_faults faults old new sink_old sink_new
 FailedOutside read_faults write_faults faults old new sink_old sink_new statuses.NoMemory = Unit {0}
 FailedOutside read_faults write_faults faults old new sink_old sink_new status = ⊥
-
--- a command isn't built
-abbrev pub IsNotBuilt : Status → Type 0
-IsNotBuilt (statuses.NotBuilt name place) = Unit {0}
-IsNotBuilt status = ⊥

@@ -7,13 +7,14 @@ use Rattle.batch_show.specs.Shown.{shown}
 use Rattle.gen_run.specs.Generated.{IsRunOf, made_files, made_text}
 use Rattle.tool_words.specs.declared.status.Status.{Status}
 use Rattle.tool_words.specs.declared.status.Status.TheVariants as statuses
-use Rattle.tool_words.specs.Command.{Request, Walk, Show, Recheck, Gen}
+use Rattle.tool_words.specs.Command.{Request, Walk, Show, Run, Recheck, Gen}
 use Rattle.report_check.specs.declared.check.Check.{Check}
 use Rattle.tool_words.specs.Requests.{Names}
 use Rattle.tool_words.specs.Ends.{status_after}
 use Rattle.tool_run.specs.Holdings.{HasRun, Gives}
 use Rattle.tool_run.specs.Made.{AllStand, AllElseStay, PutUpTo}
 use Rattle.tool_run.specs.Rechecks.{Judges, status_of_check, check_text}
+use Rattle.tool_run.specs.Runs.{RanJob, RanSoFar}
 
 -- the text that the held batch gives was written, whole, and nothing put
 pub record Showed (held_old held_new : Option Held) (written_old written_new : Option (List ℕ))
@@ -62,9 +63,10 @@ DeliveredTo held_old held_new written_old written_new (Walk hook b c o) status =
     status
 DeliveredTo held_old held_new written_old written_new (Gen count front) status =
     Made held_old held_new written_old written_new count front status
+DeliveredTo held_old held_new written_old written_new (Run job) status =
+    RanJob held_old held_new written_old written_new job status
 DeliveredTo held_old held_new written_old written_new (Recheck job report) status =
     Rechecked held_old held_new written_old written_new job report status
-DeliveredTo held_old held_new written_old written_new request status = ⊥
 
 abbrev pub DeliveredIn : Option Held → Option Held → Option (List ℕ) → Option (List ℕ) → Option Request
     → Status → Type 0
@@ -134,13 +136,13 @@ CameSoFar held_old held_new written_old written_new (Show b) =
     (held_new ≡ held_old) × ((written_new ≡ written_old) ⊎ ShowedFront held_old written_old written_new b)
 CameSoFar held_old held_new written_old written_new (Walk hook b c o) =
     WalkedSoFar held_old held_new written_old written_new hook (record { batch = b; capture = c; output = o })
+CameSoFar held_old held_new written_old written_new (Run job) =
+    RanSoFar held_old held_new written_old written_new job
 CameSoFar held_old held_new written_old written_new (Recheck job report) =
     (held_new ≡ held_old)
     × ((written_new ≡ written_old) ⊎ RecheckedFront held_old written_old written_new job report)
 CameSoFar held_old held_new written_old written_new (Gen count front) =
     MadeSoFar held_old held_new written_old written_new count front
-CameSoFar held_old held_new written_old written_new request =
-    LeavesAll held_old held_new written_old written_new
 
 -- the same for any words
 abbrev pub CameSoFarIn : Option Held → Option Held → Option (List ℕ) → Option (List ℕ) → Option Request

@@ -3,8 +3,10 @@ pub mod Delivered
 pub mod Endings
 pub mod Holdings
 pub mod Made
+pub mod OfOutputs
 pub mod Parts
 pub mod Promises
 pub mod Ready
 pub mod Rechecks
+pub mod Runs
 pub mod Work

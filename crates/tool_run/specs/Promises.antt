@@ -8,7 +8,7 @@ use Rattle.tool_words.specs.declared.status.Status.{Status}
 use Rattle.tool_words.specs.declared.status.Status.TheVariants as statuses
 use Rattle.tool_words.specs.Command.{request_of}
 use Rattle.tool_words.specs.Ends.{IsAllDone}
-use Rattle.tool_run.specs.Causes.{CausedIn, IsDue, FailedOutside, IsNotBuilt}
+use Rattle.tool_run.specs.Causes.{CausedIn, IsDue, FailedOutside}
 use Rattle.tool_run.specs.Ready.{IsReady}
 use Rattle.tool_run.specs.Delivered.{DeliveredIn, LeavesAllUnlessRun, CameSoFarIn}
 
@@ -38,8 +38,7 @@ DueUnlessFailed held read_faults write_faults faults old new sink_old sink_new w
     IsSome (held old) → (status : Status) → IsDue (held old) words status
     → (result ≡ status) ⊎ FailedOutside read_faults write_faults faults old new sink_old sink_new result
 
--- where all input is ready and no call outside failed, all is done, or the command isn't built, or memory ran
--- out
+-- where all input is ready and no call outside failed, all is done, or memory ran out
 abbrev pub DoneIfReady : {S O : Type 0} → (S → Option Held) → (S → ℕ) → (S → ℕ) → (O → ℕ) → S → S → O → O
     → List (List ℕ) → Status → Type 0
 DoneIfReady held read_faults write_faults faults old new sink_old sink_new words result =
@@ -47,7 +46,7 @@ DoneIfReady held read_faults write_faults faults old new sink_old sink_new words
     → ¬ Rose (read_faults old) (read_faults new)
     → ¬ Rose (write_faults old) (write_faults new)
     → ¬ Rose (faults sink_old) (faults sink_new)
-    → IsAllDone result ⊎ IsNotBuilt result ⊎ (result ≡ statuses.NoMemory))
+    → IsAllDone result ⊎ (result ≡ statuses.NoMemory))
 
 -- where words or input are at fault, nothing is put and nothing written
 abbrev pub NothingIfAtFault : {S O : Type 0} → (S → Option Held) → (O → Option (List ℕ)) → S → S → O → O

@@ -5,7 +5,7 @@ use Rattle.std.specs.Prelude.{◌≡◌, ℕ, List, Option, Some, IsSome}
 use Rattle.tc_base.specs.Outside.{Held}
 use Rattle.pcap_io.specs.declared.capture.Capture.{Capture}
 use Rattle.lawful_runs.specs.declared.loaded.LoadedJob.{LoadedJob}
-use Rattle.tool_words.specs.Command.{Request, Walk, Show, Recheck, Gen}
+use Rattle.tool_words.specs.Command.{Request, Walk, Show, Run, Recheck, Gen}
 use Rattle.input_files.specs.Holdings.{Holds, HasBatch, HasCapture}
 use Rattle.job_files.specs.Holdings.{HasJob}
 
@@ -25,7 +25,14 @@ pub record WalkReady (told : Option Held) (batch capture : List ℕ) : Type 0 wh
   pub packets : Capture
   pub capture_stands : HasCapture told PACKETS_MAX capture packets
 
--- the shelf tells what it holds, the job stands with its files, and so does the report, whatever it says
+-- the shelf tells what it holds, and the job stands with its files
+pub record RunReady (told : Option Held) (job : List ℕ) : Type 0 where
+  pub held : Held
+  pub tells : told ≡ Some held
+  pub loaded : LoadedJob
+  pub job_stands : HasJob told job loaded
+
+-- the same, and the report stands too, whatever it says
 pub record RecheckReady (told : Option Held) (job report : List ℕ) : Type 0 where
   pub held : Held
   pub tells : told ≡ Some held
@@ -38,6 +45,6 @@ pub record RecheckReady (told : Option Held) (job report : List ℕ) : Type 0 wh
 abbrev pub IsReady : Option Held → Request → Type 0
 IsReady told (Show b) = ShowReady told b
 IsReady told (Walk hook b c o) = WalkReady told b c
+IsReady told (Run job) = RunReady told job
 IsReady told (Recheck job report) = RecheckReady told job report
 IsReady told (Gen count front) = IsSome told
-IsReady told request = ⊥

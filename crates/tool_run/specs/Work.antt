@@ -10,28 +10,34 @@ use Rattle.tool_words.specs.declared.status.InputKind.{InputKind}
 use Rattle.tool_words.specs.declared.status.InputKind.TheVariants as kinds
 use Rattle.tool_words.specs.declared.status.Status.{Status}
 use Rattle.gen_run.specs.Generated.{IsRunOf}
-use Rattle.tool_words.specs.Command.{Request, Walk, Show, Recheck, Gen, verb_of}
+use Rattle.tool_words.specs.Command.{Request, Walk, Show, Run, Recheck, Gen}
 use Rattle.tool_words.specs.Ends.{status_after}
 use Rattle.input_files.specs.Holdings.{HasTooManyLines, HasCapture, HasBreak}
-use Rattle.job_files.specs.Faults.{JobBreaks}
+use Rattle.job_files.specs.Faults.{JobBreaks, JobReads}
 use Rattle.report_check.specs.declared.check.Check.{Check}
 use Rattle.tool_run.specs.Holdings.{HasRun, HasCommands}
 use Rattle.tool_run.specs.Rechecks.{Judges, status_of_check, RecheckReads}
+use Rattle.tool_run.specs.Runs.{JobEnds, JobEndsOnly}
 
 -- the batch that a request names ends the run with this status
 abbrev pub BatchEnds : Option Held → List ℕ → Status → Type 0
 BatchEnds told batch status = (ran : Ran) × HasRun told batch ran × (status ≡ status_after (is_some ran.stop))
 
--- ALL INPUT IS HELD AND WELL FORMED, and so the run is to end with this status
+-- ALL INPUT IS HELD AND WELL FORMED, and so a request may end with this status
 abbrev pub Ends : Option Held → Request → Status → Type 0
 Ends told (Show b) status = BatchEnds told b status
 Ends told (Walk hook b c o) status =
     BatchEnds told b status × ((capture : Capture) × HasCapture told PACKETS_MAX c capture)
 Ends told (Recheck job report) status =
     (check : Check) × Judges told job report check × (status ≡ status_of_check check)
+Ends told (Run job) status = JobEnds told job status
 Ends told (Gen count front) status =
     (ran : Ran) × IsRunOf count ran × (status ≡ status_after (is_some ran.stop))
-Ends told request status = ⊥
+
+-- and with no other: it is so wherever threads don't decide how a request ends
+abbrev pub EndsOnly : Option Held → Request → Status → Type 0
+EndsOnly told (Run job) status = JobEndsOnly told job status
+EndsOnly told request status = Ends told request status
 
 -- the batch under its name has too many commands
 abbrev pub BatchBreaks : Option Held → List ℕ → List ℕ → ℕ → InputKind → Type 0
@@ -43,20 +49,14 @@ abbrev pub Breaks : Option Held → Request → List ℕ → ℕ → InputKind �
 Breaks told (Show b) name place kind = BatchBreaks told b name place kind
 Breaks told (Walk hook b c o) name place kind =
     BatchBreaks told b name place kind ⊎ ((name ≡ c) × HasCommands told b × HasBreak told PACKETS_MAX c place kind)
+Breaks told (Run job) name place kind = JobBreaks told job name place kind
 Breaks told (Recheck job report) name place kind = JobBreaks told job name place kind
-Breaks told request name place kind = ⊥
+Breaks told (Gen count front) name place kind = ⊥
 
 -- an input file, with those before it held and well formed
 abbrev pub IsRead : Option Held → Request → List ℕ → Type 0
 IsRead told (Show b) name = name ≡ b
 IsRead told (Walk hook b c o) name = (name ≡ b) ⊎ ((name ≡ c) × HasCommands told b)
+IsRead told (Run job) name = JobReads told job name
 IsRead told (Recheck job report) name = RecheckReads told job report name
-IsRead told request name = ⊥
-
--- a command isn't built, told by its own word with place 0
-abbrev pub Stops : Option Held → Request → List ℕ → ℕ → Type 0
-Stops told (Show b) name place = ⊥
-Stops told (Walk hook b c o) name place = ⊥
-Stops told (Recheck job report) name place = ⊥
-Stops told (Gen count front) name place = ⊥
-Stops told request name place = (name ≡ verb_of request) × (place ≡ 0)
+IsRead told (Gen count front) name = ⊥

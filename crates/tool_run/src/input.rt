@@ -1,31 +1,14 @@
-//! The lines of a batch, and the answer of a command that isn't built.
-ghost use Rattle.std.specs.Prelude.{◌≡◌, ◌⊎◌, ◌≤◌, length, IfOk, IfErr, OnOk};
+//! The lines of a batch.
+ghost use Rattle.std.specs.Prelude.{◌≡◌, ◌≤◌, length, IfOk, IfErr, OnOk};
 ghost use Rattle.batch_run.specs.Commands.{commands_in, commands_of};
 ghost use Rattle.batch_run.specs.declared.limit.TheConstants.{COMMANDS_MAX};
 ghost use Rattle.tool_run.specs.Parts.{ApplyingFails};
 
 use batch_run::line_past_limit;
 use input_files::bad_input;
-use std::alloc::{AllocError, Global};
-use tc_base::Bytes;
+use std::alloc::Global;
 use tc_words::lines;
 use tool_words::{InputKind, Status};
-
-fn named(alloc: Global, name: &str) -> Result<Bytes, AllocError>
-    ensures { IfOk result (λ b. b ≡ name.now) }
-{
-    Ok(Bytes::from_vec(Vec::from_slice(alloc, name.as_bytes())?))
-}
-
-/// The command that is asked for isn't built.
-pub fn not_built(alloc: Global, name: &str, place: u64) -> Status
-    ensures { (result ≡ Status.NoMemory) ⊎ (result ≡ Status.NotBuilt name.now place) }
-{
-    match named(alloc, name) {
-        Ok(name) => Status::NotBuilt { name, place },
-        Err(_) => Status::NoMemory,
-    }
-}
 
 // Refuses the lines of the batch that the name stands for where they have more than 262,144 commands.
 fn check_command_count(alloc: Global, name: &str, texts: &[&[u8]]) -> Result<(), Status>

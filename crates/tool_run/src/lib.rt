@@ -6,20 +6,25 @@
 //! the words that run no job.
 //!
 //! Each command has a module of its own, which reads its files in their order (`input_files`), where the first
-//! fault ends the run; `run_show`, `run_walk`, `run_recheck` and `run_gen` work out all that one command asks
-//! for, then put, then write; `text` writes line by line, so that a text of a million lines is never held, and `packet_line`
-//! makes each packet's line of the one before, whose number is counted up where it stands. What is put and
-//! written comes from `batch_show`, `batch_walk`, `report_check` and `gen_run`. A walk's output is put in pieces of its
-//! input, which therefore lives until then.
+//! fault ends it; `run_show`, `run_walk`, `run_recheck` and `run_gen` work out all that one command asks for,
+//! then put, then write; `text` writes line by line, so that a text of a million lines is never held, and
+//! `packet_line` makes each packet's line of the one before, whose number is counted up where it stands. What
+//! is put and written comes from `batch_show`, `batch_walk`, `report_check` and `gen_run`. A walk's output is
+//! put in pieces of its input, which therefore lives until then.
 //!
-//! It is no part of the program since a run needs no process: tests call it with a shelf and a sink of their
-//! own. A command that runs a job on threads will come beside it, as `tool` picks.
+//! The run of a job needs threads, and so it stands in the program, beside this: `obey` asks that the words
+//! aren't its. What it promises is said here all the same (`specs/Runs.antt`), and so is the rest that needs no
+//! thread: `put_outputs` puts its captures, and `write_text` its report.
+//!
+//! None of it is a part of the program since nothing here needs a process: tests call it with a shelf and a
+//! sink of their own.
 //!
 //! One thread calls this. It starts none, waits for nobody, and keeps nothing between calls. Not promised:
 //! that memory suffices, and what a shelf or a sink holds that doesn't tell it.
 #![tactic(auto)]
 
 mod input;
+mod outputs;
 mod packet_line;
 mod run_gen;
 mod run_recheck;
@@ -28,4 +33,6 @@ mod run_walk;
 mod serving;
 mod text;
 
+pub use outputs::put_outputs;
 pub use serving::{obey, plain};
+pub use text::write_text;

@@ -1,6 +1,6 @@
 //! The command that the words are, and its run.
 ghost use Rattle.std.specs.Prelude.{◌≡◌, false};
-ghost use Rattle.tool_words.specs.Command.{texts, request_of, asks_for_job};
+ghost use Rattle.tool_words.specs.Command.{texts, request_of, is_run, asks_for_run, asks_for_job};
 ghost use Rattle.tool_words.specs.Requests.{request, HasFewFilters};
 ghost use Rattle.tool_words.specs.Ends.{status_after, IsAllDone};
 ghost use Rattle.tool_run.specs.Causes.{CausedTo};
@@ -9,7 +9,6 @@ ghost use Rattle.tool_run.specs.Delivered.{DeliveredTo, LeavesAllUnlessRun, Came
 ghost use Rattle.tool_run.specs.Promises.{UsageExactlyForNoCommand, DoneOnlyIfDelivered, HasCause};
 ghost use Rattle.tool_run.specs.Promises.{DueUnlessFailed, DoneIfReady, NothingIfAtFault, CameInOrder};
 
-use crate::input::not_built;
 use crate::run_gen::run_gen;
 use crate::run_recheck::run_recheck;
 use crate::run_show::run_show;
@@ -38,14 +37,15 @@ fn judged(check: Check) -> Status
     }
 }
 
-// Does what a command asks for.
+// Does what a command asks for that is no run of a job.
 fn serve<S: Shelf, O: Sink>(
     alloc: Global,
     command: Command<'_>,
     shelf: &mut S,
     out: &mut O,
 ) -> Status
-    requires { HasFewFilters command }
+    requires few { HasFewFilters command }
+    requires other { is_run (request command) ≡ false }
     ensures done { IsAllDone result → DeliveredTo (S.held shelf.old) (S.held shelf.new) (O.written out.old)
         (O.written out.new) (request command.entry) result }
     ensures cause { CausedTo S.held S.read_faults S.failed_name S.write_faults O.faults shelf.old shelf.new
@@ -84,17 +84,19 @@ fn serve<S: Shelf, O: Sink>(
             Ok(refused) => ended(refused),
             Err(status) => status,
         },
-        _ => not_built(alloc, command.verb(), 0),
+        Command::Run { .. } => unreachable!(),
     }
 }
 
-/// Does what the words say, on lists and without threads.
+/// Does what the words say, on lists and without threads: every command but the run of a job. It returns
+/// always.
 pub fn obey<S: Shelf, O: Sink>(
     alloc: Global,
     words: &[String],
     shelf: &mut S,
     out: &mut O,
 ) -> Status
+    requires { asks_for_run (request_of (texts words.now)) ≡ false }
     ensures usage { UsageExactlyForNoCommand (texts words.now) result }
     ensures done { DoneOnlyIfDelivered S.held O.written shelf.old shelf.new out.old out.new (texts words.now)
         result }

@@ -25,8 +25,8 @@ use Rattle.desk_needs.specs.Needs.{made}
 use Rattle.desk_parts.specs.OfLineActions.Gone.{serials_gone, NamesGone}
 use Rattle.desk_parts.proofs.OfLineActions.Held.{gone_were_live, gone_named}
 use Rattle.desk_parts.proofs.OfLineActions.Balance.{edit_rises, actions_balance}
-use Rattle.desk_edits.specs.Spent.{made_by, AreDead}
-use Rattle.desk_edits.proofs.Desked.{now_is_next}
+use Rattle.shared_hook.specs.OfDeskEdits.Spent.{made_by, AreDead}
+use Rattle.shared_hook.proofs.OfDeskEdits.Desked.{now_is_next}
 
 -- ---- numbers alone: arithmetic is slow beside what is known of commits
 balanced : (live left gone before after : ℕ) → live + after ≡ left + gone + before → before ≤ after → left + gone ≡ live + (after - before)

@@ -17,7 +17,7 @@ use Rattle.desk_actions.specs.Effects.{IsCounted}
 use Rattle.desk_parts.specs.OfLineActions.Gone.{serials_gone, named_by}
 use Rattle.desk_parts.specs.declared.ways.way.Way.TheVariants as ways
 use Rattle.desk_parts.specs.OfWays.Ways.{IntoMask, WithMask}
-use Rattle.desk_edits.specs.Spent.{made_by, needed}
+use Rattle.shared_hook.specs.OfDeskEdits.Spent.{made_by, needed}
 use Rattle.live_count_laws.specs.Counts.{FilterComes}
 use Rattle.live_count_laws.proofs.Changes.{some_there}
 use Rattle.live_count_laws.proofs.Coming.{into_mask_led, with_mask_led}

@@ -24,9 +24,9 @@ use Rattle.desk_parts.specs.OfLineActions.Dropped.{AreDropped}
 use Rattle.desk_parts.specs.OfLineActions.Gone.{NamesGone}
 use Rattle.desk_parts.specs.declared.ways.way.Way.TheVariants as ways
 use Rattle.desk_parts.specs.OfWays.Ways.{OutOfMask, Closes, TakesMasks}
-use Rattle.desk_edits.specs.Spent.{made_by, needed, LeftWithActions}
-use Rattle.desk_edits.specs.Goes.{AreGone}
-use Rattle.desk_edits.specs.Parting.{HaveLeft}
+use Rattle.shared_hook.specs.OfDeskEdits.Spent.{made_by, needed, LeftWithActions}
+use Rattle.shared_hook.specs.OfDeskEdits.Goes.{AreGone}
+use Rattle.shared_hook.specs.OfDeskEdits.Parting.{HaveLeft}
 use Rattle.live_count_laws.specs.Counts.{FilterGoes, MasksGo}
 use Rattle.live_count_laws.proofs.Removed.{from_mask, last_of_mask, table}
 use Rattle.shared_hook.specs.OfBalance.Counts.{AreCounted}

@@ -21,7 +21,7 @@ use Rattle.desk_actions.specs.Effects.{IsCounted}
 use Rattle.desk_parts.specs.OfLineActions.Gone.{NamesGone}
 use Rattle.desk_parts.specs.declared.ways.way.Way.TheVariants as ways
 use Rattle.desk_parts.specs.OfWays.Ways.{Replaces, InPlace, OtherKey, OtherMask, IsTarget}
-use Rattle.desk_edits.specs.Spent.{made_by, needed, LeftWithActions}
+use Rattle.shared_hook.specs.OfDeskEdits.Spent.{made_by, needed, LeftWithActions}
 use Rattle.live_count_laws.specs.Counts.{FilterMoves}
 use Rattle.live_count_laws.proofs.Changes.{some_there, none_yet}
 use Rattle.live_count_laws.proofs.Replaced.{same_mask, other_mask}

@@ -27,8 +27,8 @@ use Rattle.desk_parts.specs.Desk.{IsDesk}
 use Rattle.desk_heads.specs.Handed.{idle_of}
 use Rattle.desk_parts.specs.declared.ways.way.Way.{Way}
 use Rattle.desk_parts.proofs.OfWays.Needed.{ways_need}
-use Rattle.desk_edits.specs.Spent.{needed, HaveFree}
-use Rattle.desk_edits.proofs.Desked.{now_is_next}
+use Rattle.shared_hook.specs.OfDeskEdits.Spent.{needed, HaveFree}
+use Rattle.shared_hook.proofs.OfDeskEdits.Desked.{now_is_next}
 use Rattle.shared_hook.specs.OfBalance.Counts.{free_place, free_of, AreCounted}
 use Rattle.shared_hook.specs.OfPlans.Done.{Suffices, IsDone}
 use Rattle.shared_hook.specs.declared.plans.means.Means.{Means}

@@ -4,8 +4,8 @@ use Rattle.std.proofs.lemmas.Bool.Decides.{nat_tests}
 use Rattle.std.specs.Prelude.{not, vec_capacity, if◌then◌else◌, nat_le}
 use Rattle.flow_mask.specs.Sizes.{size_of}
 use Rattle.desk_need_laws.specs.Told.{blocks_anew, rows_anew, laid, laid_rows}
-use Rattle.desk_edits.specs.declared.room.Room.{Room}
-use Rattle.desk_edits.specs.Spent.{HasRoom}
+use Rattle.shared_hook.specs.declared.desk_edits.room.Room.{Room}
+use Rattle.shared_hook.specs.OfDeskEdits.Spent.{HasRoom}
 use Rattle.desk_parts.specs.declared.ways.way.Way.{Way}
 use Rattle.desk_parts.specs.declared.ways.way.Way.TheVariants as ways
 use Rattle.desk_parts.specs.OfWays.Ways.{AreFew, needs_by}

@@ -14,7 +14,7 @@ use Rattle.desk_masks.specs.OfFilterCommits.Edits.{HasLater}
 use Rattle.desk_needs.specs.Live.{count_of}
 use Rattle.desk_actions.specs.Kinds.{IsMaking, IsChanging}
 use Rattle.desk_parts.specs.OfLineActions.Gone.{NamesGone}
-use Rattle.desk_edits.proofs.Found.{same_state}
+use Rattle.shared_hook.proofs.OfDeskEdits.Found.{same_state}
 use Rattle.filter_state.specs.States.{Row, State}
 use Rattle.filter_state.specs.Tables.{mask_row, filter_row}
 use Rattle.hook_meaning.specs.Stated.{filters_at}

@@ -21,8 +21,8 @@ use Rattle.desk_parts.specs.OfPlainEdits.Kinds.{IsOfQdisc}
 use Rattle.desk_parts.specs.declared.ways.way.Way.{Way}
 use Rattle.desk_parts.specs.declared.ways.way.Way.TheVariants as ways
 use Rattle.desk_parts.specs.OfWays.Ways.{IsWay, AreFew}
-use Rattle.desk_edits.specs.Spent.{HasRoom}
-use Rattle.desk_edits.specs.OfMoves.Rooms.{HasMaskRoom}
+use Rattle.shared_hook.specs.OfDeskEdits.Spent.{HasRoom}
+use Rattle.shared_hook.specs.OfDeskEdits.OfMoves.Rooms.{HasMaskRoom}
 use Rattle.shared_hook.specs.declared.plans.means.Means.{Means}
 use Rattle.shared_hook.specs.declared.plans.plan.Plan.{Plan}
 use Rattle.shared_hook.specs.declared.plans.plan.Plan.TheVariants as plans

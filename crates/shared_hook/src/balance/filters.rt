@@ -17,9 +17,9 @@ ghost use Rattle.desk_parts.specs.OfLineActions.Dropped.{AreDropped};
 ghost use Rattle.desk_parts.specs.OfLineActions.Gone.{NamesGone};
 ghost use Rattle.desk_parts.specs.declared.ways.way.Way.TheVariants as ways;
 ghost use Rattle.desk_parts.specs.OfWays.Ways.{IntoMask, WithMask, InPlace, OtherKey, OtherMask, OutOfMask, Closes};
-ghost use Rattle.desk_edits.specs.Spent.{made_by, needed, LeftWithActions};
-ghost use Rattle.desk_edits.specs.Goes.{AreGone};
-ghost use Rattle.desk_edits.specs.Parting.{HaveLeft};
+ghost use Rattle.shared_hook.specs.OfDeskEdits.Spent.{made_by, needed, LeftWithActions};
+ghost use Rattle.shared_hook.specs.OfDeskEdits.Goes.{AreGone};
+ghost use Rattle.shared_hook.specs.OfDeskEdits.Parting.{HaveLeft};
 ghost use Rattle.shared_hook.specs.OfBalance.Counts.{AreCounted};
 
 /// Behind `put_into_mask` and `put_with_mask` the pools add up, as before.

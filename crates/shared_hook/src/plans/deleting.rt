@@ -5,10 +5,10 @@ ghost use Rattle.desk_parts.specs.declared.ways.way.Way.TheVariants as ways;
 ghost use Rattle.shared_hook.specs.OfPlans.Done.{IsDone};
 ghost use Rattle.shared_hook.specs.OfPlans.Plans.{MayEdit};
 
+use crate::desk_edits::moves::MaskRoom;
+use crate::desk_edits::{take_masks, take_out_of_mask};
 use crate::plans::lines::handle_of;
 use crate::plans::means::Means;
-use desk_edits::moves::MaskRoom;
-use desk_edits::{take_masks, take_out_of_mask};
 use desk_parts::Parts;
 use filter_lists::{Done, Edit, Prepared};
 use hook_store_law::HookStore;

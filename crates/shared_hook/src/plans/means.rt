@@ -1,11 +1,11 @@
 //! The memory for an edit of filters.
 ghost use Rattle.std.specs.Prelude.{◌≡◌, ◌≢◌, ◌≤◌, [], vec_capacity, IfOk};
 ghost use Rattle.desk_parts.specs.OfWays.Ways.{AreFew};
-ghost use Rattle.desk_edits.specs.Spent.{HasRoom};
+ghost use Rattle.shared_hook.specs.OfDeskEdits.Spent.{HasRoom};
 ghost use Rattle.shared_hook.specs.OfPlans.Plans.{HasMeans, HaveFilters};
 
-use desk_edits::Room;
-use desk_edits::moves::MaskRoom;
+use crate::desk_edits::Room;
+use crate::desk_edits::moves::MaskRoom;
 use desk_parts::ways::Way;
 use std::alloc::Global;
 use tc_base::NoMemory;

@@ -6,10 +6,10 @@ ghost use Rattle.desk_parts.specs.declared.ways.way.Way.TheVariants as ways;
 ghost use Rattle.shared_hook.specs.OfPlans.Done.{IsDone};
 ghost use Rattle.shared_hook.specs.OfPlans.Plans.{MayEdit};
 
+use crate::desk_edits::exchange_in_place;
+use crate::desk_edits::moves::{MaskRoom, give_other_key, give_other_mask};
 use crate::plans::lines::line_of;
 use crate::plans::means::Means;
-use desk_edits::exchange_in_place;
-use desk_edits::moves::{MaskRoom, give_other_key, give_other_mask};
 use desk_parts::Parts;
 use filter_lists::{Done, Edit, Prepared};
 use hook_store_law::HookStore;

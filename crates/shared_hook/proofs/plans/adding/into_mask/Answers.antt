@@ -3,7 +3,7 @@ use Rattle.hook_store_law.specs.OfEdits.Premises.{now}
 use Rattle.desk_pools.specs.declared.pools.Pools.{Pools}
 use Rattle.desk_actions.specs.OfLedgers.Kept.{commits}
 use Rattle.desk_parts.specs.declared.ways.way.Way.TheVariants as ways
-use Rattle.desk_edits.specs.Spent.{needed}
+use Rattle.shared_hook.specs.OfDeskEdits.Spent.{needed}
 use Rattle.shared_hook.proofs.OfBalance.Coming.{into}
 use Rattle.shared_hook.specs.OfPlans.Plans.{IsOfLine}
 use Rattle.shared_hook.proofs.OfPlans.Enough.{of_add, have_free, way_needs, unturned_low, all_done}

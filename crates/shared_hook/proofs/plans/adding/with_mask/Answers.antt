@@ -6,7 +6,7 @@ use Rattle.desk_pools.specs.Steps.{turned}
 use Rattle.desk_actions.specs.OfLedgers.Kept.{commits}
 use Rattle.desk_heads.specs.Handed.{idle_of}
 use Rattle.desk_parts.specs.declared.ways.way.Way.TheVariants as ways
-use Rattle.desk_edits.specs.Spent.{needed}
+use Rattle.shared_hook.specs.OfDeskEdits.Spent.{needed}
 use Rattle.shared_hook.proofs.OfBalance.Coming.{with}
 use Rattle.shared_hook.specs.OfPlans.Plans.{IsOfLine}
 use Rattle.shared_hook.proofs.OfPlans.Enough.{of_add, have_free, masks_free, head_free, way_needs, turned_low, all_done}

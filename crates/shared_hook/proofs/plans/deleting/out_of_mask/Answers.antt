@@ -4,7 +4,7 @@ use Rattle.desk_pools.specs.declared.pools.Pools.{Pools}
 use Rattle.desk_actions.specs.OfLedgers.Kept.{commits}
 use Rattle.desk_parts.specs.OfLineActions.Gone.{NamesGone}
 use Rattle.desk_parts.specs.declared.ways.way.Way.TheVariants as ways
-use Rattle.desk_edits.specs.Spent.{needed}
+use Rattle.shared_hook.specs.OfDeskEdits.Spent.{needed}
 use Rattle.shared_hook.proofs.OfBalance.Removed.{out}
 use Rattle.shared_hook.proofs.OfPlans.Enough.{have_free, way_needs, unturned_low, all_done}
 use Rattle.shared_hook.proofs.plans.deleting.out_of_mask.Goals as goal

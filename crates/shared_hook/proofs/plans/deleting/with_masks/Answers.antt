@@ -7,7 +7,7 @@ use Rattle.desk_pools.specs.Steps.{turned}
 use Rattle.desk_actions.specs.OfLedgers.Kept.{commits}
 use Rattle.desk_parts.specs.OfLineActions.Gone.{NamesGone}
 use Rattle.desk_parts.specs.declared.ways.way.Way.TheVariants as ways
-use Rattle.desk_edits.specs.Spent.{needed}
+use Rattle.shared_hook.specs.OfDeskEdits.Spent.{needed}
 use Rattle.shared_hook.proofs.OfBalance.Removed.{closes}
 use Rattle.shared_hook.proofs.OfPlans.Enough.{head_free, way_needs, turned_low, all_done}
 use Rattle.shared_hook.proofs.plans.deleting.with_masks.Goals as goal

@@ -5,7 +5,7 @@ use Rattle.hook_store_law.specs.OfEdits.Premises.{now}
 use Rattle.desk_actions.specs.OfLedgers.Kept.{commits}
 use Rattle.desk_parts.specs.OfLineActions.Gone.{NamesGone}
 use Rattle.desk_parts.specs.declared.ways.way.Way.TheVariants as ways
-use Rattle.desk_edits.specs.Spent.{needed}
+use Rattle.shared_hook.specs.OfDeskEdits.Spent.{needed}
 use Rattle.shared_hook.proofs.OfBalance.Replaced.{other_key}
 use Rattle.shared_hook.specs.OfPlans.Plans.{IsOfLine}
 use Rattle.shared_hook.proofs.OfPlans.Enough.{have_free, masks_free, head_free, way_needs, turned_low, all_done}

@@ -1,6 +1,6 @@
 use Rattle.std.proofs.Common.{◌≡◌, ◌≢◌, subst}
 use Rattle.desk_needs.specs.declared.needs.Needs.{Needs}
-use Rattle.desk_edits.specs.Spent.{HasRoom}
+use Rattle.shared_hook.specs.OfDeskEdits.Spent.{HasRoom}
 use Rattle.shared_hook.proofs.OfPlans.Roomy.{means_fit}
 use Rattle.shared_hook.proofs.plans.means.Means.new.Goals as goal
 

@@ -1,0 +1,34 @@
+use Rattle.std.proofs.Common.{◌≡◌, refl, arith}
+use Rattle.std.proofs.lemmas.Result.{err_from_is_err_and}
+use Rattle.tool_words.specs.declared.status.Status.{Status}
+use Rattle.tool_words.specs.Command.{Run}
+use Rattle.tool_run.specs.Runs.{IsRunOfHeld, status_of_run}
+use Rattle.tool_run.specs.Work.{Ends}
+use Rattle.tool_run.proofs.Writing.{delivery_caused}
+use Rattle.report_laws.proofs.ShortRuns.{events_few, packets_few}
+use Rattle.clsact_cli.proofs.run_job.run_named.Goals as goal
+
+pub returns-in_err-deliver-clause-cause : goal.returns-in_err-deliver-clause-cause
+returns-in_err-deliver-clause-cause g c =
+    let p = err_from_is_err_and c.from_residual-in_err-deliver.result c.from_residual-in_err-deliver.ensures.1 in
+    let told = g.S.Shelf.held c.args.shelf.now in
+    let loaded = c.in_ok-loaded.loaded in
+    let run = c.in_ok-run.run' in
+    let runs : IsRunOfHeld told c.args.job.now loaded run =
+    record { held = c.in_ok-loaded.ensures.done; lawful = c.in_ok-run.ensures } in
+    let ends : (status : Status) × Ends told (Run c.args.job.now) status =
+    (status_of_run run, (loaded, run, runs, refl)) in
+    rw (p.1, p.2) (delivery_caused g.S.Shelf.held g.S.Shelf.read_faults g.S.Shelf.failed_name
+    g.S.Shelf.write_faults g.O.Sink.faults c.args.shelf.now c.load_job.new.shelf c.deliver.new.shelf
+    c.args.out.now c.deliver.new.out (Run c.args.job.now) c.in_err-deliver.field-0.0 ends
+    c.load_job.ensures.write_faults c.in_err-deliver.ensures.cause)
+
+pub ended-requires-clause-events : goal.ended-requires-clause-events
+ended-requires-clause-events g c =
+    let few = events_few c.in_ok-loaded.loaded c.in_ok-run.run' c.in_ok-loaded.ensures.loaded c.in_ok-run.ensures in
+    omega (arith, few)
+
+pub ended-requires-clause-packets : goal.ended-requires-clause-packets
+ended-requires-clause-packets g c =
+    let few = packets_few c.in_ok-loaded.loaded c.in_ok-run.run' c.in_ok-loaded.ensures.loaded c.in_ok-run.ensures in
+    omega (arith, few)

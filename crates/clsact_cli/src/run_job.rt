@@ -1,0 +1,106 @@
+//! The command `run`.
+ghost use Rattle.std.specs.Prelude.{◌≡◌, ◌⊎◌, ◌<◌, ◌^◌, IfOk, IfErr, OnOk};
+ghost use Rattle.tc_base.specs.Outside.{Appended, AppendsUpTo};
+ghost use Rattle.run_report.specs.Counts.{events_in, packets_in};
+ghost use Rattle.run_report.specs.Reports.{report_text};
+ghost use Rattle.lawful_runs.specs.Given.{IsLoaded};
+ghost use Rattle.lawful_runs.specs.Lawful.{IsLawfulRun};
+ghost use Rattle.tool_words.specs.Command.{Run};
+ghost use Rattle.tool_words.specs.Ends.{IsAllDone};
+ghost use Rattle.tool_run.specs.Causes.{CausedTo};
+ghost use Rattle.tool_run.specs.Delivered.{LeavesAllUnlessRun};
+ghost use Rattle.tool_run.specs.OfOutputs.Outputs.{outputs_of};
+ghost use Rattle.tool_run.specs.OfOutputs.Puts.{ArePut, ArePutUpTo};
+ghost use Rattle.tool_run.specs.Parts.{DeliveryFails};
+ghost use Rattle.tool_run.specs.Runs.{RanJob, RanSoFar, status_of_run};
+
+use job_files::load_job;
+use job_rounds::{make_hooks, run_job};
+use lawful_runs::LoadedJob;
+use run_report::{RunRecord, report, summary_of};
+use std::alloc::Global;
+use std::sync::Wait;
+use std::thread::Threads;
+use tc_base::{Gate, NoMemory, Shelf, Sink};
+use tool_run::{put_outputs, write_text};
+use tool_words::Status;
+
+// Runs a job over a hook of its own.
+fn run_loaded<R: Threads + Wait + Sync, G: Gate>(
+    rt: &R,
+    alloc: Global,
+    loaded: &LoadedJob,
+    gates: &G,
+) -> Result<RunRecord, NoMemory>
+    requires { IsLoaded loaded.now }
+    ensures { IfOk result (λ run. IsLawfulRun loaded.now run) }
+{
+    let hooks = make_hooks(alloc, loaded.job.workers)?;
+    let (run, _hooks) = run_job(rt, alloc, hooks, loaded, gates)?;
+    Ok(run)
+}
+
+// Puts the captures of a run, and writes its report.
+fn deliver<S: Shelf, O: Sink>(
+    alloc: Global,
+    loaded: &LoadedJob,
+    run: &RunRecord,
+    shelf: &mut S,
+    out: &mut O,
+) -> Result<(), Status>
+    requires loaded { IsLoaded loaded.now }
+    requires run { IsLawfulRun loaded.now run.now }
+    ensures put { OnOk result (ArePut (S.held shelf.old) (S.held shelf.new) (outputs_of loaded.now run.now)) }
+    ensures wrote { OnOk result (Appended (O.written out.old) (O.written out.new) (report_text run.now)) }
+    ensures up_to { ArePutUpTo (S.held shelf.old) (S.held shelf.new) (outputs_of loaded.now run.now) }
+    ensures front { (O.written out.new ≡ O.written out.old)
+        ⊎ (ArePut (S.held shelf.old) (S.held shelf.new) (outputs_of loaded.now run.now)
+        × AppendsUpTo (O.written out.old) (O.written out.new) (report_text run.now)) }
+    ensures cause { IfErr result (DeliveryFails S.write_faults O.faults shelf.old shelf.new out.old out.new) }
+{
+    put_outputs(alloc, loaded, run, shelf)?;
+    let text = report(alloc, run)?;
+    Ok(write_text(&text, out)?)
+}
+
+// How a run ends: with how many of its lines were refused.
+fn ended(run: &RunRecord) -> Status
+    requires events { events_in run.now.rounds < 2 ^ 32 }
+    requires packets { packets_in run.now.rounds < 2 ^ 64 }
+    ensures status { result ≡ status_of_run run.now }
+    ensures done { IsAllDone result }
+{
+    match summary_of(run.rounds.as_slice()).refused {
+        0 => Status::Done,
+        refused => Status::LinesRefused {
+            count: refused as u32,
+        },
+    }
+}
+
+/// Runs the job under a name on threads, puts its captures in order, and writes its report. Answers how the
+/// run ended.
+pub fn run_named<R: Threads + Wait + Sync, S: Shelf, O: Sink, G: Gate>(
+    rt: &R,
+    alloc: Global,
+    job: &str,
+    shelf: &mut S,
+    out: &mut O,
+    gates: &G,
+) -> Result<Status, Status>
+    ensures done { IfOk result (RanJob (S.held shelf.old) (S.held shelf.new) (O.written out.old)
+        (O.written out.new) job.now) }
+    ensures all_done { IfOk result IsAllDone }
+    ensures cause { IfErr result (CausedTo S.held S.read_faults S.failed_name S.write_faults O.faults
+        shelf.old shelf.new out.old out.new (Run job.now)) }
+    ensures not_done { IfErr result (λ status. IsAllDone status → ⊥) }
+    ensures nothing { IfErr result (LeavesAllUnlessRun (S.held shelf.old) (S.held shelf.new)
+        (O.written out.old) (O.written out.new)) }
+    ensures so_far { RanSoFar (S.held shelf.old) (S.held shelf.new) (O.written out.old) (O.written out.new)
+        job.now }
+{
+    let loaded = load_job(alloc, shelf, job)?;
+    let run = run_loaded(rt, alloc, &loaded, gates)?;
+    deliver(alloc, &loaded, &run, shelf, out)?;
+    Ok(ended(&run))
+}

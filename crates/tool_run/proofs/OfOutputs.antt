@@ -1,0 +1,4 @@
+pub mod Puts
+pub mod Rounds
+pub mod Finished
+pub mod Passed

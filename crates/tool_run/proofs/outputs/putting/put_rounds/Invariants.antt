@@ -1,0 +1,18 @@
+use Rattle.std.proofs.Common.{◌≤◌, Option, drop}
+use Rattle.tc_base.specs.Outside.{Held}
+use Rattle.tool_run.specs.OfOutputs.Outputs.{outputs_from}
+use Rattle.tool_run.specs.OfOutputs.Puts.{ArePut, ArePutUpTo}
+use Rattle.tool_run.specs.OfOutputs.Ready.{AreReady}
+use Rattle.tool_run.proofs.outputs.putting.put_rounds.Given as goal
+
+abbrev pub invariant-loop-index : goal.invariant-loop-index
+invariant-loop-index g l = record {
+  put : (new : Option Held)
+      → ArePut (g.S.Shelf.held l.shelf) new (outputs_from (drop l.index l.rounds) l.left (drop l.index l.records))
+      → ArePut (g.S.Shelf.held l.fn.shelf) new (outputs_from l.rounds l.captures l.records);
+  up_to : (new : Option Held)
+      → ArePutUpTo (g.S.Shelf.held l.shelf) new (outputs_from (drop l.index l.rounds) l.left (drop l.index l.records))
+      → ArePutUpTo (g.S.Shelf.held l.fn.shelf) new (outputs_from l.rounds l.captures l.records);
+  ready : AreReady (drop l.index l.rounds) l.left (drop l.index l.records);
+  later : g.S.Shelf.write_faults l.fn.shelf ≤ g.S.Shelf.write_faults l.shelf;
+}
