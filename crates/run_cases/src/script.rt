@@ -1,0 +1,88 @@
+//! A round whose threads meet in a given order.
+
+use crate::jobs::{capture_to, no_files};
+use crate::order::{Order, Step, Turns};
+use crate::trouble::Trouble;
+use job_files::load_job;
+use job_rounds::{make_hooks, run_job_heard};
+use run_report::report;
+use std::alloc::Global;
+use std::str;
+use std::sync::Wait;
+use std::thread::Threads;
+use tc_base::{MemShelf, NoEar};
+
+/// A job of two rounds, and the order in which the threads of the second one meet. In the first round control
+/// 4 applies a batch. In the second one controls 1 and 2 apply one each, while packets to some hosts of
+/// 10.0.0.0/24 come in.
+#[derive(Clone, Copy)]
+pub(crate) struct Script<'a> {
+    pub(crate) about: &'a str,
+    pub(crate) workers: u32,
+    pub(crate) base: &'a str,
+    pub(crate) first: &'a str,
+    pub(crate) second: &'a str,
+    pub(crate) hosts: &'a [u8],
+    pub(crate) order: &'a [Step],
+    /// What the report has to tell of the second round, up to the last counter. It may be any of these.
+    pub(crate) told: &'a [&'a str],
+}
+
+// The report of a run whose threads take all these steps, in this order.
+fn report_in<R: Threads + Wait + Sync>(
+    rt: &R,
+    alloc: Global,
+    shelf: &mut MemShelf,
+    steps: &[Step],
+) -> Result<Vec<u8>, Trouble> {
+    let Ok(job) = load_job(alloc, shelf, "job") else {
+        return Err(Trouble::NotLoaded);
+    };
+    let order = Order::new(steps);
+    let mut turns = Turns { order: &order };
+    let hooks = make_hooks(alloc, job.job.workers)?;
+    let (run, _, _) = run_job_heard(rt, alloc, hooks, &job, &order, NoEar, &mut turns)?;
+    if !order.is_done() {
+        return Err(Trouble::Late);
+    }
+    Ok(report(alloc, &run)?)
+}
+
+// What a report tells of the second round, and its counters.
+fn told_in(report: &[u8]) -> Option<&str> {
+    let (_, round) = str::from_utf8(report).ok()?.split_once("round 2\n")?;
+    let (told, _) = round.split_once("summary ")?;
+    Some(told)
+}
+
+impl Script<'_> {
+    // The files of the job.
+    fn files(&self, alloc: Global) -> Result<MemShelf, Trouble> {
+        let job = format!(in alloc;
+            "clsact job 1\nworkers {}\ncontrols 4\nround\nbatch 4 base\nround\n\
+            batch 1 first\nbatch 2 second\ncapture ingress in out\nend\n",
+            self.workers
+        )?;
+        let mut shelf = no_files(alloc);
+        shelf.insert("job", job.as_bytes())?;
+        shelf.insert("base", self.base.as_bytes())?;
+        shelf.insert("first", self.first.as_bytes())?;
+        shelf.insert("second", self.second.as_bytes())?;
+        shelf.insert("in", &capture_to(alloc, self.hosts)?)?;
+        Ok(shelf)
+    }
+
+    /// Runs the job, and says whether the report tells what it has to.
+    pub(crate) fn fits<R: Threads + Wait + Sync>(
+        &self,
+        rt: &R,
+        alloc: Global,
+    ) -> Result<bool, Trouble> {
+        let mut shelf = self.files(alloc)?;
+        let report = report_in(rt, alloc, &mut shelf, self.order)?;
+        Ok(match told_in(&report) {
+            Some(told) => self.told.contains(&told),
+            None => false,
+        })
+    }
+}
