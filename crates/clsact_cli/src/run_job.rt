@@ -22,7 +22,7 @@ use std::alloc::Global;
 use std::sync::Wait;
 use std::thread::Threads;
 use tc_base::{Gate, NoMemory, Shelf, Sink};
-use tool_run::{put_outputs, write_text};
+use tool_run::put_outputs;
 use tool_words::Status;
 
 // Runs a job over a hook of its own.
@@ -40,7 +40,7 @@ fn run_loaded<R: Threads + Wait + Sync, G: Gate>(
     Ok(run)
 }
 
-// Puts the captures of a run, and writes its report.
+// Puts the captures of a run, and writes its report from the one buffer in which it was made.
 fn deliver<S: Shelf, O: Sink>(
     alloc: Global,
     loaded: &LoadedJob,
@@ -60,7 +60,7 @@ fn deliver<S: Shelf, O: Sink>(
 {
     put_outputs(alloc, loaded, run, shelf)?;
     let text = report(alloc, run)?;
-    Ok(write_text(&text, out)?)
+    Ok(out.write_all(&text)?)
 }
 
 // How a run ends: with how many of its lines were refused.

@@ -246,15 +246,14 @@ fn faults_at_a_recheck_are_told(rt: HostRuntime) -> Result<(), Fail> {
 
 #[test]
 fn faults_at_a_run_are_told(rt: HostRuntime) -> Result<(), Fail> {
-    // The job is read, then its files. Then the capture is put, and the report written by a call for each line.
-    let rows: [(&[u32], &[u32], &str, usize, bool); 7] = [
+    // The job is read, then its files. Then the capture is put, and the whole report written by one call.
+    let rows: [(&[u32], &[u32], &str, usize, bool); 6] = [
         (&[1], &[], "4 cannot read job", 0, false),
         (&[2], &[], "4 cannot read batch", 0, false),
         (&[3], &[], "4 cannot read capture", 0, false),
         (&[4], &[], "5 cannot write", 0, false),
         (&[], &[1], "5 cannot write", 0, true),
-        (&[], &[2], "5 cannot write", 16, true),
-        (&[5], &[7], "0 ", REPORT.len(), true),
+        (&[5], &[2], "0 ", REPORT.len(), true),
     ];
     for (calls, writes, told, written, put) in rows {
         let mut held = shelf(rt.alloc(), HOOK, &EMPTY, calls)?;

@@ -14,7 +14,7 @@
 //!
 //! The run of a job needs threads, and so it stands in the program, beside this: `obey` asks that the words
 //! aren't its. What it promises is said here all the same (`specs/Runs.antt`), and so is the rest that needs no
-//! thread: `put_outputs` puts its captures, and `write_text` its report.
+//! thread: `put_outputs` puts its captures.
 //!
 //! None of it is a part of the program since nothing here needs a process: tests call it with a shelf and a
 //! sink of their own.
@@ -35,4 +35,3 @@ mod text;
 
 pub use outputs::put_outputs;
 pub use serving::{obey, plain};
-pub use text::write_text;

@@ -15,5 +15,5 @@ report-requires-clause-packets g c =
 
 pub returns-clause-wrote : goal.returns-clause-wrote
 returns-clause-wrote g c =
-    subst (λ (text : List ℕ). Appended (g.O.Sink.written c.args.out.now) (g.O.Sink.written c.write_text.new.out) text)
-    (c.deref.ensures.value ∙ c.in_ok-text.ensures) c.in_ok-write_text.ensures.all
+    subst (λ (text : List ℕ). Appended (g.O.Sink.written c.args.out.now) (g.O.Sink.written c.write_all.new.self) text)
+    (c.deref.ensures.value ∙ c.in_ok-text.ensures) c.in_ok-write_all.ensures.all
