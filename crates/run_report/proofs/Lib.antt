@@ -2,3 +2,4 @@ pub mod Lines
 pub mod Counts
 pub mod Buffers
 pub mod Places
+pub mod Tails

@@ -1,5 +1,6 @@
 pub mod Counts
 pub mod EventTexts
 pub mod PacketTexts
+pub mod PacketTails
 pub mod Reports
 pub mod Kept

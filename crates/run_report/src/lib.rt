@@ -13,7 +13,8 @@
 //! names a state by the same number. A frame's line has its length, and not its bytes. The last line is
 //! `end`, by which a report that was cut off is known.
 //!
-//! All lines grow in one buffer, one piece after the other, and its memory is all that is taken. The line of
+//! All lines grow in one buffer, one piece after the other, and its memory is all that is taken. Where a packet's
+//! line tells the same as the line before it, but for its number, that is copied (`packet_tails`). The line of
 //! an event and that of a packet can also be had alone, from what they show (`push_event_line`,
 //! `push_packet_line`), for whoever compares a report line by line.
 //!
@@ -35,6 +36,7 @@ mod events;
 mod outcome_list;
 mod outcomes;
 mod packet_lines;
+mod packet_tails;
 mod pieces;
 mod record;
 mod reporting;

@@ -3,10 +3,11 @@ ghost use Rattle.std.specs.Prelude.{◌≡◌, ◌++◌, codes, OnOk};
 ghost use Rattle.std.specs.List.{flat_map};
 ghost use Rattle.walk_texts.specs.Texts.{joined, counted};
 ghost use Rattle.run_report.specs.Kept.{outcome_seen};
-ghost use Rattle.run_report.specs.PacketTexts.{packet_name, points_text, shown_packet, packet_line};
-ghost use Rattle.run_report.specs.PacketTexts.{packet_lines};
+ghost use Rattle.run_report.specs.PacketTexts.{packet_name, points_text, shown_packet, packet_lines};
+ghost use Rattle.run_report.specs.PacketTails.{packet_tail};
 
 use crate::outcomes::{OutcomeView, Outcomes};
+use crate::packet_tails::push_or_copy;
 use crate::pieces::push_text;
 use frame_edit::Meta;
 use std::alloc::AllocError;
@@ -63,26 +64,29 @@ pub fn push_packet_line(
     push_text(out, "\n")
 }
 
-fn push_packet(out: &mut Vec<u8>, number: u64, outcome: &OutcomeView<'_>) -> Result<(), AllocError>
-    ensures { OnOk result (out.new.items ≡ out.old.items ++ packet_line number (outcome_seen outcome.now)) }
+// Puts what the line of a packet tells behind its number.
+pub(crate) fn push_tail(out: &mut Vec<u8>, outcome: &OutcomeView<'_>) -> Result<(), AllocError>
+    ensures { OnOk result (out.new.items ≡ out.old.items ++ packet_tail (outcome_seen outcome.now)) }
 {
-    push_packet_line(
+    push_count(out, " worker ", u64::from(outcome.worker))?;
+    push_end(
         out,
-        number,
-        outcome.worker,
         outcome.verdict,
         outcome.bytes.len() as u64,
         outcome.meta,
-        outcome.points,
-    )
+    )?;
+    push_points(out, outcome.points)?;
+    push_text(out, "\n")
 }
 
 /// Puts a line for each packet of a round.
 pub(crate) fn push_packets(out: &mut Vec<u8>, outcomes: &Outcomes) -> Result<(), AllocError>
     ensures { OnOk result (out.new.items ≡ out.old.items ++ joined (packet_lines outcomes.now)) }
 {
+    let mut last = None;
     for place in 0..outcomes.len() {
-        push_packet(out, place as u64 + 1, &outcomes.at(place))?;
+        push_count(out, "packet ", place as u64 + 1)?;
+        last = push_or_copy(out, outcomes.at(place), last)?;
     }
     Ok(())
 }
