@@ -1,4 +1,6 @@
 //! The words of the command line.
+ghost use Rattle.std.specs.Prelude.{◌≡◌, ◌⊎◌, IfErr};
+ghost use Rattle.tool_words.specs.declared.status.Status.TheVariants as statuses;
 
 use std::env::FillError;
 use std::rt::Env;
@@ -11,7 +13,9 @@ const WORD_ROOM: usize = 4096;
 const DOUBLINGS: u32 = 32;
 
 // The word at a place behind the program's own name, or none where the words have ended.
-fn word_at<R: Env + AllocGlobal>(rt: &R, place: usize) -> Result<Option<String>, Status> {
+fn word_at<R: Env + AllocGlobal>(rt: &R, place: usize) -> Result<Option<String>, Status>
+    ensures cause { IfErr result (λ status. (status ≡ statuses.Usage) ⊎ (status ≡ statuses.NoMemory)) }
+{
     let mut room = WORD_ROOM;
     for _ in 0..DOUBLINGS {
         let mut bytes = vec![in rt.alloc(); 0u8; room]?;
@@ -28,7 +32,9 @@ fn word_at<R: Env + AllocGlobal>(rt: &R, place: usize) -> Result<Option<String>,
 }
 
 // Bytes that are no text make the words no command.
-fn text(bytes: Vec<u8>) -> Result<Option<String>, Status> {
+fn text(bytes: Vec<u8>) -> Result<Option<String>, Status>
+    ensures cause { IfErr result (λ status. (status ≡ statuses.Usage) ⊎ (status ≡ statuses.NoMemory)) }
+{
     match String::from_utf8(bytes) {
         Ok(word) => Ok(Some(word)),
         Err(_) => Err(Status::Usage),
@@ -39,7 +45,9 @@ fn text(bytes: Vec<u8>) -> Result<Option<String>, Status> {
 /// what it is asked for.
 ///
 /// `Usage`: a word isn't text. `NoMemory`: memory was refused.
-pub fn words<R: Env + AllocGlobal>(rt: &R) -> Result<Vec<String>, Status> {
+pub fn words<R: Env + AllocGlobal>(rt: &R) -> Result<Vec<String>, Status>
+    ensures cause { IfErr result (λ status. (status ≡ statuses.Usage) ⊎ (status ≡ statuses.NoMemory)) }
+{
     let mut words = Vec::new(rt.alloc());
     for place in 1..usize::MAX {
         match word_at(rt, place)? {
