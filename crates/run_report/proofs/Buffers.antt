@@ -11,7 +11,7 @@ use Rattle.run_report.specs.declared.outcome_list.Row.{Row}
 use Rattle.run_report.specs.Kept.{IsRowOf, outcome_in, outcomes_in}
 
 -- a part stays as it is
-pub part_kept : {X : Type 0} (xs more : List X) (start end : ℕ) → start ≤ end → end ≤ length xs → slice_range (xs ++ more) start end ≡ slice_range xs start end
+part_kept : {X : Type 0} (xs more : List X) (start end : ℕ) → start ≤ end → end ≤ length xs → slice_range (xs ++ more) start end ≡ slice_range xs start end
 part_kept xs more start end order within =
     ap (take (end - start)) (drop-append-le start xs more (omega arith))
     ∙ take-append-le (end - start) (drop start xs) more (omega (arith, length-drop start xs))

@@ -1,25 +1,10 @@
--- A packet's line as its number and what it tells behind that, in a report that grows.
-use Rattle.std.proofs.Common.{◌≡◌, ◌∙◌, ℕ, List, ◌++◌, length, Option, Some, None, refl, sym, ap, append_assoc, arith}
+-- A packet's line as its number and what it tells behind that.
+use Rattle.std.proofs.Common.{◌≡◌, ◌∙◌, ℕ, List, ◌++◌, length, refl, sym, ap, append_assoc}
 use Rattle.std.specs.Prelude.{codes}
-use Rattle.std.proofs.lemmas.List.{length-append}
 use Rattle.walk_texts.specs.Texts.{counted, end_text}
 use Rattle.run_report.specs.declared.outcomes.Outcome.{Outcome}
-use Rattle.run_report.specs.declared.packet_tails.LastTail.{LastTail}
 use Rattle.run_report.specs.PacketTexts.{packet_name, points_text, packet_line}
-use Rattle.run_report.specs.PacketTails.{packet_tail, IsKeptIn}
-use Rattle.run_report.proofs.Buffers.{part_kept}
-
--- a text that grows keeps what stood in it
-pub kept_more : (text more : List ℕ) (last : Option LastTail) → IsKeptIn text last → IsKeptIn (text ++ more) last
-kept_more text more None kept = tt
-kept_more text more (Some last) kept =
-    let long = length-append text more in
-    let within = kept.within in
-    record {
-      order = kept.order;
-      within = omega (arith, within, long);
-      is = part_kept text more last.start last.end kept.order kept.within ∙ kept.is;
-    }
+use Rattle.run_report.specs.PacketTails.{packet_tail}
 
 name_is : (number worker : ℕ)
     → packet_name number worker ≡ counted (codes "packet ") number ++ counted (codes " worker ") worker

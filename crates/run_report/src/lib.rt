@@ -13,10 +13,10 @@
 //! names a state by the same number. A frame's line has its length, and not its bytes. The last line is
 //! `end`, by which a report that was cut off is known.
 //!
-//! All lines grow in one buffer, one piece after the other, and its memory is all that is taken. Where a packet's
-//! line tells the same as the line before it, but for its number, that is copied (`packet_tails`). The line of
-//! an event and that of a packet can also be had alone, from what they show (`push_event_line`,
-//! `push_packet_line`), for whoever compares a report line by line.
+//! All lines grow in one buffer, one piece after the other, and its memory is all that is taken but for that of
+//! one line: where a packet's line tells the same as the one before it, but for its number, that is made once
+//! (`packet_tails`). The line of an event and that of a packet can also be had alone, from what they show
+//! (`push_event_line`, `push_packet_line`), for whoever compares a report line by line.
 //!
 //! A round has as many outcomes as packets. Whoever walks packets puts their outcomes into an `OutcomeList`,
 //! which keeps frames, points and executions in three buffers that all share, and lends an outcome by its row.

@@ -7,10 +7,10 @@ ghost use Rattle.run_report.specs.PacketTexts.{packet_name, points_text, shown_p
 ghost use Rattle.run_report.specs.PacketTails.{packet_tail};
 
 use crate::outcomes::{OutcomeView, Outcomes};
-use crate::packet_tails::push_or_copy;
+use crate::packet_tails::{Tail, push_kept};
 use crate::pieces::push_text;
 use frame_edit::Meta;
-use std::alloc::AllocError;
+use std::alloc::{AllocError, Global};
 use tc_base::Point;
 use walk_rules::Verdict;
 use walk_texts::{push_count, push_end};
@@ -80,13 +80,17 @@ pub(crate) fn push_tail(out: &mut Vec<u8>, outcome: &OutcomeView<'_>) -> Result<
 }
 
 /// Puts a line for each packet of a round.
-pub(crate) fn push_packets(out: &mut Vec<u8>, outcomes: &Outcomes) -> Result<(), AllocError>
+pub(crate) fn push_packets(
+    alloc: Global,
+    out: &mut Vec<u8>,
+    outcomes: &Outcomes,
+) -> Result<(), AllocError>
     ensures { OnOk result (out.new.items ≡ out.old.items ++ joined (packet_lines outcomes.now)) }
 {
-    let mut last = None;
+    let mut tail = Tail::new(alloc);
     for place in 0..outcomes.len() {
         push_count(out, "packet ", place as u64 + 1)?;
-        last = push_or_copy(out, outcomes.at(place), last)?;
+        push_kept(out, outcomes.at(place), &mut tail)?;
     }
     Ok(())
 }

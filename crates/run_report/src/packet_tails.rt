@@ -1,19 +1,30 @@
 //! What the line of a packet tells behind its number. Packets that come one after the other often have all of it
-//! in common, and then it is copied from where it was put last.
-ghost use Rattle.std.specs.Prelude.{◌≡◌, ◌++◌, true, Some, IfOk, OnOk};
+//! in common, and then it is made once.
+ghost use Rattle.std.specs.Prelude.{◌≡◌, ◌++◌, true, OnOk};
 ghost use Rattle.run_report.specs.Kept.{outcome_seen};
-ghost use Rattle.run_report.specs.PacketTails.{packet_tail, IsKeptIn};
+ghost use Rattle.run_report.specs.PacketTails.{packet_tail, IsTold};
 
 use crate::outcomes::OutcomeView;
 use crate::packet_lines::push_tail;
-use std::alloc::AllocError;
+use std::alloc::{AllocError, Global};
 
-/// A packet whose line was put, and where all of it stands that is told behind the number.
-#[derive(Clone, Copy)]
-pub(crate) struct LastTail<'a> {
-    pub(crate) outcome: OutcomeView<'a>,
-    pub(crate) start: usize,
-    pub(crate) end: usize,
+/// The packet whose line was put last, and all that it told behind the number.
+#[derive(Drop)]
+pub(crate) struct Tail<'a> {
+    pub(crate) outcome: Option<OutcomeView<'a>>,
+    pub(crate) text: Vec<u8>,
+}
+
+impl<'a> Tail<'a> {
+    /// No line was put yet.
+    pub(crate) fn new(alloc: Global) -> Self
+        ensures { IsTold result.outcome result.text.items }
+    {
+        Tail {
+            outcome: None,
+            text: Vec::new(alloc),
+        }
+    }
 }
 
 // Whether the lines of two packets tell the same behind their numbers.
@@ -27,35 +38,40 @@ fn are_alike(one: &OutcomeView<'_>, other: &OutcomeView<'_>) -> bool
         && one.points == other.points
 }
 
-// Puts it anew.
-fn push_anew<'a>(out: &mut Vec<u8>, outcome: OutcomeView<'a>) -> Result<LastTail<'a>, AllocError>
-    ensures text { OnOk result (out.new.items ≡ out.old.items ++ packet_tail (outcome_seen outcome.entry)) }
-    ensures kept { IfOk result (λ last. IsKeptIn out.new.items (Some last)) }
+// Whether the line of a packet tells what is kept.
+fn is_kept(tail: &Tail<'_>, outcome: &OutcomeView<'_>) -> bool
+    requires { IsTold tail.now.outcome tail.now.text.items }
+    ensures { result ≡ true → tail.now.text.items ≡ packet_tail (outcome_seen outcome.now) }
 {
-    let start = out.len();
-    push_tail(out, &outcome)?;
-    Ok(LastTail {
-        outcome,
-        start,
-        end: out.len(),
-    })
+    match &tail.outcome {
+        None => false,
+        Some(last) => are_alike(last, outcome),
+    }
 }
 
-/// Puts what the line of a packet tells behind its number, and answers where that stands.
-pub(crate) fn push_or_copy<'a>(
+// Makes what the line of a packet tells.
+fn make<'a>(tail: &mut Tail<'a>, outcome: OutcomeView<'a>) -> Result<(), AllocError>
+    ensures text { OnOk result (tail.new.text.items ≡ packet_tail (outcome_seen outcome.entry)) }
+    ensures told { OnOk result (IsTold tail.new.outcome tail.new.text.items) }
+{
+    tail.text.clear();
+    push_tail(&mut tail.text, &outcome)?;
+    tail.outcome = Some(outcome);
+    Ok(())
+}
+
+/// Puts what the line of a packet tells behind its number.
+pub(crate) fn push_kept<'a>(
     out: &mut Vec<u8>,
     outcome: OutcomeView<'a>,
-    last: Option<LastTail<'a>>,
-) -> Result<Option<LastTail<'a>>, AllocError>
-    requires { IsKeptIn out.old.items last }
+    tail: &mut Tail<'a>,
+) -> Result<(), AllocError>
+    requires { IsTold tail.old.outcome tail.old.text.items }
     ensures text { OnOk result (out.new.items ≡ out.old.items ++ packet_tail (outcome_seen outcome.entry)) }
-    ensures kept { IfOk result (IsKeptIn out.new.items) }
+    ensures told { OnOk result (IsTold tail.new.outcome tail.new.text.items) }
 {
-    if let Some(before) = last {
-        if are_alike(&before.outcome, &outcome) {
-            out.extend_from_within(before.start..before.end)?;
-            return Ok(Some(before));
-        }
+    if !is_kept(tail, &outcome) {
+        make(tail, outcome)?;
     }
-    Ok(Some(push_anew(out, outcome)?))
+    out.extend_from_slice(&tail.text)
 }

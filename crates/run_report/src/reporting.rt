@@ -20,6 +20,7 @@ use walk_texts::{push_counter, push_summary};
 // Puts the lines of a round before which so many edits were accepted, and answers how many were accepted
 // then.
 fn push_round(
+    alloc: Global,
     out: &mut Vec<u8>,
     number: u64,
     before: u32,
@@ -32,18 +33,18 @@ fn push_round(
 {
     push_numbered_line(out, "round ", number)?;
     let edits = push_events(out, before, round.events.as_slice())?;
-    push_packets(out, &round.outcomes)?;
+    push_packets(alloc, out, &round.outcomes)?;
     push_numbered_line(out, "end round ", number)?;
     Ok(edits)
 }
 
-fn push_rounds(out: &mut Vec<u8>, rounds: &[RoundRecord]) -> Result<(), NoMemory>
+fn push_rounds(alloc: Global, out: &mut Vec<u8>, rounds: &[RoundRecord]) -> Result<(), NoMemory>
     requires { events_in rounds.now < 2 ^ 32 }
     ensures { OnOk result (out.new.items ≡ out.old.items ++ joined (rounds_lines rounds.now)) }
 {
     let mut edits = 0;
     for (index, round) in rounds.iter().enumerate() {
-        edits = push_round(out, index as u64 + 1, edits, round)?;
+        edits = push_round(alloc, out, index as u64 + 1, edits, round)?;
     }
     Ok(())
 }
@@ -80,7 +81,7 @@ pub fn report(alloc: Global, run: &RunRecord) -> Result<Vec<u8>, NoMemory>
 {
     let mut out = Vec::new(alloc);
     push_text(&mut out, "clsact report 1\n")?;
-    push_rounds(&mut out, run.rounds.as_slice())?;
+    push_rounds(alloc, &mut out, run.rounds.as_slice())?;
     push_counters(&mut out, run.counters.as_slice())?;
     push_summary(&mut out, &summary_of(run.rounds.as_slice()))?;
     push_text(&mut out, "end\n")?;
