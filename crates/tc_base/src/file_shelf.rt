@@ -64,6 +64,7 @@ impl<R: Files + AllocGlobal> Shelf for FileShelf<'_, R> {
     fn put_pieces(&mut self, name: &str, pieces: &Pieces<'_>) -> Result<(), Put> {
         match write_pieces(self.rt, name, pieces) {
             Ok(()) => Ok(()),
+            Err(e) if e.kind() == ErrorKind::OutOfMemory => Err(Put::NoMemory),
             Err(_) => Err(self.faults.put_failed()),
         }
     }
