@@ -2,9 +2,12 @@ ghost use Rattle.std.specs.Prelude.{◌≡◌, ◌≢◌, ◌≤◌, ◌↔◌, 
 ghost use Rattle.std.specs.IoError.{error_kind};
 ghost use Rattle.std.specs.Option.{option_map};
 ghost use Rattle.tc_base.specs.Counts.{count_after_fetch, name_after_fetch};
+ghost use Rattle.tc_base.specs.Outside.{PutCounts};
 
+use crate::drafts::{Draft, open_draft, settle};
 use crate::faults::Faults;
 use crate::{Fetch, Pieces, Put, Shelf};
+use std::alloc::Global;
 use std::fs::{self, OpenFile};
 use std::io::{self, BufWriter, ErrorKind, Read, Write};
 use std::rt::Files;
@@ -18,8 +21,10 @@ const BUFFER: usize = 256 * 1024;
 /// The files of the system, by path.
 ///
 /// It tells nothing of what they hold, so it never answers `Missing`. A file that is not there, a
-/// directory and a file of more than 4,294,967,295 bytes are all read faults. A put replaces a file
-/// in place: it may be cut short where the put fails, and is not forced to the disk.
+/// directory and a file of more than 4,294,967,295 bytes are all read faults. A put writes a file
+/// beside the name, and renames it once it is whole: until then, and where the put fails, what stood
+/// there stays, with its bytes. It is not forced to the disk. A link, a device, a pipe, and a file in a
+/// folder that may not be written, are written in place, and may be cut short where the put fails.
 #[derive(Drop)]
 pub struct FileShelf<'a, R: Files + AllocGlobal> {
     rt: &'a R,
@@ -55,28 +60,55 @@ impl<R: Files + AllocGlobal> Shelf for FileShelf<'_, R> {
     }
 
     fn put(&mut self, name: &str, bytes: &[u8]) -> Result<(), Put> {
-        match fs::write(self.rt, name, bytes) {
-            Ok(()) => Ok(()),
-            Err(_) => Err(self.faults.put_failed()),
-        }
+        let written = replace(self.rt, name, bytes);
+        put_answer(&mut self.faults, written)
     }
 
     fn put_pieces(&mut self, name: &str, pieces: &Pieces<'_>) -> Result<(), Put> {
-        match write_pieces(self.rt, name, pieces) {
-            Ok(()) => Ok(()),
-            Err(e) if e.kind() == ErrorKind::OutOfMemory => Err(Put::NoMemory),
-            Err(_) => Err(self.faults.put_failed()),
-        }
+        let written = replace_by_pieces(self.rt, name, pieces);
+        put_answer(&mut self.faults, written)
     }
 }
 
-// Replaces a file by these pieces. Short ones go out together.
-fn write_pieces<R: Files + AllocGlobal>(rt: &R, name: &str, pieces: &Pieces<'_>) -> io::Result<()> {
-    let mut out = BufWriter::with_capacity(rt.alloc(), BUFFER, fs::create(rt, name)?)?;
+// Has these bytes stand under the name.
+fn replace<R: Files + AllocGlobal>(rt: &R, name: &str, bytes: &[u8]) -> io::Result<()> {
+    let Draft { mut file, beside } = open_draft(rt, name)?;
+    let written = file.write_all(bytes);
+    drop(file);
+    settle(rt, name, beside, written)
+}
+
+// Has these pieces stand under the name.
+fn replace_by_pieces<R: Files + AllocGlobal>(
+    rt: &R,
+    name: &str,
+    pieces: &Pieces<'_>,
+) -> io::Result<()> {
+    let Draft { file, beside } = open_draft(rt, name)?;
+    let written = write_pieces(rt.alloc(), file, pieces);
+    settle(rt, name, beside, written)
+}
+
+// Writes these pieces, and closes the file. Short ones go out together.
+fn write_pieces<F: Write + Drop>(alloc: Global, file: F, pieces: &Pieces<'_>) -> io::Result<()> {
+    let mut out = BufWriter::with_capacity(alloc, BUFFER, file)?;
     for index in 0..pieces.len() {
         out.write_all(pieces.piece(index))?;
     }
     out.flush()
+}
+
+// What a put answers after this write. Want of memory is no fault of the file.
+fn put_answer(faults: &mut Faults, written: io::Result<()>) -> Result<(), Put>
+    ensures counts { PutCounts faults.old.write faults.new.write result }
+    ensures read { faults.new.read ≡ faults.old.read }
+    ensures failed { faults.new.failed ≡ faults.old.failed }
+{
+    match written {
+        Ok(()) => Ok(()),
+        Err(e) if e.kind() == ErrorKind::OutOfMemory => Err(Put::NoMemory),
+        Err(_) => Err(faults.put_failed()),
+    }
 }
 
 // What a fetch of `name` answers after this read. Want of memory is no fault of the file.

@@ -23,6 +23,7 @@
 #![tactic(auto)]
 
 mod calls;
+mod drafts;
 mod ear;
 mod faults;
 mod file_shelf;
