@@ -15,6 +15,7 @@ pub record IsTaught (store : StoreName) (edits : ℕ) (old new : Worker) : Type 
   pub number : new.number ≡ old.number
   pub away : IsAway store new
   pub pin : pin_of new.reader.place ≡ pin_of old.reader.place
+  pub visits : new.reader.visits ≡ old.reader.visits
   pub latest : new.reader.latest ≡ max old.reader.latest edits
 
 abbrev pub AreTaught : StoreName → ℕ → List Worker → List Worker → Type 0

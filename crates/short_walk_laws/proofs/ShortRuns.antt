@@ -204,6 +204,11 @@ long_paired : (executed : List Execution) → length (pairs_of executed) ≡ len
 long_paired [] = refl
 long_paired (e ∷ executed) = let rest = long_paired executed in omega (arith, rest)
 
+-- HOW OFTEN A RECORDED WALK VISITED: 65,536 times at most
+pub few_visited : (journal : List Edit) (floor ceiling : ℕ) (arrival : Arrival) (outcome : Outcome) → IsWalked journal floor ceiling arrival outcome → length outcome.points ≤ 65536
+few_visited journal floor ceiling arrival outcome walked =
+    few_points (IsVisited (λ point. state_at point journal)) arrival.hook arrival.packet.bytes outcome.points [] walked.visits walked.walk walked.walks
+
 -- WHAT A RECORDED WALK RAN: 65,536 actions at most, each on a frame of 262,144 bytes at most
 pub executed_short : (journal : List Edit) (floor ceiling : ℕ) (arrival : Arrival) (outcome : Outcome) → IsWalked journal floor ceiling arrival outcome → length arrival.packet.bytes ≤ 262144 → IsShortRun outcome.executed
 executed_short journal floor ceiling arrival outcome walked small =
