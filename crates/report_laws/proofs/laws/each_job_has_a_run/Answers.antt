@@ -8,4 +8,4 @@ use Rattle.report_laws.proofs.laws.each_job_has_a_run.Goals as goal
 pub returns : goal.returns
 returns c = λ loaded is.
     let it = completes loaded start [] is refl in
-    (it.run, it.journal, (run_of_path loaded it.run it.journal it.more it.path).0)
+    (it.run, (it.journal, (run_of_path loaded it.run it.journal it.more it.path).0))
