@@ -1,5 +1,5 @@
 -- What the outcomes of a round tell of its workers' visits.
-use Rattle.std.proofs.Common.{◌≡◌, ◌∙◌, ℕ, zero, suc, ◌+◌, ◌*◌, ◌<◌, ◌≤◌, ◌≢◌, ◌==◌, min, Bool, true, false, List, [], ◌∷◌, ◌++◌, length, map, get_or, Option, Some, refl, sym, ap, subst, arith, eq-eqb, inl, inr}
+use Rattle.std.proofs.Common.{◌≡◌, ◌∙◌, ℕ, zero, suc, ◌+◌, ◌*◌, ◌<◌, ◌≤◌, ◌≢◌, ◌==◌, min, Bool, true, false, List, [], ◌∷◌, ◌++◌, length, get_or, Some, refl, sym, ap, subst, arith, eq-eqb, inl, inr}
 use Rattle.std.specs.Prelude.{sum_by, if◌then◌else◌, nat_lt}
 use Rattle.std.specs.List.{flat_map, slice_get}
 use Rattle.std.proofs.lemmas.Bool.Decides.{eqb_tells}
@@ -9,7 +9,7 @@ use Rattle.filter_state.specs.Sound.{Each}
 use Rattle.run_report.specs.declared.outcomes.Outcome.{Outcome}
 use Rattle.step_counts.specs.Claims.{times, HasEachBelow, once_below}
 use Rattle.step_counts.specs.Drawn.{sum_to}
-use Rattle.step_counts.proofs.Numbers.{same_as, same_of, times_cons, below_once}
+use Rattle.step_counts.proofs.Numbers.{same_of, times_cons, below_once}
 use Rattle.step_counts.proofs.Sums.{sums_once}
 use Rattle.lawful_runs.specs.OfLogs.Logs.{LogRow, ArePlaced}
 use Rattle.lawful_runs.specs.Cases.{walked_by}
@@ -18,10 +18,10 @@ use Rattle.worker_rounds.specs.Worked.{visits_after}
 use Rattle.job_rounds.specs.Visited.{visits_by}
 
 -- ---- a count that doesn't come to its type's end
-points_of : LogRow → ℕ
+abbrev points_of : LogRow → ℕ
 points_of it = length it.outcome.points
 
-pub points_in : List LogRow → ℕ
+abbrev pub points_in : List LogRow → ℕ
 points_in rows = sum_by points_of rows
 
 pub counted_up : (visits : ℕ) (rows : List LogRow) → visits + points_in rows ≤ 18446744073709551615 → visits_after visits rows ≡ visits + points_in rows
@@ -34,7 +34,7 @@ counted_up visits (it ∷ rows) few =
     ap (λ (n : ℕ). visits_after n rows) next ∙ rest ∙ both
 
 -- ---- all rows in one list
-all_rows : List (List LogRow) → List LogRow
+abbrev all_rows : List (List LogRow) → List LogRow
 all_rows logs = flat_map (λ (rows : List LogRow). rows) logs
 
 numbers_more : (rows others : List LogRow) → numbers_of (rows ++ others) ≡ numbers_of rows ++ numbers_of others
@@ -50,9 +50,9 @@ in_front [] others at it is = absurd (cc is)
 in_front (row ∷ rows) others zero it is = is
 in_front (row ∷ rows) others (suc at) it is = in_front rows others at it is
 
-behind_front : (rows others : List LogRow) (at : ℕ) (it : LogRow) → slice_get others at ≡ Some it → slice_get (rows ++ others) (length rows + at) ≡ Some it
-behind_front [] others at it is = is
-behind_front (row ∷ rows) others at it is = behind_front rows others at it is
+behind_front : (rows others : List LogRow) (at : ℕ) (it : LogRow) → slice_get others at ≡ Some it → (place : ℕ) × (slice_get (rows ++ others) place ≡ Some it)
+behind_front [] others at it is = (at, is)
+behind_front (row ∷ rows) others at it is = let rest = behind_front rows others at it is in (suc rest.0, rest.1)
 
 in_all : (logs : List (List LogRow)) (index : ℕ) (rows : List LogRow) (at : ℕ) (it : LogRow) → slice_get logs index ≡ Some rows → slice_get rows at ≡ Some it → (place : ℕ) × (slice_get (all_rows logs) place ≡ Some it)
 in_all [] index rows at it log there = absurd (cc log)
@@ -61,7 +61,7 @@ in_all (first ∷ logs) zero rows at it log there =
     (at, in_front first (all_rows logs) at it (subst (λ (rs : List LogRow). slice_get rs at ≡ Some it) (sym same) there))
 in_all (first ∷ logs) (suc index) rows at it log there =
     let rest = in_all logs index rows at it log there in
-    (length first + rest.0, behind_front first (all_rows logs) rest.0 it rest.1)
+    behind_front first (all_rows logs) rest.0 it rest.1
 
 -- ---- a number that stands once is that of one row
 stands : (all : List LogRow) (at : ℕ) (it : LogRow) → slice_get all at ≡ Some it → 1 ≤ times it.number (numbers_of all)
@@ -139,7 +139,7 @@ sum_along value (outcome ∷ outcomes) weight own =
     omega (arith, front, here, rest, first)
 
 -- ---- a worker's part
-part_of : ℕ → Outcome → ℕ
+abbrev part_of : ℕ → Outcome → ℕ
 part_of worker outcome = if outcome.worker == worker then length outcome.points else 0
 
 own_part : (worker : ℕ) (outcome : Outcome) → outcome.worker ≡ worker → part_of worker outcome ≡ length outcome.points
@@ -172,7 +172,7 @@ both_visits worker earlier outcomes = sum_by-append (part_of worker) earlier out
 abbrev pub AreBy : ℕ → List (List LogRow) → Type 0
 AreBy first logs = (index : ℕ) (rows : List LogRow) → slice_get logs index ≡ Some rows → (at : ℕ) (it : LogRow) → slice_get rows at ≡ Some it → it.outcome.worker ≡ first + index
 
-part_in : ℕ → List LogRow → ℕ
+abbrev part_in : ℕ → List LogRow → ℕ
 part_in worker all = sum_by (λ (it : LogRow). part_of worker it.outcome) all
 
 later_none : (worker first : ℕ) (logs : List (List LogRow)) → AreBy first logs → worker < first → part_in worker (all_rows logs) ≡ 0
