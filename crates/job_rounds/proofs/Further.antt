@@ -1,10 +1,9 @@
 -- A run behind one round more.
-use Rattle.batch_run.specs.declared.limit.TheConstants.{COMMANDS_MAX}
 use Rattle.walk_ends.specs.declared.limits.TheConstants.{PACKETS_MAX}
 use Rattle.walk_rules.specs.declared.limits.TheConstants.{VISITS_MAX}
-use Rattle.std.proofs.Common.{◌≡◌, ◌∙◌, ℕ, zero, suc, ◌+◌, ◌-◌, ◌<◌, ◌≤◌, List, [], ◌∷◌, ◌++◌, length, map, take, drop, Option, Some, refl, sym, ap, subst, arith, append-nil, append_assoc, Vec, Global}
-use Rattle.std.specs.Prelude.{vec_len, vec_capacity, option_map}
-use Rattle.std.specs.List.{slice_get, flat_map}
+use Rattle.std.proofs.Common.{◌≡◌, ◌∙◌, ℕ, zero, suc, ◌+◌, ◌-◌, ◌≤◌, List, [], ◌∷◌, ◌++◌, length, map, take, Option, Some, refl, sym, ap, subst, arith, append-nil, append_assoc, Vec, Global}
+use Rattle.std.specs.Prelude.{option_map}
+use Rattle.std.specs.List.{slice_get}
 use Rattle.std.proofs.lemmas.List.{length-take, length-append}
 use Rattle.tc_base.specs.declared.ear.EventName.{EventName}
 use Rattle.tc_base.specs.declared.hook.Hook.{Hook}
@@ -12,22 +11,21 @@ use Rattle.pcap_io.specs.declared.capture.Packet.{Packet}
 use Rattle.pcap_io.specs.Captures.{AreShort}
 use Rattle.filter_state.specs.declared.edit.Edit.{Edit}
 use Rattle.filter_state.specs.Sound.{Each}
-use Rattle.filter_state.specs.States.{no_state}
 use Rattle.batch_run.specs.declared.made_action.MadeAction.{MadeAction}
 use Rattle.run_report.specs.declared.outcomes.Outcome.{Outcome}
 use Rattle.run_report.specs.declared.rounds.RoundRecord.{RoundRecord}
-use Rattle.run_report.specs.Counts.{accepted_count, edits_in}
+use Rattle.run_report.specs.Counts.{edits_in}
 use Rattle.lawful_runs.specs.declared.loaded.LoadedJob.{LoadedJob}
 use Rattle.lawful_runs.specs.Given.{Arrival, GivenRound, IsLoaded, given_rounds, captures_named}
-use Rattle.lawful_runs.specs.Lawful.{IsRound, AreRounds, outcomes_in, made_by}
+use Rattle.lawful_runs.specs.Lawful.{IsRound, AreRounds, outcomes_in}
 use Rattle.lawful_runs.proofs.OfLogs.RoundMore.{rounds_further}
 use Rattle.lawful_runs.proofs.Rounds.{rounds_counted}
 use Rattle.lawful_runs.proofs.Places.{each_from, one_there}
 use Rattle.filter_state.proofs.Pairs.{each_append}
 use Rattle.walk_steps.specs.Told.{IsShortRun}
-use Rattle.round_terms.specs.Files.{files_of, commands_in_all}
+use Rattle.round_terms.specs.Files.{files_of}
 use Rattle.round_terms.specs.Hearing.{EarView, HasHeard, ear_of}
-use Rattle.round_terms.specs.Underway.{IsMadeSince, made_behind}
+use Rattle.round_terms.specs.Underway.{IsMadeSince}
 use Rattle.round_terms.proofs.Making.{made_further}
 use Rattle.worker_rounds.specs.declared.worker.Worker.{Worker}
 use Rattle.worker_rounds.specs.Worked.{arrivals_of}
@@ -37,7 +35,7 @@ use Rattle.job_rounds.specs.OfOneRound.Rounds.{AreEvents}
 use Rattle.job_rounds.specs.OfOneRound.Ends.{HaveWalked, IsLawfulRound}
 use Rattle.job_rounds.proofs.OfOneRound.Zips.{zip_long}
 use Rattle.job_rounds.specs.declared.course.Course.{Course}
-use Rattle.job_rounds.specs.Left.{commands_left, packets_left}
+use Rattle.job_rounds.specs.Left.{packets_left}
 use Rattle.job_rounds.specs.Names.{names_in}
 use Rattle.job_rounds.specs.Taught.{IsTaught, AreTaught}
 use Rattle.job_rounds.specs.SoFar.{IsSoFar, all_made}

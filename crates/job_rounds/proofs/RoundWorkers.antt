@@ -1,23 +1,21 @@
 -- The workers behind a round.
-use Rattle.std.proofs.Common.{◌≡◌, ◌∙◌, ℕ, zero, suc, ◌+◌, ◌*◌, ◌-◌, ◌<◌, ◌≤◌, ◌^◌, ◌⊎◌, inl, inr, List, [], ◌∷◌, ◌++◌, length, map, Option, Some, refl, sym, ap, subst, arith}
+use Rattle.std.proofs.Common.{◌≡◌, ◌∙◌, ℕ, zero, suc, ◌+◌, ◌<◌, ◌≤◌, ◌⊎◌, inl, inr, List, [], ◌∷◌, ◌++◌, length, Some, refl, sym, ap, subst, arith}
 use Rattle.walk_ends.specs.declared.limits.TheConstants.{PACKETS_MAX}
 use Rattle.walk_rules.specs.declared.limits.TheConstants.{VISITS_MAX}
 use Rattle.std.specs.List.{slice_get, flat_map}
 use Rattle.std.proofs.lemmas.List.{length-append}
-use mathlib.Core.List.{IsPrefix}
 use Rattle.tc_base.specs.declared.hook.Hook.{Hook}
 use Rattle.pcap_io.specs.declared.capture.Packet.{Packet}
-use Rattle.pin_store.specs.Calls.{IsSeatAt, IsOutside, pin_of}
 use Rattle.filter_state.specs.declared.edit.Edit.{Edit}
 use Rattle.filter_state.specs.Sound.{Each}
 use Rattle.step_counts.specs.Claims.{HasEachBelow}
 use Rattle.walk_logs.specs.Rows.{numbers_of}
 use Rattle.run_report.specs.declared.outcomes.Outcome.{Outcome}
 use Rattle.lawful_runs.specs.Given.{Arrival}
-use Rattle.lawful_runs.specs.OfLogs.Logs.{LogRow, AreRows, IsRowAt, ArePointsTo, IsPlacedAt}
+use Rattle.lawful_runs.specs.OfLogs.Logs.{LogRow, AreRows, ArePointsTo}
 use Rattle.worker_walk.specs.Walked.{journal_of}
 use Rattle.worker_rounds.specs.declared.worker.Worker.{Worker}
-use Rattle.worker_rounds.specs.Worked.{arrivals_of, IsWorked}
+use Rattle.worker_rounds.specs.Worked.{arrivals_of}
 use Rattle.job_rounds.specs.OfRoundState.Rounds.{StoreName}
 use Rattle.job_rounds.specs.OfOneRound.Ends.{IsWorkedAt, HaveWalked}
 use Rattle.job_rounds.proofs.OfOneRound.Zips.{there_within}

@@ -1,9 +1,7 @@
 -- A whole job: where it begins, and what it comes to.
-use Rattle.batch_run.specs.declared.limit.TheConstants.{COMMANDS_MAX}
-use Rattle.std.proofs.Common.{◌≡◌, ◌∙◌, ℕ, zero, suc, ◌+◌, ◌*◌, ◌<◌, ◌≤◌, ◌^◌, List, [], ◌∷◌, ◌++◌, length, map, take, drop, get_or, Option, Some, None, refl, sym, ap, subst, arith, append-nil, Vec, Global}
+use Rattle.std.proofs.Common.{◌≡◌, ◌∙◌, ℕ, zero, suc, ◌+◌, ◌≤◌, List, [], ◌∷◌, ◌++◌, length, map, take, drop, Option, Some, None, refl, sym, ap, subst, arith, append-nil, Vec, Global}
 use Rattle.std.specs.Prelude.{All, option_map}
 use Rattle.std.specs.List.{slice_get}
-use Rattle.std.proofs.lemmas.Option.{slice_get-get_or}
 use Rattle.std.proofs.lemmas.List.{take_all}
 use Rattle.tc_base.specs.declared.ear.EventName.{EventName}
 use Rattle.pcap_io.specs.declared.capture.Capture.{Capture}
@@ -22,7 +20,7 @@ use Rattle.batch_run.specs.declared.made_action.MadeAction.{MadeAction}
 use Rattle.run_report.specs.declared.counters.CounterLine.{CounterLine}
 use Rattle.run_report.specs.declared.rounds.RoundRecord.{RoundRecord}
 use Rattle.lawful_runs.specs.declared.loaded.LoadedJob.{LoadedJob}
-use Rattle.lawful_runs.specs.Given.{GivenRound, IsLoaded, given_rounds, rounds_from, capture_count, command_count, packet_count}
+use Rattle.lawful_runs.specs.Given.{IsLoaded, given_rounds, rounds_from, capture_count, command_count, packet_count}
 use Rattle.lawful_runs.specs.Lawful.{AreRounds, counter_of, executed_in, outcomes_in, made_by, counters_of}
 use Rattle.round_terms.specs.Hearing.{ear_of}
 use Rattle.worker_rounds.specs.declared.worker.Worker.{Worker}
@@ -35,7 +33,7 @@ use Rattle.job_rounds.specs.SoFar.{IsSoFar, IsBetween, all_made}
 use Rattle.job_rounds.specs.Left.{packets_left}
 use Rattle.job_rounds.specs.Visited.{visits_by, HaveVisited}
 use Rattle.job_rounds.specs.Names.{names_in}
-use Rattle.job_rounds.specs.Counted.{AreCounted, AreOfRun, line_of, lines_of}
+use Rattle.job_rounds.specs.Counted.{AreCounted, lines_of}
 
 -- ---- the end
 many_given : (rounds : List Round) (files : List (List ℕ)) (captures : List Capture) → length (rounds_from rounds files captures) ≡ length rounds

@@ -1,5 +1,5 @@
 -- A worker that has learnt what the desk has seen (this project's own).
-use Rattle.std.specs.Prelude.{◌≡◌, ℕ, max, List, length}
+use Rattle.std.specs.Prelude.{◌≡◌, ℕ, max, List}
 use Rattle.std.specs.List.{AllZip}
 use Rattle.pin_store.specs.Calls.{IsSeatAt, IsOutside, pin_of}
 use Rattle.worker_rounds.specs.declared.worker.Worker.{Worker}

@@ -1,11 +1,10 @@
 -- What one walk runs is bounded: the rules of a walk allow so many visits, and frames of so many bytes.
-use Rattle.std.proofs.Common.{◌≡◌, ◌∙◌, ℕ, zero, suc, ◌+◌, ◌-◌, ◌<◌, ◌≤◌, ◌==◌, cond, Bool, true, false, List, [], ◌∷◌, ◌++◌, length, map, take, drop, Option, Some, None, refl, sym, ap, subst, arith}
+use Rattle.std.proofs.Common.{◌≡◌, ◌∙◌, ℕ, ◌+◌, ◌-◌, ◌≤◌, ◌==◌, cond, Bool, true, false, List, [], ◌∷◌, ◌++◌, length, map, take, drop, Some, None, refl, sym, ap, subst, arith}
 use Rattle.std.specs.Prelude.{◌&&◌, ◌||◌, nat_lt, nat_le, if◌then◌else◌}
 use Rattle.std.proofs.lemmas.Bool.Decides.{nat_tests}
 use Rattle.std.proofs.lemmas.List.{length-append, length-take, length-drop}
-use Rattle.tc_base.specs.declared.hook.Hook.{Hook}
-use Rattle.frame_edit.specs.EditedFrame.{EditedFrame, lacks_room, with_bytes, loaded_frame}
-use Rattle.frame_edit.specs.Tags.{has_ethernet, is_tagged, is_tag_type, two_at, control_of, control_with, tag_bytes, with_tag, without_tag, retagged, pushed, popped, modified}
+use Rattle.frame_edit.specs.EditedFrame.{EditedFrame, lacks_room, with_bytes}
+use Rattle.frame_edit.specs.Tags.{has_ethernet, is_tagged, is_tag_type, two_at, control_of, control_with, tag_bytes, with_tag, without_tag, retagged, pushed}
 use Rattle.filter_state.specs.Sound.{Each}
 use Rattle.filter_state.specs.declared.edit.Edit.{Edit}
 use Rattle.filter_state.specs.Journals.{state_at}
@@ -21,7 +20,7 @@ use Rattle.act_list.specs.declared.run.Ending.{Ending}
 use Rattle.act_list.specs.declared.run.Ending.TheVariants as endings
 use Rattle.act_list.specs.Run.{Stand, on, over, stand_after}
 use Rattle.walk_rules.specs.Questions.{Head, Question, Answer, told_heads, told_no_filter, told_actions, told_params}
-use Rattle.walk_rules.specs.Steps.{Execution, Place, at_head, at_mask, at_action, ended, Standing, begun, moved, restarted, after_list, after_action, ran, action_at, after_found, after_at, after}
+use Rattle.walk_rules.specs.Steps.{Execution, Place, at_head, at_mask, at_action, ended, Standing, begun, after_list, after_action, ran, action_at, after_found, after_at, after}
 use Rattle.walk_rules.specs.Walks.{Outcome as WalkOutcome, outcome_of, outcome_at, outcome_with, IsWalk}
 use Rattle.walk_rules.specs.declared.verdict.Verdict.TheVariants as verdicts
 use Rattle.walk_rules.proofs.Agreeing.{one_more, few_points}

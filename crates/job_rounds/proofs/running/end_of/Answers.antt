@@ -1,4 +1,4 @@
-use Rattle.std.proofs.Common.{◌≡◌, ◌∙◌, ◌++◌, List, [], length, take, map, Vec, Global, sym, ap, subst}
+use Rattle.std.proofs.Common.{◌∙◌, ◌++◌, List, [], length, map, Vec, Global, sym, ap, subst}
 use Rattle.std.specs.Prelude.{option_map}
 use Rattle.batch_run.specs.declared.made_action.MadeAction.{MadeAction}
 use Rattle.run_report.specs.declared.rounds.RoundRecord.{RoundRecord}
@@ -9,7 +9,7 @@ use Rattle.worker_rounds.specs.declared.worker.Worker.{Worker}
 use Rattle.job_rounds.specs.OfRoundState.Views.{journal}
 use Rattle.job_rounds.specs.Names.{names_in}
 use Rattle.job_rounds.specs.SoFar.{all_made}
-use Rattle.job_rounds.specs.Counted.{AreCounted, lines_of}
+use Rattle.job_rounds.specs.Counted.{AreCounted}
 use Rattle.job_rounds.proofs.Beginning.{many_mapped}
 use Rattle.job_rounds.specs.Visited.{HaveVisited}
 use Rattle.job_rounds.proofs.Whole.{all_rounds, counters_are, have_visited}
