@@ -1,11 +1,10 @@
 -- A run begins with new readers, and a worker for each.
-use Rattle.std.proofs.Common.{◌≡◌, ◌∙◌, ℕ, zero, suc, ◌+◌, ◌<◌, ◌≤◌, ◌⊎◌, inl, inr, List, [], ◌∷◌, ◌++◌, length, map, get_or, Some, refl, sym, ap, subst, arith, append_assoc}
+use Rattle.std.proofs.Common.{◌≡◌, ◌∙◌, ℕ, zero, suc, ◌+◌, ◌⊎◌, inl, inr, List, [], ◌∷◌, ◌++◌, length, map, Some, refl, sym, ap, subst, arith, append_assoc}
 use Rattle.std.specs.Prelude.{All}
 use Rattle.std.specs.List.{slice_get}
 use Rattle.std.proofs.lemmas.List.{get_or_append_left, length-append}
 use Rattle.hook_reader.specs.Seats.{HookSeat}
 use Rattle.worker_rounds.specs.declared.worker.Worker.{Worker}
-use Rattle.job_rounds.proofs.Ready.{within_by}
 
 pub all_front : {X : Type 0} (P : X → Type 0) (xs ys : List X) → All P (xs ++ ys) → All P xs
 all_front P xs ys all k d less = subst P (get_or_append_left xs ys d k less) (all k d (let both = length-append xs ys in omega (arith, both, less)))

@@ -1,8 +1,9 @@
 -- A run behind one round more.
-use Rattle.batch_run.specs.declared.limit.TheConstants.{COMMANDS_MAX}
-use Rattle.std.proofs.Common.{◌≡◌, ◌∙◌, ℕ, zero, suc, ◌+◌, ◌-◌, ◌<◌, ◌≤◌, List, [], ◌∷◌, ◌++◌, length, map, take, drop, Option, Some, refl, sym, ap, subst, arith, append-nil, append_assoc, Vec, Global}
-use Rattle.std.specs.Prelude.{vec_len, vec_capacity, option_map}
-use Rattle.std.specs.List.{slice_get, flat_map}
+use Rattle.walk_ends.specs.declared.limits.TheConstants.{PACKETS_MAX}
+use Rattle.walk_rules.specs.declared.limits.TheConstants.{VISITS_MAX}
+use Rattle.std.proofs.Common.{◌≡◌, ◌∙◌, ℕ, zero, suc, ◌+◌, ◌-◌, ◌≤◌, List, [], ◌∷◌, ◌++◌, length, map, take, Option, Some, refl, sym, ap, subst, arith, append-nil, append_assoc, Vec, Global}
+use Rattle.std.specs.Prelude.{option_map}
+use Rattle.std.specs.List.{slice_get}
 use Rattle.std.proofs.lemmas.List.{length-take, length-append}
 use Rattle.tc_base.specs.declared.ear.EventName.{EventName}
 use Rattle.tc_base.specs.declared.hook.Hook.{Hook}
@@ -10,22 +11,21 @@ use Rattle.pcap_io.specs.declared.capture.Packet.{Packet}
 use Rattle.pcap_io.specs.Captures.{AreShort}
 use Rattle.filter_state.specs.declared.edit.Edit.{Edit}
 use Rattle.filter_state.specs.Sound.{Each}
-use Rattle.filter_state.specs.States.{no_state}
 use Rattle.batch_run.specs.declared.made_action.MadeAction.{MadeAction}
 use Rattle.run_report.specs.declared.outcomes.Outcome.{Outcome}
 use Rattle.run_report.specs.declared.rounds.RoundRecord.{RoundRecord}
-use Rattle.run_report.specs.Counts.{accepted_count, edits_in}
+use Rattle.run_report.specs.Counts.{edits_in}
 use Rattle.lawful_runs.specs.declared.loaded.LoadedJob.{LoadedJob}
 use Rattle.lawful_runs.specs.Given.{Arrival, GivenRound, IsLoaded, given_rounds, captures_named}
-use Rattle.lawful_runs.specs.Lawful.{IsRound, AreRounds, outcomes_in, made_by}
+use Rattle.lawful_runs.specs.Lawful.{IsRound, AreRounds, outcomes_in}
 use Rattle.lawful_runs.proofs.OfLogs.RoundMore.{rounds_further}
 use Rattle.lawful_runs.proofs.Rounds.{rounds_counted}
 use Rattle.lawful_runs.proofs.Places.{each_from, one_there}
 use Rattle.filter_state.proofs.Pairs.{each_append}
 use Rattle.walk_steps.specs.Told.{IsShortRun}
-use Rattle.round_terms.specs.Files.{files_of, commands_in_all}
+use Rattle.round_terms.specs.Files.{files_of}
 use Rattle.round_terms.specs.Hearing.{EarView, HasHeard, ear_of}
-use Rattle.round_terms.specs.Underway.{IsMadeSince, made_behind}
+use Rattle.round_terms.specs.Underway.{IsMadeSince}
 use Rattle.round_terms.proofs.Making.{made_further}
 use Rattle.worker_rounds.specs.declared.worker.Worker.{Worker}
 use Rattle.worker_rounds.specs.Worked.{arrivals_of}
@@ -35,7 +35,7 @@ use Rattle.job_rounds.specs.OfOneRound.Rounds.{AreEvents}
 use Rattle.job_rounds.specs.OfOneRound.Ends.{HaveWalked, IsLawfulRound}
 use Rattle.job_rounds.proofs.OfOneRound.Zips.{zip_long}
 use Rattle.job_rounds.specs.declared.course.Course.{Course}
-use Rattle.job_rounds.specs.Left.{commands_left, packets_left}
+use Rattle.job_rounds.specs.Left.{packets_left}
 use Rattle.job_rounds.specs.Names.{names_in}
 use Rattle.job_rounds.specs.Taught.{IsTaught, AreTaught}
 use Rattle.job_rounds.specs.SoFar.{IsSoFar, all_made}
@@ -45,7 +45,7 @@ use Rattle.job_rounds.proofs.RoundNames.{heard_more}
 use Rattle.job_rounds.proofs.RoundPackets.{given_there, one_taken}
 use Rattle.job_rounds.proofs.Ready.{have_seen, within_by}
 use Rattle.job_rounds.proofs.RoundWorkers.{between_next, many_arrivals}
-use Rattle.short_walk_laws.proofs.ShortRuns.{executed_short}
+use Rattle.short_walk_laws.proofs.ShortRuns.{executed_short, few_visited}
 
 outcomes_more : (its : List RoundRecord) (it : RoundRecord) → outcomes_in (its ++ it ∷ []) ≡ outcomes_in its ++ it.outcomes
 outcomes_more [] it = append-nil it.outcomes
@@ -120,6 +120,18 @@ module _ {E : Type 0} (name : E → ℕ) (heard : E → Option (List EventName))
         let among = subst (λ (all : List Arrival). slice_get all place ≡ Some arrival.0) (played.arrivals round.0 round.1) arrival.1 in
         executed_short _ _ _ arrival.0 outcome (walked.walked place arrival.0 outcome arrival.1 there) (arrival_short hook packets place arrival.0 played.small among))
 
+    brief_here : Each (λ (outcome : Outcome). length outcome.points ≤ VISITS_MAX) it.outcomes
+    brief_here = each_from (λ (outcome : Outcome). length outcome.points ≤ VISITS_MAX) it.outcomes (λ place outcome there.
+        let walked = own_round.2.walked in
+        let arrival = one_there round.0.arrivals it.outcomes place outcome walked.one_each there in
+        few_visited _ _ _ arrival.0 outcome (walked.walked place arrival.0 outcome arrival.1 there))
+
+    brief_all : Each (λ (outcome : Outcome). length outcome.points ≤ VISITS_MAX) (outcomes_in old.past.rounds.items ++ it.outcomes)
+    brief_all = each_append (λ (outcome : Outcome). length outcome.points ≤ VISITS_MAX) (outcomes_in old.past.rounds.items) it.outcomes far.brief brief_here
+
+    within_run : length (outcomes_in old.past.rounds.items) + length it.outcomes ≤ PACKETS_MAX
+    within_run = let own = counted_here in let left = played.parts in let most = far.of_run in omega (arith, own, left, most)
+
     lawful : AreRounds loaded.job.workers (take number (given_rounds loaded)) [] [] new.past.rounds.items (journal new.desk)
     lawful =
         let own = own_round in
@@ -151,12 +163,13 @@ module _ {E : Type 0} (name : E → ℕ) (heard : E → Option (List EventName))
           workers = λ at worker there. subst (λ (os : List Outcome). Rattle.job_rounds.specs.SoFar.IsBetween store (packets_left loaded number) os at worker)
               (sym (outcomes_more old.past.rounds.items it) ∙ ap outcomes_in (sym played.rounds))
               (between_next store (packets_left loaded (number - 1)) (outcomes_in old.past.rounds.items) old.workers.items far.workers (length (journal old.desk)) taught played.are_taught hook packets (journal new.desk)
-              new.workers.items it.outcomes played.walked (packets_left loaded number) played.parts at worker there);
+              new.workers.items it.outcomes played.walked (packets_left loaded number) played.parts within_run brief_all at worker there);
           made = made_further [] (journal old.desk) played.events.edits (journal old.desk) (journal new.desk) (all_made (map (λ m. m.items) old.past.made.items)) (all_made (map (λ m. m.items) new.past.made.items))
               refl played.events.journal_is far.made (played.all ∙ ap (λ (ms : List MadeAction). all_made (map (λ m. m.items) old.past.made.items) ++ ms) played.since);
           captures = played.captures;
           of_run = (let own = counted_here in let left = played.parts in let most = far.of_run in let more = ap length (outcomes_new) in let both = length-append (outcomes_in old.past.rounds.items) it.outcomes in omega (arith, own, left, most, more, both));
           short = subst AreShortRuns (sym outcomes_new) (each_append (λ (outcome : Outcome). IsShortRun outcome.executed) (outcomes_in old.past.rounds.items) it.outcomes far.short short_here);
+          brief = subst (λ (outcomes : List Outcome). Each (λ (outcome : Outcome). length outcome.points ≤ VISITS_MAX) outcomes) (sym outcomes_new) brief_all;
           few = omega (arith, split, count, few, before);
           room = omega (arith, split, few, room, spared);
           name_is = played.hears.name_is ∙ far.name_is;

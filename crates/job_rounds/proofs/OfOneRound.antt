@@ -5,6 +5,7 @@ pub mod Joins
 pub mod Claimed
 pub mod Same
 pub mod Walks
+pub mod Visits
 pub mod Records
 pub mod Crossing
 pub mod Later

@@ -1,17 +1,13 @@
 -- What is ready before a round.
 use Rattle.batch_run.specs.declared.limit.TheConstants.{COMMANDS_MAX}
-use Rattle.std.proofs.Common.{◌≡◌, ◌∙◌, ℕ, zero, suc, ◌+◌, ◌*◌, ◌-◌, ◌<◌, ◌≤◌, ◌^◌, max, List, [], ◌∷◌, length, take, drop, get_or, Option, Some, refl, sym, ap, subst, arith}
+use Rattle.std.proofs.Common.{◌≡◌, ◌∙◌, ℕ, zero, suc, ◌+◌, ◌-◌, ◌<◌, ◌≤◌, max, List, [], ◌∷◌, length, get_or, Some, sym, subst, arith}
 use Rattle.std.specs.Prelude.{All}
-use Rattle.std.specs.List.{slice_get, AllZip}
+use Rattle.std.specs.List.{slice_get}
 use Rattle.std.proofs.lemmas.Option.{slice_get-get_or}
-use Rattle.pcap_io.specs.declared.capture.Packet.{Packet}
-use Rattle.pin_store.specs.Calls.{IsSeatAt, IsOutside, pin_of}
-use Rattle.filter_state.specs.Sound.{Each}
 use Rattle.run_report.specs.declared.outcomes.Outcome.{Outcome}
 use Rattle.lawful_runs.specs.declared.loaded.LoadedJob.{LoadedJob}
 use Rattle.lawful_runs.specs.Given.{IsLoaded}
 use Rattle.lawful_runs.specs.OfLogs.Logs.{ArePointsTo}
-use Rattle.round_terms.specs.Files.{files_of, commands_in_all}
 use Rattle.worker_rounds.specs.declared.worker.Worker.{Worker}
 use Rattle.job_rounds.specs.OfRoundState.Rounds.{StoreName}
 use Rattle.job_rounds.specs.OfOneRound.Rounds.{IsRoundWithRoom}

@@ -1,7 +1,6 @@
 -- The events of a round are no more than its commands.
-use Rattle.std.proofs.Common.{◌≡◌, ◌∙◌, ℕ, zero, suc, ◌+◌, ◌<◌, ◌≤◌, Bool, true, false, List, [], ◌∷◌, ◌++◌, length, length-append, Some, refl, sym, ap, arith}
-use Rattle.std.specs.Prelude.{◌||◌, sum_by, if◌then◌else◌}
-use Rattle.std.specs.List.{slice_get}
+use Rattle.std.proofs.Common.{◌≡◌, ◌∙◌, ℕ, suc, ◌+◌, ◌≤◌, Bool, true, false, List, [], ◌∷◌, length, length-append, ap, arith}
+use Rattle.std.specs.Prelude.{◌||◌, if◌then◌else◌}
 use Rattle.std.proofs.lemmas.List.Sums.{sum_by-cons}
 use Rattle.filter_state.specs.declared.edit.Edit.{Edit}
 use Rattle.filter_state.specs.States.{no_state}
@@ -9,7 +8,7 @@ use Rattle.filter_state.specs.Journals.{state_from}
 use Rattle.batch_run.specs.Commands.{Command, commands_of}
 use Rattle.run_report.specs.declared.events.Event.{Event}
 use Rattle.run_report.specs.Counts.{is_accepted, accepted_count}
-use Rattle.lawful_runs.specs.Events.{GoesOn, IsThrough, AreInOrder, events_of}
+use Rattle.lawful_runs.specs.Events.{GoesOn, IsThrough, events_of}
 use Rattle.lawful_runs.proofs.Results.{results_counted}
 use Rattle.round_terms.specs.Files.{RoundFile, given_of, batches_of, commands_in_all}
 use Rattle.round_terms.proofs.Counting.{given_at, sum_most, each_counted}

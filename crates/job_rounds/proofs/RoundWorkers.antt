@@ -1,20 +1,26 @@
 -- The workers behind a round.
-use Rattle.std.proofs.Common.{◌≡◌, ◌∙◌, ℕ, zero, suc, ◌+◌, ◌*◌, ◌-◌, ◌<◌, ◌≤◌, ◌^◌, ◌⊎◌, inl, inr, List, [], ◌∷◌, ◌++◌, length, map, Option, Some, refl, sym, ap, subst, arith}
-use Rattle.std.specs.List.{slice_get}
-use mathlib.Core.List.{IsPrefix}
+use Rattle.std.proofs.Common.{◌≡◌, ◌∙◌, ℕ, zero, suc, ◌+◌, ◌<◌, ◌≤◌, ◌⊎◌, inl, inr, List, [], ◌∷◌, ◌++◌, length, Some, refl, sym, ap, subst, arith}
+use Rattle.walk_ends.specs.declared.limits.TheConstants.{PACKETS_MAX}
+use Rattle.walk_rules.specs.declared.limits.TheConstants.{VISITS_MAX}
+use Rattle.std.specs.List.{slice_get, flat_map}
+use Rattle.std.proofs.lemmas.List.{length-append}
 use Rattle.tc_base.specs.declared.hook.Hook.{Hook}
 use Rattle.pcap_io.specs.declared.capture.Packet.{Packet}
-use Rattle.pin_store.specs.Calls.{IsSeatAt, IsOutside, pin_of}
 use Rattle.filter_state.specs.declared.edit.Edit.{Edit}
+use Rattle.filter_state.specs.Sound.{Each}
+use Rattle.step_counts.specs.Claims.{HasEachBelow}
+use Rattle.walk_logs.specs.Rows.{numbers_of}
 use Rattle.run_report.specs.declared.outcomes.Outcome.{Outcome}
 use Rattle.lawful_runs.specs.Given.{Arrival}
-use Rattle.lawful_runs.specs.OfLogs.Logs.{LogRow, AreRows, IsRowAt, ArePointsTo, IsPlacedAt}
+use Rattle.lawful_runs.specs.OfLogs.Logs.{LogRow, AreRows, ArePointsTo}
 use Rattle.worker_walk.specs.Walked.{journal_of}
 use Rattle.worker_rounds.specs.declared.worker.Worker.{Worker}
-use Rattle.worker_rounds.specs.Worked.{arrivals_of, IsWorked}
+use Rattle.worker_rounds.specs.Worked.{arrivals_of}
 use Rattle.job_rounds.specs.OfRoundState.Rounds.{StoreName}
 use Rattle.job_rounds.specs.OfOneRound.Ends.{IsWorkedAt, HaveWalked}
 use Rattle.job_rounds.proofs.OfOneRound.Zips.{there_within}
+use Rattle.job_rounds.proofs.OfOneRound.Visits.{AreBy, points_in, counted_up, few_visits, both_visits, told_visits}
+use Rattle.job_rounds.specs.Visited.{visits_by}
 use Rattle.job_rounds.specs.Taught.{AreTaught}
 use Rattle.job_rounds.specs.SoFar.{IsBetween}
 use Rattle.job_rounds.proofs.Ready.{Was, was_at, more_points, within_by}
@@ -62,7 +68,33 @@ module _ (store : StoreName) (left : ℕ) (earlier : List Outcome) (workers : Li
     (between : (at : ℕ) (worker : Worker) → slice_get workers at ≡ Some worker → IsBetween store left earlier at worker)
     (edits : ℕ) (taught : List Worker) (are : AreTaught store edits workers taught)
     (hook : Hook) (packets : List Packet) (journal : List Edit) (last : List Worker) (outcomes : List Outcome)
-    (walked : HaveWalked store hook packets journal taught last outcomes) (rest : ℕ) (parts : left ≡ length packets + rest) where
+    (walked : HaveWalked store hook packets journal taught last outcomes) (rest : ℕ) (parts : left ≡ length packets + rest)
+    (of_run : length earlier + length outcomes ≤ PACKETS_MAX) (brief : Each (λ (outcome : Outcome). length outcome.points ≤ VISITS_MAX) (earlier ++ outcomes)) where
+  -- the rows of each log are its worker's
+  are_by : AreBy 1 walked.logs
+  are_by index rows log at it is =
+      let within = within_by walked.logs index rows log in
+      let many = walked.many_logs in
+      let own = walked.each index (omega (arith, within, many)) in
+      let same : own.rows ≡ rows = (let both = sym own.log ∙ log in cc both) in
+      let row = own.worked.are_rows at it (subst (λ (rs : List LogRow). slice_get rs at ≡ Some it) (sym same) is) in
+      let was = was_at store left earlier workers between edits taught are index own.worker own.was_there in
+      let number : own.worker.number ≡ index + 1 = was.is.number ∙ was.there.number in
+      let by = row.by in
+      omega (arith, by, number)
+
+  -- a reader's count goes on by the points of the worker's outcomes
+  visits_now : (at : ℕ) (own : IsWorkedAt store hook packets journal taught last walked.logs at) → Was store left earlier workers between edits taught are at own.worker → own.now.reader.visits ≡ visits_by (at + 1) (earlier ++ outcomes)
+  visits_now at own was =
+      let told = told_visits walked.logs outcomes (subst (λ (n : ℕ). HasEachBelow n (flat_map numbers_of walked.logs)) (sym walked.many) walked.each_once) walked.placed at own.rows are_by own.log in
+      let both = both_visits (at + 1) earlier outcomes in
+      let most = few_visits (at + 1) VISITS_MAX (earlier ++ outcomes) brief in
+      let long = length-append earlier outcomes in
+      let before : own.worker.reader.visits ≡ visits_by (at + 1) earlier = was.is.visits ∙ was.there.visited in
+      let fits : own.worker.reader.visits + points_in own.rows ≤ 18446744073709551615 = omega (arith, told, both, most, long, before, of_run) in
+      let counted = own.worked.counted ∙ counted_up own.worker.reader.visits own.rows fits in
+      omega (arith, counted, told, both, before)
+
   -- an outcome of the round by a worker is that of one of its rows
   seen_here : (at : ℕ) (now : Worker) → IsWorkedAt store hook packets journal taught last walked.logs at → (place : ℕ) (outcome : Outcome) → slice_get outcomes place ≡ Some outcome → outcome.worker ≡ now.number → now.number ≡ at + 1
       → (most : ℕ) → ((row : ℕ) (it : LogRow) (rows : List LogRow) → slice_get walked.logs at ≡ Some rows → slice_get rows row ≡ Some it → ArePointsTo most it.outcome.points) → ArePointsTo most outcome.points
@@ -100,6 +132,7 @@ module _ (store : StoreName) (left : ℕ) (earlier : List Outcome) (workers : Li
         outside = own.outside;
         few = omega (arith, rows, count, walks, pin, few, parts);
         seen = λ place outcome there by. seen at own was number place outcome by (among earlier outcomes place outcome there);
+        visited = visits_now at own was;
       })
     where
       seen : (at : ℕ) (own : IsWorkedAt store hook packets journal taught last walked.logs at) → Was store left earlier workers between edits taught are at own.worker → own.now.number ≡ at + 1 → (place : ℕ) (outcome : Outcome) → outcome.worker ≡ own.now.number

@@ -1,9 +1,7 @@
 -- A whole job: where it begins, and what it comes to.
-use Rattle.batch_run.specs.declared.limit.TheConstants.{COMMANDS_MAX}
-use Rattle.std.proofs.Common.{◌≡◌, ◌∙◌, ℕ, zero, suc, ◌+◌, ◌*◌, ◌<◌, ◌≤◌, ◌^◌, List, [], ◌∷◌, ◌++◌, length, map, take, drop, get_or, Option, Some, None, refl, sym, ap, subst, arith, append-nil, Vec, Global}
+use Rattle.std.proofs.Common.{◌≡◌, ◌∙◌, ℕ, zero, suc, ◌+◌, ◌≤◌, List, [], ◌∷◌, ◌++◌, length, map, take, drop, Option, Some, None, refl, sym, ap, subst, arith, append-nil, Vec, Global}
 use Rattle.std.specs.Prelude.{All, option_map}
 use Rattle.std.specs.List.{slice_get}
-use Rattle.std.proofs.lemmas.Option.{slice_get-get_or}
 use Rattle.std.proofs.lemmas.List.{take_all}
 use Rattle.tc_base.specs.declared.ear.EventName.{EventName}
 use Rattle.pcap_io.specs.declared.capture.Capture.{Capture}
@@ -15,12 +13,14 @@ use Rattle.filter_state.specs.States.{no_state}
 use Rattle.walk_steps.specs.Told.{IsShortRun}
 use Rattle.run_report.specs.declared.outcomes.Outcome.{Outcome}
 use Rattle.hook_reader.specs.Seats.{HookSeat}
+use Rattle.shared_hook.specs.Views.{IsUnused}
+use Rattle.walk_rules.specs.declared.limits.TheConstants.{VISITS_MAX}
 use Rattle.walk_ends.specs.declared.counts.Count.{Count}
 use Rattle.batch_run.specs.declared.made_action.MadeAction.{MadeAction}
 use Rattle.run_report.specs.declared.counters.CounterLine.{CounterLine}
 use Rattle.run_report.specs.declared.rounds.RoundRecord.{RoundRecord}
 use Rattle.lawful_runs.specs.declared.loaded.LoadedJob.{LoadedJob}
-use Rattle.lawful_runs.specs.Given.{GivenRound, IsLoaded, given_rounds, rounds_from, capture_count, command_count, packet_count}
+use Rattle.lawful_runs.specs.Given.{IsLoaded, given_rounds, rounds_from, capture_count, command_count, packet_count}
 use Rattle.lawful_runs.specs.Lawful.{AreRounds, counter_of, executed_in, outcomes_in, made_by, counters_of}
 use Rattle.round_terms.specs.Hearing.{ear_of}
 use Rattle.worker_rounds.specs.declared.worker.Worker.{Worker}
@@ -31,8 +31,9 @@ use Rattle.job_rounds.specs.declared.course.Course.{Course}
 use Rattle.job_rounds.specs.Hooks.{AreWorkersOf}
 use Rattle.job_rounds.specs.SoFar.{IsSoFar, IsBetween, all_made}
 use Rattle.job_rounds.specs.Left.{packets_left}
+use Rattle.job_rounds.specs.Visited.{visits_by, HaveVisited}
 use Rattle.job_rounds.specs.Names.{names_in}
-use Rattle.job_rounds.specs.Counted.{AreCounted, AreOfRun, line_of, lines_of}
+use Rattle.job_rounds.specs.Counted.{AreCounted, lines_of}
 
 -- ---- the end
 many_given : (rounds : List Round) (files : List (List ℕ)) (captures : List Capture) → length (rounds_from rounds files captures) ≡ length rounds
@@ -51,17 +52,28 @@ lines_are counts executed are (action ∷ made) =
 pub counters_are : (edits : List Edit) (rounds : List RoundRecord) (made : List MadeAction) (counts : List Count) → made ≡ made_by no_state edits → AreCounted (outcomes_in rounds) counts → lines_of counts made ≡ counters_of edits rounds
 counters_are edits rounds made counts is are = lines_are counts (executed_in (outcomes_in rounds)) are made ∙ ap (map (counter_of (executed_in (outcomes_in rounds)))) is
 
+-- ---- the readers' visits
+mapped_back : (workers : List Worker) (at : ℕ) (reader : HookSeat) → slice_get (map (λ (worker : Worker). worker.reader) workers) at ≡ Some reader → (worker : Worker) × (slice_get workers at ≡ Some worker) × (worker.reader ≡ reader)
+mapped_back [] at reader is = absurd (cc is)
+mapped_back (worker ∷ workers) zero reader is = (worker, refl, (let same : worker.reader ≡ reader = cc is in same))
+mapped_back (worker ∷ workers) (suc at) reader is = mapped_back workers at reader is
+
+pub have_visited : (rounds : List RoundRecord) (workers : List Worker) → ((at : ℕ) (worker : Worker) → slice_get workers at ≡ Some worker → worker.reader.visits ≡ visits_by (at + 1) (outcomes_in rounds)) → HaveVisited rounds (map (λ (worker : Worker). worker.reader) workers)
+have_visited rounds workers each at reader is =
+    let own = mapped_back workers at reader is in
+    subst (λ (r : HookSeat). r.visits ≡ visits_by (at + 1) (outcomes_in rounds)) own.2 (each at own.0 own.1)
+
 -- ---- the beginning
 none_more : (heard : Option (List EventName)) → heard ≡ option_map (λ (names : List EventName). names ++ []) heard
 none_more None = refl
 none_more (Some names) = ap (λ (xs : List EventName). Some xs) (sym (append-nil names))
 
 module _ {E : Type 0} (name : E → ℕ) (heard : E → Option (List EventName)) (spare : E → ℕ) (store : StoreName) (loaded : LoadedJob) (is : IsLoaded loaded) (readers : List HookSeat)
-    (new : All (λ (r : HookSeat). IsNewAt store.table store.shape r.place) readers) (course : Course E) where
+    (new : All (λ (r : HookSeat). IsNewAt store.table store.shape r.place) readers) (unused : All IsUnused readers) (course : Course E) where
   new_between : (workers : List Worker) → AreWorkersOf readers workers → (at : ℕ) (worker : Worker) → slice_get workers at ≡ Some worker → IsBetween store (packets_left loaded 0) [] at worker
   new_between workers are at worker there =
       let own = are.each at worker there in
-      let seat = at_all at worker.reader own.1 in
+      let seat = at_all (λ (r : HookSeat). IsNewAt store.table store.shape r.place) new at worker.reader own.1 in
       let few = is.packets in
       let pin = seat.pin in
       let left : packets_left loaded 0 ≡ packet_count loaded.captures = refl in
@@ -71,14 +83,15 @@ module _ {E : Type 0} (name : E → ℕ) (heard : E → Option (List EventName))
         outside = (let even : pin_of worker.reader.place ≡ 0 = pin in omega (arith, even));
         few = omega (arith, few, pin, left);
         seen = λ place outcome none. absurd (cc none);
+        visited = (at_all IsUnused unused at worker.reader own.1).0;
       }
     where
-      at_all : (place : ℕ) (reader : HookSeat) → slice_get readers place ≡ Some reader → IsNewAt store.table store.shape reader.place
-      at_all place reader found = from readers place new found
+      at_all : (P : HookSeat → Type 0) → All P readers → (place : ℕ) (reader : HookSeat) → slice_get readers place ≡ Some reader → P reader
+      at_all P all place reader found = from readers place all found
         where
-          from : (rs : List HookSeat) (k : ℕ) → All (λ (r : HookSeat). IsNewAt store.table store.shape r.place) rs → slice_get rs k ≡ Some reader → IsNewAt store.table store.shape reader.place
+          from : (rs : List HookSeat) (k : ℕ) → All P rs → slice_get rs k ≡ Some reader → P reader
           from [] k all here = absurd (cc here)
-          from (r ∷ rs) zero all here = (let same : r ≡ reader = cc here in subst (λ (x : HookSeat). IsNewAt store.table store.shape x.place) same (all 0 r (omega arith)))
+          from (r ∷ rs) zero all here = (let same : r ≡ reader = cc here in subst P same (all 0 r (omega arith)))
           from (r ∷ rs) (suc k) all here = from rs k (λ i d less. all (suc i) d (omega (arith, less))) here
 
   pub begins : IsDeskOf store course.desk → journal course.desk ≡ [] → AreWorkersOf readers course.workers.items → length readers ≡ loaded.job.workers → course.past.rounds.items ≡ [] → course.past.made.items ≡ [] → course.captures ≡ 0
@@ -97,6 +110,7 @@ module _ {E : Type 0} (name : E → ℕ) (heard : E → Option (List EventName))
         captures = captures;
         of_run = omega (arith, packets, walked);
         short = subst (λ (rs : List RoundRecord). Each (λ (outcome : Outcome). IsShortRun outcome.executed) (outcomes_in rs)) (sym rounds) tt;
+        brief = subst (λ (rs : List RoundRecord). Each (λ (outcome : Outcome). length outcome.points ≤ VISITS_MAX) (outcomes_in rs)) (sym rounds) tt;
         few = omega (arith, commands, none);
         room = room;
         name_is = refl;

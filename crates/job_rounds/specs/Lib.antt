@@ -2,6 +2,7 @@ pub mod OfRoundState
 pub mod Hooks
 pub mod Names
 pub mod Left
+pub mod Visited
 pub mod SoFar
 pub mod Taught
 pub mod Counted

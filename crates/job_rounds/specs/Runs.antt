@@ -8,12 +8,15 @@ use Rattle.job_rounds.specs.OfRoundState.Views.{journal}
 use Rattle.job_rounds.specs.OfRoundState.Rounds.{StoreName, IsDeskOf}
 use Rattle.job_rounds.specs.declared.running.JobEnd.{JobEnd}
 use Rattle.job_rounds.specs.Names.{names_in}
+use Rattle.job_rounds.specs.Visited.{HaveVisited}
 
--- a lawful run whose journal is the desk's, and what the ear has heard of it
+-- a lawful run whose journal is the desk's, whose readers made the visits that it tells, and what the ear has
+-- heard of it
 pub record IsJobEnd {E : Type 0} (name : E → ℕ) (heard : E → Option (List EventName)) (store : StoreName)
     (job : LoadedJob) (first : EarView) (end : JobEnd E) : Type 0 where
   pub run : IsRunWith job end.run (journal end.desk)
   pub desk : IsDeskOf store end.desk
   pub many : length end.readers.items ≡ job.job.workers
+  pub visited : HaveVisited end.run.rounds end.readers.items
   pub name_is : name end.ear ≡ first.name
   pub heard_is : heard end.ear ≡ option_map (λ names. names ++ names_in end.run.rounds) first.heard

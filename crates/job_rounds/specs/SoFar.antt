@@ -1,6 +1,7 @@
 -- A run that has come so far (this project's own).
 use Rattle.batch_run.specs.declared.limit.TheConstants.{COMMANDS_MAX}
 use Rattle.walk_ends.specs.declared.limits.TheConstants.{PACKETS_MAX}
+use Rattle.walk_rules.specs.declared.limits.TheConstants.{VISITS_MAX}
 use Rattle.std.specs.Prelude.{◌≡◌, ℕ, ◌+◌, ◌*◌, ◌^◌, ◌<◌, ◌≤◌, List, [], ◌++◌, length, map, take, Option, Some, slice_get}
 use Rattle.std.specs.Prelude.{option_map}
 use Rattle.std.specs.List.{flat_map}
@@ -24,9 +25,10 @@ use Rattle.job_rounds.specs.declared.course.Course.{Course}
 use Rattle.job_rounds.specs.declared.course.Past.{Past}
 use Rattle.job_rounds.specs.Names.{names_in}
 use Rattle.job_rounds.specs.Left.{commands_left, packets_left}
+use Rattle.job_rounds.specs.Visited.{visits_by}
 
--- THE WORKER AT A PLACE between two rounds: outside, with room for as many walks as packets are left, and with
--- all points of its outcomes seen
+-- THE WORKER AT A PLACE between two rounds: outside, with room for as many walks as packets are left, with all
+-- points of its outcomes seen, and with a visit made for each
 pub record IsBetween (store : StoreName) (left : ℕ) (earlier : List Outcome) (at : ℕ) (worker : Worker)
     : Type 0 where
   pub number : worker.number ≡ at + 1
@@ -35,6 +37,7 @@ pub record IsBetween (store : StoreName) (left : ℕ) (earlier : List Outcome) (
   pub few : pin_of worker.reader.place + 2 * left < 2 ^ 63
   pub seen : (place : ℕ) (outcome : Outcome) → slice_get earlier place ≡ Some outcome
       → outcome.worker ≡ worker.number → ArePointsTo worker.reader.latest outcome.points
+  pub visited : worker.reader.visits ≡ visits_by (at + 1) earlier
 
 abbrev pub all_made : List (List MadeAction) → List MadeAction
 all_made made = flat_map (λ (actions : List MadeAction). actions) made
@@ -58,6 +61,7 @@ pub record IsSoFar {E : Type 0} (name : E → ℕ) (heard : E → Option (List E
   pub captures : course.captures ≡ captures_named (take rounds loaded.job.rounds)
   pub of_run : length (outcomes_in course.past.rounds.items) + packets_left loaded rounds ≤ PACKETS_MAX
   pub short : Each (λ (outcome : Outcome). IsShortRun outcome.executed) (outcomes_in course.past.rounds.items)
+  pub brief : Each (λ (outcome : Outcome). length outcome.points ≤ VISITS_MAX) (outcomes_in course.past.rounds.items)
   pub few : length (journal course.desk) + commands_left loaded rounds ≤ COMMANDS_MAX
   pub room : commands_left loaded rounds ≤ spare course.ear
   pub name_is : name course.ear ≡ first.name

@@ -1,5 +1,5 @@
 -- A worker that has learnt what the desk has seen (this project's own).
-use Rattle.std.specs.Prelude.{◌≡◌, ℕ, max, List, length}
+use Rattle.std.specs.Prelude.{◌≡◌, ℕ, max, List}
 use Rattle.std.specs.List.{AllZip}
 use Rattle.pin_store.specs.Calls.{IsSeatAt, IsOutside, pin_of}
 use Rattle.worker_rounds.specs.declared.worker.Worker.{Worker}
@@ -15,6 +15,7 @@ pub record IsTaught (store : StoreName) (edits : ℕ) (old new : Worker) : Type 
   pub number : new.number ≡ old.number
   pub away : IsAway store new
   pub pin : pin_of new.reader.place ≡ pin_of old.reader.place
+  pub visits : new.reader.visits ≡ old.reader.visits
   pub latest : new.reader.latest ≡ max old.reader.latest edits
 
 abbrev pub AreTaught : StoreName → ℕ → List Worker → List Worker → Type 0

@@ -11,6 +11,8 @@ ghost use Rattle.job_rounds.specs.Hooks.{AreNewHooks, AreHooksOf};
 ghost use Rattle.job_rounds.specs.Names.{names_in};
 ghost use Rattle.job_rounds.specs.SoFar.{IsSoFar};
 ghost use Rattle.job_rounds.specs.Runs.{IsJobEnd};
+ghost use Rattle.job_rounds.specs.Visited.{HaveVisited};
+ghost use Rattle.shared_hook.specs.Views.{IsUnused};
 
 use crate::counting::counters_of;
 use crate::course::{Course, nothing_past};
@@ -89,7 +91,8 @@ fn run_over<E: Ear, G: Gate, T: Tender, R: Threads + Wait + Sync>(
     requires shape { store.now.shape ≡ hook_shape }
     requires desk { IsSeatOf store.now desk.place × (journal desk ≡ []) }
     requires readers { (length readers.items ≡ job.now.job.workers)
-        × All (λ reader. IsNewReader store.now reader.place) readers.items }
+        × All (λ reader. IsNewReader store.now reader.place) readers.items
+        × All IsUnused readers.items }
     requires spare { command_count job.now.batches ≤ E.spare ear }
     ensures end { IfOk result (IsJobEnd E.name E.heard (store_name store.now) job.now
         (ear_of E.name E.heard E.spare ear)) }
@@ -113,7 +116,8 @@ fn run_over<E: Ear, G: Gate, T: Tender, R: Threads + Wait + Sync>(
 ///
 /// The run is a lawful one of the job, and the hook's journal is its own: each accepted edit once, in order.
 /// The ear has heard of just these edits, where it tells what it heard. The hook that comes back is of the
-/// same store, with as many readers.
+/// same store, with as many readers: that of each worker, at its place, has made exactly as many visits as the
+/// worker's outcomes have points.
 ///
 /// `NoMemory`: memory was refused, here or in a thread. Hook and ear are gone.
 pub fn run_job_heard<R: Threads + Wait + Sync, G: Gate, E: Ear, T: Tender>(
@@ -130,6 +134,7 @@ pub fn run_job_heard<R: Threads + Wait + Sync, G: Gate, E: Ear, T: Tender>(
     requires spare { command_count job.now.batches ≤ E.spare ear }
     ensures run { IfOk result (λ r. IsRunWith job.now r.0 (journal r.1.desk)) }
     ensures hooks { IfOk result (λ r. AreHooksOf hooks r.1) }
+    ensures visited { IfOk result (λ r. HaveVisited r.0.rounds r.1.readers.items) }
     ensures ear { IfOk result (λ r. (E.name r.2 ≡ E.name ear)
         × (E.heard r.2 ≡ option_map (λ names. names ++ names_in r.0.rounds) (E.heard ear))) }
     ensures tender { T.name tender.new ≡ T.name tender.old }
@@ -161,7 +166,8 @@ pub fn run_job_heard<R: Threads + Wait + Sync, G: Gate, E: Ear, T: Tender>(
     }
 }
 
-/// Runs a job over a new hook: the run is a lawful one of the job, and the hook's journal is its own.
+/// Runs a job over a new hook: the run is a lawful one of the job, the hook's journal is its own, and its
+/// readers have made the visits that the run tells.
 ///
 /// `NoMemory`: memory was refused, here or in a thread. The hook is gone.
 pub fn run_job<R: Threads + Wait + Sync, G: Gate>(
@@ -175,6 +181,7 @@ pub fn run_job<R: Threads + Wait + Sync, G: Gate>(
     requires hooks { AreNewHooks job.now.job.workers hooks }
     ensures run { IfOk result (λ r. IsRunWith job.now r.0 (journal r.1.desk)) }
     ensures hooks { IfOk result (λ r. AreHooksOf hooks r.1) }
+    ensures visited { IfOk result (λ r. HaveVisited r.0.rounds r.1.readers.items) }
 {
     let (run, hooks, _) = run_job_heard(rt, alloc, hooks, job, gates, NoEar, &mut NoTender)?;
     Ok((run, hooks))

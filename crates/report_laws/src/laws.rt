@@ -30,6 +30,11 @@ pub fn lines_of_reports()
     ensures { (run : RunRecord) → AreLines (report_lines run) }
 {}
 
+/// Each loaded job has a lawful run. So what is said of all lawful runs of a job is never said of none.
+pub fn each_job_has_a_run()
+    ensures { (loaded : LoadedJob) → IsLoaded loaded → (run : RunRecord) × IsLawfulRun loaded run }
+{}
+
 /// A lawful run of a loaded job has no more events than a job has commands at most, and no more outcomes than
 /// a job has packets at most. So whoever counts them never passes what a number of 32 bits holds.
 pub fn runs_are_short()

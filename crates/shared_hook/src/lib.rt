@@ -9,8 +9,9 @@
 //!
 //! `Desk::try_apply` applies an edit. The plain step decides whether it is accepted. Then all memory is taken
 //! and all that the edit needs of the pools is known, before the first commit is made: nothing can fail
-//! between two commits, so an edit stands whole or not at all. Beside it a desk tells its lists and its
-//! pools, gives out receipts, meets readers and tidies.
+//! between two commits, so an edit stands whole or not at all. The commits of an edit of filters are made
+//! by `desk_edits`, in the order that readers inside need. Beside it a desk tells its lists and its pools,
+//! gives out receipts, meets readers and tidies.
 //!
 //! # Why no reader waits
 //!

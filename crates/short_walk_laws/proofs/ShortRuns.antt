@@ -1,11 +1,10 @@
 -- What one walk runs is bounded: the rules of a walk allow so many visits, and frames of so many bytes.
-use Rattle.std.proofs.Common.{◌≡◌, ◌∙◌, ℕ, zero, suc, ◌+◌, ◌-◌, ◌<◌, ◌≤◌, ◌==◌, cond, Bool, true, false, List, [], ◌∷◌, ◌++◌, length, map, take, drop, Option, Some, None, refl, sym, ap, subst, arith}
+use Rattle.std.proofs.Common.{◌≡◌, ◌∙◌, ℕ, ◌+◌, ◌-◌, ◌≤◌, ◌==◌, cond, Bool, true, false, List, [], ◌∷◌, ◌++◌, length, map, take, drop, Some, None, refl, sym, ap, subst, arith}
 use Rattle.std.specs.Prelude.{◌&&◌, ◌||◌, nat_lt, nat_le, if◌then◌else◌}
 use Rattle.std.proofs.lemmas.Bool.Decides.{nat_tests}
 use Rattle.std.proofs.lemmas.List.{length-append, length-take, length-drop}
-use Rattle.tc_base.specs.declared.hook.Hook.{Hook}
-use Rattle.frame_edit.specs.EditedFrame.{EditedFrame, lacks_room, with_bytes, loaded_frame}
-use Rattle.frame_edit.specs.Tags.{has_ethernet, is_tagged, is_tag_type, two_at, control_of, control_with, tag_bytes, with_tag, without_tag, retagged, pushed, popped, modified}
+use Rattle.frame_edit.specs.EditedFrame.{EditedFrame, lacks_room, with_bytes}
+use Rattle.frame_edit.specs.Tags.{has_ethernet, is_tagged, is_tag_type, two_at, control_of, control_with, tag_bytes, with_tag, without_tag, retagged, pushed}
 use Rattle.filter_state.specs.Sound.{Each}
 use Rattle.filter_state.specs.declared.edit.Edit.{Edit}
 use Rattle.filter_state.specs.Journals.{state_at}
@@ -21,7 +20,7 @@ use Rattle.act_list.specs.declared.run.Ending.{Ending}
 use Rattle.act_list.specs.declared.run.Ending.TheVariants as endings
 use Rattle.act_list.specs.Run.{Stand, on, over, stand_after}
 use Rattle.walk_rules.specs.Questions.{Head, Question, Answer, told_heads, told_no_filter, told_actions, told_params}
-use Rattle.walk_rules.specs.Steps.{Execution, Place, at_head, at_mask, at_action, ended, Standing, begun, moved, restarted, after_list, after_action, ran, action_at, after_found, after_at, after}
+use Rattle.walk_rules.specs.Steps.{Execution, Place, at_head, at_mask, at_action, ended, Standing, begun, after_list, after_action, ran, action_at, after_found, after_at, after}
 use Rattle.walk_rules.specs.Walks.{Outcome as WalkOutcome, outcome_of, outcome_at, outcome_with, IsWalk}
 use Rattle.walk_rules.specs.declared.verdict.Verdict.TheVariants as verdicts
 use Rattle.walk_rules.proofs.Agreeing.{one_more, few_points}
@@ -203,6 +202,11 @@ each_paired (e ∷ executed) each = (each.0, each_paired executed each.1)
 long_paired : (executed : List Execution) → length (pairs_of executed) ≡ length executed
 long_paired [] = refl
 long_paired (e ∷ executed) = let rest = long_paired executed in omega (arith, rest)
+
+-- HOW OFTEN A RECORDED WALK VISITED: 65,536 times at most
+pub few_visited : (journal : List Edit) (floor ceiling : ℕ) (arrival : Arrival) (outcome : Outcome) → IsWalked journal floor ceiling arrival outcome → length outcome.points ≤ 65536
+few_visited journal floor ceiling arrival outcome walked =
+    few_points (IsVisited (λ point. state_at point journal)) arrival.hook arrival.packet.bytes outcome.points [] walked.visits walked.walk walked.walks
 
 -- WHAT A RECORDED WALK RAN: 65,536 actions at most, each on a frame of 262,144 bytes at most
 pub executed_short : (journal : List Edit) (floor ceiling : ℕ) (arrival : Arrival) (outcome : Outcome) → IsWalked journal floor ceiling arrival outcome → length arrival.packet.bytes ≤ 262144 → IsShortRun outcome.executed

@@ -1,5 +1,8 @@
-use Rattle.short_walk_laws.proofs.ShortRuns.{executed_short, frame_short}
+use Rattle.short_walk_laws.proofs.ShortRuns.{few_visited, executed_short, frame_short}
 use Rattle.short_walk_laws.proofs.walks_are_short.Goals as goal
+
+pub returns-clause-visits : goal.returns-clause-visits
+returns-clause-visits c = few_visited
 
 pub returns-clause-executed : goal.returns-clause-executed
 returns-clause-executed c = executed_short

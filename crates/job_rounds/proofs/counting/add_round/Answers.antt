@@ -1,4 +1,4 @@
-use Rattle.std.proofs.Common.{List, ◌++◌, ap, subst, arith}
+use Rattle.std.proofs.Common.{List, ◌++◌, subst, arith}
 use Rattle.std.proofs.lemmas.List.{take_all}
 use Rattle.run_report.specs.declared.outcomes.Outcome.{Outcome}
 use Rattle.run_report.specs.Kept.{outcome_seen}

@@ -1,10 +1,10 @@
-use Rattle.std.proofs.Common.{◌≡◌, ◌∙◌, ◌-◌, ◌+◌, ◌<◌, ℕ, List, length, Some, ap, sym, subst, arith, drop, take, get_or}
+use Rattle.std.proofs.Common.{◌≡◌, ◌∙◌, ◌-◌, ◌+◌, ℕ, List, length, ap, sym, subst, arith, drop, get_or}
 use Rattle.tc_base.specs.declared.hook.Hook.TheVariants as hooks
 use Rattle.pcap_io.specs.declared.capture.Capture.{Capture}
 use Rattle.pcap_io.specs.declared.capture.Packet.{Packet}
 use Rattle.pcap_io.specs.Captures.{AreShort}
 use Rattle.job_lines.specs.declared.job.Round.{Round}
-use Rattle.lawful_runs.specs.Given.{captures_named, given_arrivals}
+use Rattle.lawful_runs.specs.Given.{given_arrivals}
 use Rattle.worker_rounds.specs.Worked.{arrivals_of}
 use Rattle.job_rounds.specs.Left.{packets_left}
 use Rattle.job_rounds.proofs.RoundPackets.{arrivals_from, some_arrivals, no_arrivals, some_within, some_left, none_left}

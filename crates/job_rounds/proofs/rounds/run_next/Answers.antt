@@ -1,9 +1,8 @@
 use Rattle.block_codec.specs.declared.places.TheConstants.{ROOTS}
-use Rattle.std.proofs.Common.{◌≡◌, ◌∙◌, ℕ, ◌+◌, ◌-◌, ◌≤◌, List, length, map, take, drop, ◌++◌, Vec, Global, sym, ap, subst, arith}
+use Rattle.std.proofs.Common.{◌∙◌, ◌-◌, ◌≤◌, List, length, map, take, drop, ◌++◌, Vec, Global, sym, ap, subst, arith}
 use Rattle.std.proofs.lemmas.List.{length-take}
 use Rattle.std.specs.Prelude.{All}
 use Rattle.pin_store.specs.declared.shape.Shape.{Shape}
-use Rattle.block_chain.specs.Ways.{block_words}
 use Rattle.filter_state.specs.declared.edit.Edit.{Edit}
 use Rattle.batch_run.specs.declared.made_action.MadeAction.{MadeAction}
 use Rattle.lawful_runs.specs.Lawful.{outcomes_in}
@@ -25,7 +24,6 @@ use Rattle.job_rounds.proofs.Zipping.{written}
 use Rattle.job_rounds.proofs.RoundPackets.{left_most, few_captures}
 use Rattle.job_rounds.proofs.Ready.{all_away, with_room, are_ready}
 use Rattle.job_rounds.proofs.Further.{further, all_more}
-use Rattle.job_rounds.proofs.rounds.run_next.Given as given
 use Rattle.job_rounds.proofs.rounds.run_next.Goals as goal
 
 pub make_ready-requires-clause-away : goal.make_ready-requires-clause-away

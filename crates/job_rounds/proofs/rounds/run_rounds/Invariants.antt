@@ -1,4 +1,4 @@
-use Rattle.std.proofs.Common.{◌≡◌, ◌+◌, ◌-◌, ◌≤◌, length}
+use Rattle.std.proofs.Common.{◌≡◌, ◌-◌, length}
 use Rattle.round_terms.specs.Hearing.{EarView}
 use Rattle.job_rounds.specs.OfRoundState.Rounds.{store_name}
 use Rattle.job_rounds.specs.SoFar.{IsSoFar, HasRoom}

@@ -1,16 +1,18 @@
-use Rattle.std.proofs.Common.{◌≡◌, ◌∙◌, ◌++◌, List, [], length, take, map, Vec, Global, sym, ap, subst}
+use Rattle.std.proofs.Common.{◌∙◌, ◌++◌, List, [], length, map, Vec, Global, sym, ap, subst}
 use Rattle.std.specs.Prelude.{option_map}
 use Rattle.batch_run.specs.declared.made_action.MadeAction.{MadeAction}
 use Rattle.run_report.specs.declared.rounds.RoundRecord.{RoundRecord}
 use Rattle.lawful_runs.specs.Given.{GivenRound, given_rounds}
 use Rattle.lawful_runs.specs.Lawful.{AreRounds, outcomes_in, counters_of}
+use Rattle.hook_reader.specs.Seats.{HookSeat}
 use Rattle.worker_rounds.specs.declared.worker.Worker.{Worker}
 use Rattle.job_rounds.specs.OfRoundState.Views.{journal}
 use Rattle.job_rounds.specs.Names.{names_in}
 use Rattle.job_rounds.specs.SoFar.{all_made}
-use Rattle.job_rounds.specs.Counted.{AreCounted, lines_of}
+use Rattle.job_rounds.specs.Counted.{AreCounted}
 use Rattle.job_rounds.proofs.Beginning.{many_mapped}
-use Rattle.job_rounds.proofs.Whole.{all_rounds, counters_are}
+use Rattle.job_rounds.specs.Visited.{HaveVisited}
+use Rattle.job_rounds.proofs.Whole.{all_rounds, counters_are, have_visited}
 use Rattle.job_rounds.proofs.running.end_of.Goals as goal
 
 pub returns : goal.returns
@@ -31,6 +33,9 @@ returns g c = λ first far.
       };
       desk = far.desk;
       many = ap length c.in_ok-readers.ensures ∙ many_mapped (λ (worker : Worker). worker.reader) c.args.course.workers.items ∙ far.many;
+      visited = subst (λ (rs : List HookSeat). HaveVisited c.from_vec.result rs) (sym c.in_ok-readers.ensures)
+          (subst (λ (rs : List RoundRecord). HaveVisited rs (map (λ (worker : Worker). worker.reader) c.args.course.workers.items)) same
+          (have_visited rounds c.args.course.workers.items (λ at worker there. (far.workers at worker there).visited)));
       name_is = far.name_is;
       heard_is = far.heard_is ∙ ap (λ (rs : List RoundRecord). option_map (λ names. names ++ names_in rs) first.heard) same;
     }
