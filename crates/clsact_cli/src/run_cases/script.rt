@@ -1,8 +1,8 @@
 //! A round whose threads meet in a given order.
 
-use crate::jobs::{capture_to, no_files};
-use crate::order::{Order, Step, Turns};
-use crate::trouble::Trouble;
+use crate::run_cases::jobs::{capture_to, no_files};
+use crate::run_cases::order::{Order, Step, Turns};
+use crate::run_cases::trouble::Trouble;
 use job_files::load_job;
 use job_rounds::{make_hooks, run_job_heard};
 use run_report::report;

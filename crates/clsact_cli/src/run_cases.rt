@@ -13,25 +13,15 @@
 //! All files of a job are held in memory (`jobs`), so a test runs as the program does: from a job's text to
 //! the text of its report. What a test finds is the same whatever the schedule.
 //!
-//! The crate stands apart from those that it tests, as a test beside their proofs would have them proved
-//! twice. There is nothing to call.
+//! These tests stand in the program's crate, at the top, where no other crate's proof waits for theirs. There
+//! is nothing to call.
 //!
 //! Not promised: anything of time.
-#![tactic(auto)]
-
-#[cfg(test)]
 mod dice;
-#[cfg(test)]
 mod jobs;
-#[cfg(test)]
 mod order;
-#[cfg(test)]
 mod random;
-#[cfg(test)]
 mod random_jobs;
-#[cfg(test)]
 mod script;
-#[cfg(test)]
 mod scripts;
-#[cfg(test)]
 mod trouble;

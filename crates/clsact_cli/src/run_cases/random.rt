@@ -1,8 +1,8 @@
 //! Jobs at random, each judged by its report.
 
-use crate::dice::Dice;
-use crate::random_jobs::random_job;
-use crate::trouble::Trouble;
+use crate::run_cases::dice::Dice;
+use crate::run_cases::random_jobs::random_job;
+use crate::run_cases::trouble::Trouble;
 use job_files::load_job;
 use job_rounds::{make_hooks, run_job};
 use report_check::{Check, recheck};
