@@ -20,8 +20,16 @@
 mod dice;
 mod jobs;
 mod order;
+mod placed;
+mod placements;
 mod random;
 mod random_jobs;
+mod random_placements;
+mod running;
+mod schedule;
 mod script;
 mod scripts;
 mod trouble;
+mod twin;
+mod twin_lines;
+mod twin_walk;
