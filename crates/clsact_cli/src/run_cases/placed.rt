@@ -162,8 +162,12 @@ impl Packet<'_> {
     }
 
     // A walk alone sees all lines that come before a visit, but for one that it holds and those behind that.
+    // Without lines it has the visits that have a turn.
     fn judge_sight(&self, placed: &Placed<'_>, outcome: &OutcomeView<'_>) -> Result<(), Trouble> {
         let track = self.schedule.track(1).ok_or(Trouble::OtherHolds)?;
+        if placed.lines.is_empty() && placed.turns.len() != outcome.points.len() {
+            return Err(Trouble::OtherWalk);
+        }
         let held = placed.held_line(self.past);
         let mut points = Vec::new(self.alloc);
         for place in 0..outcome.points.len() {
@@ -188,7 +192,9 @@ impl Packet<'_> {
             return Ok(());
         };
         for (place, point) in points.iter().enumerate() {
-            let (_, begun) = track.noted(place.saturating_add(1)).ok_or(Trouble::TooEarly)?;
+            let (_, begun) = track
+                .noted(place.saturating_add(1))
+                .ok_or(Trouble::TooEarly)?;
             if *point > self.past.point_behind(begun) {
                 return Err(Trouble::TooEarly);
             }

@@ -77,10 +77,7 @@ fn judge<R: Threads + Wait + Sync>(
     mut shelf: MemShelf,
 ) -> Result<(bool, usize), Trouble> {
     let ran = run_held(rt, alloc, &mut shelf, &Courtesy, &mut NoTender)?;
-    Ok((
-        ran.is_lawful && are_counted(&ran.run),
-        walked_in(&ran.run),
-    ))
+    Ok((ran.is_lawful && are_counted(&ran.run), walked_in(&ran.run)))
 }
 
 // Whether all of many jobs are run as they have to be, and how many packets they have.

@@ -2,7 +2,7 @@
 
 use crate::run_cases::dice::Dice;
 use crate::run_cases::placed::Placed;
-use crate::run_cases::placements::{CASES, Case};
+use crate::run_cases::placement_cases::{CASES, Case};
 use crate::run_cases::schedule::Turn;
 use crate::run_cases::trouble::Trouble;
 use std::alloc::{AllocError, Global};
@@ -10,8 +10,8 @@ use std::sync::Wait;
 use std::test::Fail;
 use std::thread::Threads;
 
-// How many jobs are run.
-const JOBS: u32 = 2_000;
+// How many jobs a test runs.
+const JOBS: u32 = 500;
 
 // How many turns there still are of the first walk, of the second one, and of the control.
 #[derive(Clone, Copy)]
@@ -24,7 +24,10 @@ struct Left {
 impl Left {
     // The next turn, each that is left with the same chance. Turns of a kind come in order.
     fn turn(&mut self, dice: &mut Dice, whole: Left) -> Option<Turn> {
-        let all = self.first.saturating_add(self.second).saturating_add(self.lines);
+        let all = self
+            .first
+            .saturating_add(self.second)
+            .saturating_add(self.lines);
         if all == 0 {
             return None;
         }
@@ -99,8 +102,9 @@ fn judge<R: Threads + Wait + Sync>(
 fn judge_many<R: Threads + Wait + Sync>(
     rt: &R,
     alloc: Global,
+    seed: u64,
 ) -> Result<Option<(u32, Trouble)>, Trouble> {
-    let mut dice = Dice { seed: 77 };
+    let mut dice = Dice { seed };
     for (job, case) in (0..JOBS).zip(CASES.iter().cycle()) {
         if let Err(trouble) = judge(rt, alloc, &mut dice, case) {
             return Ok(Some((job, trouble)));
@@ -110,7 +114,25 @@ fn judge_many<R: Threads + Wait + Sync>(
 }
 
 #[test]
-fn lines_around_two_walks(rt: HostRuntime) -> Result<(), Fail> {
-    assert_eq!(rt; judge_many(&rt, rt.alloc())?, None);
+fn lines_around_two_walks_first(rt: HostRuntime) -> Result<(), Fail> {
+    assert_eq!(rt; judge_many(&rt, rt.alloc(), 1)?, None);
+    Ok(())
+}
+
+#[test]
+fn lines_around_two_walks_second(rt: HostRuntime) -> Result<(), Fail> {
+    assert_eq!(rt; judge_many(&rt, rt.alloc(), 2)?, None);
+    Ok(())
+}
+
+#[test]
+fn lines_around_two_walks_third(rt: HostRuntime) -> Result<(), Fail> {
+    assert_eq!(rt; judge_many(&rt, rt.alloc(), 3)?, None);
+    Ok(())
+}
+
+#[test]
+fn lines_around_two_walks_fourth(rt: HostRuntime) -> Result<(), Fail> {
+    assert_eq!(rt; judge_many(&rt, rt.alloc(), 4)?, None);
     Ok(())
 }

@@ -1,7 +1,7 @@
 //! A gate at which the visits of walks and the lines of a control come one after the other.
 //!
-//! Each worker has one packet to walk, and then another one, whose walk it comes to once the first is over:
-//! that is how the gate knows. Walks are begun before the first line is.
+//! Each worker has one packet to walk, and then another one, to which it comes once the first walk is over: that
+//! is how the gate knows. There it waits for the other walks. The first line waits until all walks have begun.
 
 use crate::run_cases::trouble::Trouble;
 use std::alloc::Global;
@@ -16,8 +16,8 @@ pub(crate) enum Turn {
     Visit(usize, usize),
     /// Control 1 carries out a line.
     Line(usize),
-    /// All that the schedule has.
-    All,
+    /// All is over.
+    End,
 }
 
 /// How many visits of a walk are noted.
@@ -80,7 +80,7 @@ impl Track {
 
 /// A gate by which these turns come in order. Each begins when all before it are over: a visit with the next
 /// one or with the walk, and a line once it was met, or while it or one before it is held. The visits that have
-/// no turn come last.
+/// no turn come last, and then the walks of the second packets.
 #[derive(Drop)]
 pub(crate) struct Schedule<'a> {
     turns: &'a [Turn],
@@ -118,7 +118,7 @@ impl<'a> Schedule<'a> {
 
     /// Whether all turns are over, and nobody waited in vain.
     pub(crate) fn is_done(&self) -> bool {
-        self.has_come(Turn::All) && !self.is_late.load(Ordering::SeqCst)
+        self.has_come(Turn::End) && !self.is_late.load(Ordering::SeqCst)
     }
 
     /// The walk of a packet, from 1.
@@ -136,7 +136,7 @@ impl<'a> Schedule<'a> {
                 None => true,
             },
             Turn::Line(line) => self.is_passed(line),
-            Turn::All => true,
+            Turn::End => true,
         }
     }
 
@@ -147,12 +147,13 @@ impl<'a> Schedule<'a> {
         met >= line || (held > met && line >= held)
     }
 
-    // Whether all walks have begun, and all turns before this one are over.
+    // Whether all turns before this one are over, and all walks have begun, or at the end are over.
     fn has_come(&self, turn: Turn) -> bool {
-        let are_there = self
-            .tracks
-            .iter()
-            .all(|track| track.come.load(Ordering::SeqCst) > 0);
+        let is_behind = turn == Turn::End;
+        let are_there = self.tracks.iter().all(|track| {
+            track.come.load(Ordering::SeqCst) > 0
+                && (!is_behind || track.is_over.load(Ordering::SeqCst))
+        });
         are_there
             && self
                 .turns
@@ -183,7 +184,7 @@ impl<'a> Schedule<'a> {
                 track.is_over.store(true, Ordering::SeqCst);
             }
         }
-        self.wait_for(Turn::All);
+        self.wait_for(Turn::End);
     }
 }
 

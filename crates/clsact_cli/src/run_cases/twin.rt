@@ -5,8 +5,8 @@
 //! even how a line is read.
 
 use crate::run_cases::trouble::Trouble;
-use crate::run_cases::twin_lines::{Control, Fields, Seat};
-use crate::run_cases::twin_lines::{control_in, number_behind, seat_in, table_in};
+use crate::run_cases::twin_actions::Actions;
+use crate::run_cases::twin_lines::{Seat, number_behind, seat_in, table_in};
 use std::alloc::Global;
 
 /// A filter.
@@ -22,18 +22,6 @@ struct Filter {
     actions: Vec<u32>,
 }
 
-/// An action.
-#[derive(Clone, Copy)]
-struct Action {
-    serial: u32,
-    // 0 where no line names it.
-    index: u32,
-    control: Control,
-    binds: u32,
-    // Whether it was made by itself, and stays without a filter.
-    is_apart: bool,
-}
-
 /// A mask of a table, as a walk is told of it.
 #[derive(Clone, Copy)]
 pub(crate) struct Stop {
@@ -45,29 +33,21 @@ pub(crate) struct Stop {
 /// The device.
 #[derive(Drop)]
 pub(crate) struct Plain {
-    alloc: Global,
+    pub(crate) actions: Actions,
     filters: Vec<Filter>,
-    actions: Vec<Action>,
-    // How many masks came, how often one was laid, and how many actions were made.
+    // How many masks came, and how often one was laid.
     ages: u32,
     layings: u32,
-    serials: u32,
 }
 
 impl Plain {
     /// The device behind these lines, all of which it accepts.
-    pub(crate) fn behind(
-        alloc: Global,
-        base: &[&str],
-        lines: &[&str],
-    ) -> Result<Plain, Trouble> {
+    pub(crate) fn behind(alloc: Global, base: &[&str], lines: &[&str]) -> Result<Plain, Trouble> {
         let mut plain = Plain {
-            alloc,
+            actions: Actions::new(alloc),
             filters: Vec::new(alloc),
-            actions: Vec::new(alloc),
             ages: 0,
             layings: 0,
-            serials: 0,
         };
         for line in base.iter().chain(lines.iter()) {
             if !plain.accepts(line)? {
@@ -86,7 +66,7 @@ impl Plain {
         } else if line.starts_with("del ") {
             self.remove(line)
         } else if line.starts_with("actions ") {
-            self.give(line)
+            self.actions.give(line)
         } else {
             Ok(line.starts_with("qdisc add "))
         }
@@ -95,13 +75,14 @@ impl Plain {
     fn add(&mut self, line: &str) -> Result<bool, Trouble> {
         let seat = seat_in(line).ok_or(Trouble::NotRead)?;
         let is_taken = self.filters.iter().any(|own| {
-            is_beside(own, seat) && (own.seat.handle == seat.handle || own.seat.fields == seat.fields)
+            is_beside(own, seat)
+                && (own.seat.handle == seat.handle || own.seat.fields == seat.fields)
         });
         if is_taken {
             return Ok(false);
         }
         let (age, laid) = self.mask_for(seat);
-        let actions = self.bind(line)?;
+        let actions = self.actions.bind(line)?;
         self.put(Filter {
             seat,
             age,
@@ -139,8 +120,8 @@ impl Plain {
         let Some(old) = self.take(seat.chain, seat.pref, Some(seat.handle)) else {
             return self.add(line);
         };
-        let actions = self.bind(line)?;
-        self.unbind(&old.actions);
+        let actions = self.actions.bind(line)?;
+        self.actions.unbind(&old.actions);
         let (age, laid) = self.mask_after(&old, seat);
         self.put(Filter {
             seat,
@@ -193,79 +174,11 @@ impl Plain {
         let mut any = false;
         for _ in 0..self.filters.len() {
             if let Some(old) = self.take(chain, pref, handle) {
-                self.unbind(&old.actions);
+                self.actions.unbind(&old.actions);
                 any = true;
             }
         }
         Ok(any)
-    }
-
-    // Makes or changes an action that stands by itself.
-    fn give(&mut self, line: &str) -> Result<bool, Trouble> {
-        let (verb, rest) = line.split_once(" action ").ok_or(Trouble::NotRead)?;
-        let (control, _) = rest.split_once(" index ").ok_or(Trouble::NotRead)?;
-        let control = control_in(control).ok_or(Trouble::NotRead)?;
-        let index = number_behind(line, " index ").ok_or(Trouble::NotRead)?;
-        if verb == "actions add" {
-            self.make(control, index)?;
-            return Ok(true);
-        }
-        for own in self.actions.as_mut_slice() {
-            if own.index == index {
-                own.control = control;
-            }
-        }
-        Ok(true)
-    }
-
-    // Makes an action, and tells its serial.
-    fn make(&mut self, control: Control, index: u32) -> Result<u32, Trouble> {
-        self.serials = self.serials.saturating_add(1);
-        self.actions.push(Action {
-            serial: self.serials,
-            index,
-            control,
-            binds: 0,
-            is_apart: index > 0,
-        })?;
-        Ok(self.serials)
-    }
-
-    // Binds the actions of a filter's line, and makes those that are new.
-    fn bind(&mut self, line: &str) -> Result<Vec<u32>, Trouble> {
-        let mut serials = Vec::new(self.alloc);
-        for text in line.split(" action ").skip(1) {
-            let serial = match number_behind(text, "gact index ") {
-                Some(index) => self.serial_of(index).ok_or(Trouble::NotRead)?,
-                None => self.make(control_in(text).ok_or(Trouble::NotRead)?, 0)?,
-            };
-            self.count(serial, true);
-            serials.push(serial)?;
-        }
-        Ok(serials)
-    }
-
-    fn serial_of(&self, index: u32) -> Option<u32> {
-        let own = self.actions.iter().find(|own| own.index == index)?;
-        Some(own.serial)
-    }
-
-    fn count(&mut self, serial: u32, is_more: bool) {
-        for own in self.actions.as_mut_slice() {
-            if own.serial == serial && is_more {
-                own.binds = own.binds.saturating_add(1);
-            } else if own.serial == serial {
-                own.binds = own.binds.saturating_sub(1);
-            }
-        }
-    }
-
-    // An action that nothing holds any more is gone.
-    fn unbind(&mut self, serials: &[u32]) {
-        for serial in serials {
-            self.count(*serial, false);
-        }
-        self.actions.retain(|own| own.is_apart || own.binds > 0);
     }
 
     /// The next mask of a chain behind one of that pref and age.
@@ -300,12 +213,6 @@ impl Plain {
             .iter()
             .find(|own| own.laid == laid && own.seat.fields.take(host))?;
         Some(own.actions.as_slice())
-    }
-
-    /// The control of an action, if it is there.
-    pub(crate) fn control_of(&self, serial: u32) -> Option<Control> {
-        let own = self.actions.iter().find(|own| own.serial == serial)?;
-        Some(own.control)
     }
 
     /// Whether both tell a walk of the same masks.

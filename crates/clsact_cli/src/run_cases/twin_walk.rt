@@ -31,7 +31,8 @@ impl Past {
                 accepted.push(*line)?;
                 past.states.push(next)?;
             }
-            past.points.push(first.saturating_add(accepted.len() as Point))?;
+            past.points
+                .push(first.saturating_add(accepted.len() as Point))?;
         }
         Ok(past)
     }
@@ -206,7 +207,7 @@ impl<'a> Walker<'a> {
         self.met.executed.push(serial)?;
         for point in (least..=last).rev() {
             let state = self.past.at(point).ok_or(Trouble::NoWalk)?;
-            if let Some(control) = state.control_of(serial) {
+            if let Some(control) = state.actions.control_of(serial) {
                 return Ok(control);
             }
         }
