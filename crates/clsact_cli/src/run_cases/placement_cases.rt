@@ -7,7 +7,7 @@ use std::alloc::{AllocError, Global};
 #[derive(Clone, Copy)]
 pub(crate) struct Case<'a> {
     pub(crate) base: &'a [&'a str],
-    pub(crate) visits: usize,
+    pub(crate) visits: u32,
     pub(crate) lines: [&'a str; 8],
 }
 
@@ -167,7 +167,7 @@ pub(crate) const CASES: [Case; 6] = [
 impl Case<'_> {
     /// The place behind the walk.
     pub(crate) fn last_slot(&self) -> usize {
-        self.visits.saturating_add(1)
+        (self.visits as usize).saturating_add(1)
     }
 
     /// The turns in which each line comes before the visit of its place, or behind the walk.
@@ -179,7 +179,7 @@ impl Case<'_> {
                     turns.push(Turn::Line(place.saturating_add(1)))?;
                 }
             }
-            if visit <= self.visits {
+            if visit < self.last_slot() {
                 turns.push(Turn::Visit(1, visit))?;
             }
         }

@@ -67,28 +67,30 @@ fn random_turns(
     Ok(turns)
 }
 
-// One to three lines of a case, in a random order. One may be there twice.
+// So many lines of a case, in a random order. One may be there twice.
 fn random_lines<'a>(
     alloc: Global,
     dice: &mut Dice,
     case: &Case<'a>,
+    count: u32,
 ) -> Result<Vec<&'a str>, AllocError> {
     let mut lines = Vec::new(alloc);
-    for _ in 0..1 + dice.below(3) {
+    for _ in 0..count {
         lines.push(dice.one(&case.lines))?;
     }
     Ok(lines)
 }
 
-// Judges a job of a case. Of the packets one may go to a host that few filters take.
+// Judges a job of a case, with one to three lines. Of the packets one may go to a host that few filters take.
 fn judge<R: Threads + Wait + Sync>(
     rt: &R,
     alloc: Global,
     dice: &mut Dice,
     case: &Case<'_>,
 ) -> Result<(), Trouble> {
-    let lines = random_lines(alloc, dice, case)?;
-    let turns = random_turns(alloc, dice, case.visits as u32, lines.len() as u32)?;
+    let count = 1 + dice.below(3);
+    let lines = random_lines(alloc, dice, case, count)?;
+    let turns = random_turns(alloc, dice, case.visits, count)?;
     let placed = Placed {
         base: case.base,
         lines: &lines,

@@ -18,9 +18,12 @@ pub(crate) struct Past {
 impl Past {
     /// The devices behind a base, all of which is accepted, and behind lines that may be refused.
     pub(crate) fn new(alloc: Global, base: &[&str], lines: &[&str]) -> Result<Past, Trouble> {
-        let first = base.len() as Point;
+        let mut point: Point = 0;
+        for _ in base {
+            point = point.saturating_add(1);
+        }
         let mut past = Past {
-            first,
+            first: point,
             states: vec![in alloc; Plain::behind(alloc, base, &[])?]?,
             points: Vec::new(alloc),
         };
@@ -30,9 +33,9 @@ impl Past {
             if next.accepts(line)? {
                 accepted.push(*line)?;
                 past.states.push(next)?;
+                point = point.saturating_add(1);
             }
-            past.points
-                .push(first.saturating_add(accepted.len() as Point))?;
+            past.points.push(point)?;
         }
         Ok(past)
     }
