@@ -179,11 +179,11 @@ impl Packet<'_> {
             }
             points.push(self.past.point_behind(seen))?;
         }
-        let met = walk(self.alloc, self.past, Sight::UpTo(&points), self.host)?;
-        if !is_met(&met, outcome) {
-            return Err(Trouble::Stale);
+        match walk(self.alloc, self.past, Sight::UpTo(&points), self.host) {
+            Ok(met) if is_met(&met, outcome) => Ok(()),
+            Err(Trouble::NoMemory) => Err(Trouble::NoMemory),
+            _ => Err(Trouble::Stale),
         }
-        Ok(())
     }
 
     // No visit knows of a line that was begun behind it.
