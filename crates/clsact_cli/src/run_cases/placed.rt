@@ -161,16 +161,13 @@ impl Packet<'_> {
         Ok(())
     }
 
-    // A walk alone sees all lines that come before a visit, but for one that it holds and those behind that.
-    // Without lines it has the visits that have a turn.
-    fn judge_sight(&self, placed: &Placed<'_>, outcome: &OutcomeView<'_>) -> Result<(), Trouble> {
+    // The points behind the lines that come before each visit of a walk alone, but for a line that it holds and
+    // those behind that. The gate has to have met as many.
+    fn seen_points(&self, placed: &Placed<'_>, visits: usize) -> Result<Vec<Point>, Trouble> {
         let track = self.schedule.track(1).ok_or(Trouble::OtherHolds)?;
-        if placed.lines.is_empty() && placed.turns.len() != outcome.points.len() {
-            return Err(Trouble::OtherWalk);
-        }
         let held = placed.held_line(self.past);
         let mut points = Vec::new(self.alloc);
-        for place in 0..outcome.points.len() {
+        for place in 0..visits {
             let visit = place.saturating_add(1);
             let seen = placed.due_before(visit).min(held.saturating_sub(1));
             let (met, _) = track.noted(visit).ok_or(Trouble::OtherHolds)?;
@@ -179,6 +176,16 @@ impl Packet<'_> {
             }
             points.push(self.past.point_behind(seen))?;
         }
+        Ok(points)
+    }
+
+    // A walk alone sees all lines up to those points. Without lines it has the visits that have a turn.
+    fn judge_sight(&self, placed: &Placed<'_>, outcome: &OutcomeView<'_>) -> Result<(), Trouble> {
+        let visits = outcome.points.len();
+        if placed.lines.is_empty() && placed.turns.len() != visits {
+            return Err(Trouble::OtherWalk);
+        }
+        let points = self.seen_points(placed, visits)?;
         match walk(self.alloc, self.past, Sight::UpTo(&points), self.host) {
             Ok(met) if is_met(&met, outcome) => Ok(()),
             Err(Trouble::NoMemory) => Err(Trouble::NoMemory),
