@@ -1,5 +1,5 @@
-//! What needs a shelf and a sink of one's own: captures at each length, and calls outside that fail (`faults`).
-//! What the program does with files stands in the folder cases/.
+//! What needs a shelf and a sink of one's own: captures at each length, and calls outside that fail
+//! (`faults`). What the program does with files stands in the folder cases/.
 mod fault_table;
 mod faults;
 

@@ -14,9 +14,9 @@ use std::thread::Threads;
 use tc_base::{MemShelf, Point};
 use walk_rules::Verdict;
 
-/// A job of two rounds. In the first one a base is applied. In the second one control 1 applies lines, while as
-/// many workers as hosts walk a packet to each host, and then to each once more. The turns say in which order
-/// the lines and the first packets' visits come.
+/// A job of two rounds. In the first one a base is applied. In the second one control 1 applies lines,
+/// while as many workers as hosts walk a packet to each host, and then to each once more. The turns say in
+/// which order the lines and the first packets' visits come.
 #[derive(Clone, Copy)]
 pub(crate) struct Placed<'a> {
     pub(crate) base: &'a [&'a str],
@@ -161,8 +161,8 @@ impl Packet<'_> {
         Ok(())
     }
 
-    // The points behind the lines that come before each visit of a walk alone, but for a line that it holds and
-    // those behind that. The gate has to have met as many.
+    // The points behind the lines that come before each visit of a walk alone, but for a line that it holds
+    // and those behind that. The gate has to have met as many.
     fn seen_points(&self, placed: &Placed<'_>, visits: usize) -> Result<Vec<Point>, Trouble> {
         let track = self.schedule.track(1).ok_or(Trouble::OtherHolds)?;
         let held = placed.held_line(self.past);

@@ -53,8 +53,8 @@ pub(crate) const TWO_MASKS: Case = Case {
     ],
 };
 
-/// Five visits: the head, the mask of the first table, an action that goes on, the mask of the second, and its
-/// action.
+/// Five visits: the head, the mask of the first table, an action that goes on, the mask of the second, and
+/// its action.
 pub(crate) const TWO_TABLES: Case = Case {
     base: &[
         "qdisc add dev eth0 clsact",
@@ -97,8 +97,8 @@ pub(crate) const TWO_CHAINS: Case = Case {
     ],
 };
 
-/// Five visits, as of two tables. The first mask has twelve filters, which are three quarters of its 16 slots:
-/// with one more it gets 32, and with twelve again 16.
+/// Five visits, as of two tables. The first mask has twelve filters, which are three quarters of its 16
+/// slots: with one more it gets 32, and with twelve again 16.
 pub(crate) const FULL_MASK: Case = Case {
     base: &[
         "qdisc add dev eth0 clsact",

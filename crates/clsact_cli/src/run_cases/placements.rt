@@ -1,8 +1,8 @@
 //! Each placement of up to three lines before, between and behind the visits of one walk.
 //!
-//! Of a walk of v visits, a line has v + 1 places: before each visit, or behind the walk. So two lines in order
-//! have (v + 2 over 2) placements, and three have (v + 3 over 3). Of the eight lines of a case each is placed
-//! alone, each two are placed in order, which are 28, and eight times three of them.
+//! Of a walk of v visits, a line has v + 1 places: before each visit, or behind the walk. So two lines in
+//! order have (v + 2 over 2) placements, and three have (v + 3 over 3). Of the eight lines of a case each
+//! is placed alone, each two are placed in order, which are 28, and eight times three of them.
 
 use crate::run_cases::placed::Placed;
 use crate::run_cases::placement_cases::{

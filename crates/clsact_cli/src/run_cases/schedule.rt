@@ -1,7 +1,8 @@
 //! A gate at which the visits of walks and the lines of a control come one after the other.
 //!
-//! Each worker has one packet to walk, and then another one, to which it comes once the first walk is over: that
-//! is how the gate knows. There it waits for the other walks. The first line waits until all walks have begun.
+//! Each worker has one packet to walk, and then another one, to which it comes once the first walk is over:
+//! that is how the gate knows. There it waits for the other walks. The first line waits until all walks
+//! have begun.
 
 use crate::run_cases::trouble::Trouble;
 use std::alloc::Global;
@@ -26,8 +27,8 @@ pub(crate) const NOTED: usize = 128;
 // How often a thread looks whether its turn has come.
 const PATIENCE: u32 = 10_000_000;
 
-// A line that is held is tried again and again, and the tender has a turn each time. It has another one at the
-// beginning of a round, and two more may be left over from a line before: the fourth at one line tells.
+// A line that is held is tried again and again, and the tender has a turn each time. It has another one at
+// the beginning of a round, and two more may be left over from a line before: the fourth at one line tells.
 const HELD_TURNS: u32 = 4;
 
 /// A walk as the gate sees it.
@@ -78,9 +79,9 @@ impl Track {
     }
 }
 
-/// A gate by which these turns come in order. Each begins when all before it are over: a visit with the next
-/// one or with the walk, and a line once it was met, or while it or one before it is held. The visits that have
-/// no turn come last, and then the walks of the second packets.
+/// A gate by which these turns come in order. Each begins when all before it are over: a visit with the
+/// next one or with the walk, and a line once it was met, or while it or one before it is held. The visits
+/// that have no turn come last, and then the walks of the second packets.
 #[derive(Drop)]
 pub(crate) struct Schedule<'a> {
     turns: &'a [Turn],

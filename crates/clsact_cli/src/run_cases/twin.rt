@@ -1,8 +1,8 @@
 //! A plain device, kept apart from the program.
 //!
 //! It has one list of filters and one of actions, and does to them what a line says, by the rules of
-//! `docs/DEFINITIONS.md` and no faster than one filter after the other. It shares nothing with the program, not
-//! even how a line is read.
+//! `docs/DEFINITIONS.md` and no faster than one filter after the other. It shares nothing with the program,
+//! not even how a line is read.
 
 use crate::run_cases::trouble::Trouble;
 use crate::run_cases::twin_actions::Actions;

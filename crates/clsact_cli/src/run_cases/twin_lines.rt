@@ -1,7 +1,8 @@
 //! The short lines of placed edits, as text and as the twin reads them.
 //!
-//! `add pref 10 handle 1 flower dst_ip 10.0.0.1 action drop` stands for the line of a batch that adds this filter
-//! at the ingress, for IPv4 frames. A `replace` or `del` is shortened alike, and all other lines are whole.
+//! `add pref 10 handle 1 flower dst_ip 10.0.0.1 action drop` stands for the line of a batch that adds this
+//! filter at the ingress, for IPv4 frames. A `replace` or `del` is shortened alike, and all other lines are
+//! whole.
 
 use std::alloc::{AllocError, Global};
 

@@ -29,7 +29,8 @@ pub(crate) enum Written<'a> {
     AnyWhole,
 }
 
-/// A command with its files; and where no call outside fails, its calls of the shelf, its status and its text.
+/// A command with its files; and where no call outside fails, its calls of the shelf, its status and its
+/// text.
 #[derive(Clone, Copy)]
 pub(crate) struct Case<'a> {
     pub(crate) words: &'a [&'a str],
@@ -44,7 +45,8 @@ const AGAIN: &str = "qdisc add dev eth0 clsact\nqdisc add dev eth0 clsact\n";
 const SHOWN: &str = "qdisc add dev eth0 clsact
 actions add action gact drop index 1
 counts gact index 1 serial 1 references 1 binds 1
-filter add dev eth0 ingress protocol ip pref 10 chain 0 handle 0x1 flower dst_ip 10.0.0.1/32 action gact index 1
+filter add dev eth0 ingress protocol ip pref 10 chain 0 handle 0x1 flower dst_ip 10.0.0.1/32 \
+    action gact index 1
 end
 ";
 

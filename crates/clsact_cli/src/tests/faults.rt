@@ -1,7 +1,7 @@
 //! Each call outside that fails, in each command.
 //!
-//! The shelf fails at its first call, then at its second, and so on, up to the command that has no further call
-//! and succeeds; and so does the sink.
+//! The shelf fails at its first call, then at its second, and so on, up to the command that has no further
+//! call and succeeds; and so does the sink.
 
 use crate::tests::fault_table::{CASES, Call, Case, Held, Written};
 use crate::tests::{EMPTY, numbers, run, two_packets};
@@ -103,8 +103,8 @@ impl Case<'_> {
         })
     }
 
-    // What is wrong in what a command leaves, if anything, where that status is due, and the first calls of the
-    // shelf and of the sink, so many of them.
+    // What is wrong in what a command leaves, if anything, where that status is due, and the first calls of
+    // the shelf and of the sink, so many of them.
     fn wrong_in(
         &self,
         left: &Left,
