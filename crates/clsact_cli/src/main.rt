@@ -12,6 +12,8 @@
 //! Not promised: that memory suffices, that a run ends, and what a real file or terminal holds.
 #![tactic(auto)]
 
+#[cfg(test)]
+mod run_cases;
 mod run_job;
 #[cfg(test)]
 mod tests;

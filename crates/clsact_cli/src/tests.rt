@@ -1,5 +1,8 @@
-//! What needs a shelf and a sink of one's own: calls outside that fail, and captures at each length. What the
-//! program does with files stands in the folder cases/.
+//! What needs a shelf and a sink of one's own: captures at each length, and calls outside that fail
+//! (`faults`). What the program does with files stands in the folder cases/.
+mod fault_table;
+mod faults;
+
 use crate::tool::tool;
 use std::alloc::{AllocError, Global};
 use std::sync::Wait;
@@ -32,13 +35,6 @@ const FRAME: [u8; 60] = [
 const TWO: &str = "packet 1 drop length 60\npacket 2 pass length 60\n\
     counter serial 1 gact index 1 packets 1 bytes 60\n\
     summary edits 2 refused 0 packets 2 passed 1 dropped 1\nend\n";
-
-const JOB: &str = "clsact job 1\nworkers 1\ncontrols 1\nround\nbatch 1 batch\n\
-    capture ingress capture output\nend\n";
-
-// The report of its only run, where batch and capture are HOOK and EMPTY.
-const REPORT: &str = "clsact report 1\nround 1\nedit 1 control 1 line 1 hooked\nend round 1\n\
-    summary edits 1 refused 0 packets 0 passed 0 dropped 0\nend\n";
 
 const WALK: [&str; 5] = ["walk", "ingress", "batch", "capture", "output"];
 
@@ -165,104 +161,5 @@ fn many_packets_are_told(rt: HostRuntime) -> Result<(), Fail> {
     many.resize(24 + 16 * 1_048_577, 0)?;
     let told = "3 bad input capture at 0: TooManyPackets";
     assert_eq!(rt; walk(&rt, HOOK, &many)?.0.as_str(), told);
-    Ok(())
-}
-
-#[test]
-fn faults_outside_are_told(rt: HostRuntime) -> Result<(), Fail> {
-    let capture = two_packets(rt.alloc(), false)?;
-    for (call, status) in [
-        (1, "4 cannot read batch"),
-        (2, "4 cannot read capture"),
-        (3, "5 cannot write"),
-    ] {
-        let mut held = shelf(rt.alloc(), DROP, &capture, &[call])?;
-        let mut out = MemSink::new(rt.alloc(), numbers(rt.alloc(), &[])?);
-        assert_eq!(rt; run(&rt, &WALK, &mut held, &mut out)?.as_str(), status);
-        assert!(rt; out.bytes().is_empty());
-    }
-    // Where call k fails, the first k - 1 lines were written.
-    for (call, written) in [(1, 0), (2, 24), (3, 48), (4, 97), (5, 152)] {
-        let mut held = shelf(rt.alloc(), DROP, &capture, &[])?;
-        let mut out = MemSink::new(rt.alloc(), numbers(rt.alloc(), &[call])?);
-        assert_eq!(rt;
-            run(&rt, &WALK, &mut held, &mut out)?.as_str(),
-            "5 cannot write"
-        );
-        assert_eq!(rt; out.bytes(), &TWO.as_bytes()[..written]);
-    }
-    Ok(())
-}
-
-#[test]
-fn a_fault_at_a_show_is_told(rt: HostRuntime) -> Result<(), Fail> {
-    let mut held = shelf(rt.alloc(), HOOK, &[], &[])?;
-    let mut out = MemSink::new(rt.alloc(), numbers(rt.alloc(), &[1])?);
-    let status = run(&rt, &["show", "batch"], &mut held, &mut out)?;
-    assert_eq!(rt; status.as_str(), "5 cannot write");
-    assert!(rt; out.bytes().is_empty());
-    Ok(())
-}
-
-#[test]
-fn faults_at_a_gen_are_told(rt: HostRuntime) -> Result<(), Fail> {
-    let names = ["x.tc", "x.pcap", "x.job", "x.out.pcap"];
-    // Where call k fails, the k - 1 files before it stand.
-    for (call, made) in [(1, 0), (2, 1), (3, 2), (4, 3)] {
-        let mut held = MemShelf::new(rt.alloc(), numbers(rt.alloc(), &[call])?);
-        let mut out = MemSink::new(rt.alloc(), numbers(rt.alloc(), &[])?);
-        let status = run(&rt, &["gen", "1", "x"], &mut held, &mut out)?;
-        assert_eq!(rt; status.as_str(), "5 cannot write");
-        for (index, name) in names.iter().enumerate() {
-            assert_eq!(rt; held.get(name).is_some(), index < made);
-        }
-        assert!(rt; out.bytes().is_empty());
-    }
-    Ok(())
-}
-
-#[test]
-fn faults_at_a_recheck_are_told(rt: HostRuntime) -> Result<(), Fail> {
-    // The job is read, then its files, then the report, and then the answer is written by one call.
-    let rows: [(&[u32], &[u32], &str, &str); 6] = [
-        (&[1], &[], "4 cannot read job", ""),
-        (&[2], &[], "4 cannot read batch", ""),
-        (&[3], &[], "4 cannot read capture", ""),
-        (&[4], &[], "4 cannot read report", ""),
-        (&[], &[1], "5 cannot write", ""),
-        (&[5], &[2], "0 ", "lawful\n"),
-    ];
-    for (calls, writes, told, text) in rows {
-        let mut held = shelf(rt.alloc(), HOOK, &EMPTY, calls)?;
-        held.insert("job", JOB.as_bytes())?;
-        held.insert("report", REPORT.as_bytes())?;
-        let mut out = MemSink::new(rt.alloc(), numbers(rt.alloc(), writes)?);
-        let status = run(&rt, &["recheck", "job", "report"], &mut held, &mut out)?;
-        assert_eq!(rt; status.as_str(), told);
-        assert_eq!(rt; out.bytes(), text.as_bytes());
-    }
-    Ok(())
-}
-
-#[test]
-fn faults_at_a_run_are_told(rt: HostRuntime) -> Result<(), Fail> {
-    // The job is read, then its files. Then the capture is put, and the whole report written by one call.
-    let rows: [(&[u32], &[u32], &str, &str, bool); 6] = [
-        (&[1], &[], "4 cannot read job", "", false),
-        (&[2], &[], "4 cannot read batch", "", false),
-        (&[3], &[], "4 cannot read capture", "", false),
-        (&[4], &[], "5 cannot write", "", false),
-        (&[], &[1], "5 cannot write", "", true),
-        (&[5], &[2], "0 ", REPORT, true),
-    ];
-    for (calls, writes, told, text, put) in rows {
-        let mut held = shelf(rt.alloc(), HOOK, &EMPTY, calls)?;
-        held.insert("job", JOB.as_bytes())?;
-        let mut out = MemSink::new(rt.alloc(), numbers(rt.alloc(), writes)?);
-        let status = run(&rt, &["run", "job"], &mut held, &mut out)?;
-        assert_eq!(rt; status.as_str(), told);
-        assert_eq!(rt; out.bytes(), text.as_bytes());
-        assert_eq!(rt; held.get("output"), put.then_some(&EMPTY[..]));
-    }
     Ok(())
 }

@@ -1,8 +1,8 @@
 //! Jobs at random.
 
-use crate::dice::Dice;
-use crate::jobs::{capture_to, no_files};
-use crate::trouble::Trouble;
+use crate::run_cases::dice::Dice;
+use crate::run_cases::jobs::{capture_to, no_files};
+use crate::run_cases::trouble::Trouble;
 use std::alloc::{AllocError, Global};
 use tc_base::MemShelf;
 

@@ -8,30 +8,36 @@
 //! by itself after a while, and the test fails. And there are jobs at random, with as many threads as a job
 //! can have (`random`): each report is judged as one of a lawful run, and each counter is counted again.
 //!
+//! A lawful run may be a stale one: nothing is promised of when a walk sees an edit. So lines are also
+//! placed before and behind each visit of a walk, in all ways (`placements`), and at random between the
+//! visits of two walks (`random_placements`). Another gate (`Schedule`) has walks and lines take turns.
+//! What they lead to is worked out by a plain twin: `twin` has the device, and `twin_walk` a packet's walk
+//! while it changes.
+//!
 //! # How it is tried
 //!
 //! All files of a job are held in memory (`jobs`), so a test runs as the program does: from a job's text to
 //! the text of its report. What a test finds is the same whatever the schedule.
 //!
-//! The crate stands apart from those that it tests, as a test beside their proofs would have them proved
-//! twice. There is nothing to call.
+//! These tests stand in the program's crate, at the top, where no other crate's proof waits for theirs. There
+//! is nothing to call.
 //!
 //! Not promised: anything of time.
-#![tactic(auto)]
-
-#[cfg(test)]
 mod dice;
-#[cfg(test)]
 mod jobs;
-#[cfg(test)]
 mod order;
-#[cfg(test)]
+mod placed;
+mod placement_cases;
+mod placements;
 mod random;
-#[cfg(test)]
 mod random_jobs;
-#[cfg(test)]
+mod random_placements;
+mod running;
+mod schedule;
 mod script;
-#[cfg(test)]
 mod scripts;
-#[cfg(test)]
 mod trouble;
+mod twin;
+mod twin_actions;
+mod twin_lines;
+mod twin_walk;

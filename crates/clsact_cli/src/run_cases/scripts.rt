@@ -4,8 +4,8 @@
 //! the last edit before the round. A look-up's and an action's are that of the last edit of what they visit,
 //! but not before the head's; and a look-up's isn't before that of the walk's last look-up in the same mask.
 
-use crate::order::Step;
-use crate::script::Script;
+use crate::run_cases::order::Step;
+use crate::run_cases::script::Script;
 use std::test::Fail;
 
 // Two edits: at point 2 a filter drops frames to 10.0.0.1, by the action of serial 1.

@@ -11,6 +11,22 @@ pub(crate) enum Trouble {
     NotLoaded,
     /// Threads didn't come to a step of the order before all others stood still.
     Late,
+    /// The twin can't read a line, or refuses one of the base.
+    NotRead,
+    /// The twin has no walk with these points.
+    NoWalk,
+    /// The report isn't that of a lawful run, or a counter isn't what the walks come to.
+    Unlawful,
+    /// A line wasn't met once, as the twin meets it.
+    OtherLines,
+    /// A line was held where nothing held it, or wasn't held.
+    OtherHolds,
+    /// A visit has a point of a line that was not begun before it was over.
+    TooEarly,
+    /// The twin's walk at the points that are told is another one.
+    OtherWalk,
+    /// The walk isn't that of all lines that were met before each visit.
+    Stale,
 }
 
 impl From<NoMemory> for Trouble {

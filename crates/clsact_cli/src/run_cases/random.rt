@@ -1,18 +1,16 @@
 //! Jobs at random, each judged by its report.
 
-use crate::dice::Dice;
-use crate::random_jobs::random_job;
-use crate::trouble::Trouble;
-use job_files::load_job;
-use job_rounds::{make_hooks, run_job};
-use report_check::{Check, recheck};
-use run_report::{CounterLine, RoundRecord, RunRecord, report};
+use crate::run_cases::dice::Dice;
+use crate::run_cases::random_jobs::random_job;
+use crate::run_cases::running::run_held;
+use crate::run_cases::trouble::Trouble;
+use run_report::{CounterLine, RoundRecord, RunRecord};
 use std::alloc::Global;
 use std::sync::Wait;
 use std::test::Fail;
 use std::thread;
 use std::thread::Threads;
-use tc_base::{Gate, MemShelf};
+use tc_base::{Gate, MemShelf, NoTender};
 
 // The gate at which everybody lets others go first, so that few steps come in the order of one thread.
 struct Courtesy;
@@ -54,7 +52,8 @@ fn is_counted(counter: &CounterLine, rounds: &[RoundRecord]) -> bool {
     counter.packets == packets && counter.bytes == bytes
 }
 
-fn are_counted(run: &RunRecord) -> bool {
+/// Whether each counter of a run is what its walks come to.
+pub(crate) fn are_counted(run: &RunRecord) -> bool {
     let rounds = run.rounds.as_slice();
     run.counters
         .as_slice()
@@ -77,14 +76,8 @@ fn judge<R: Threads + Wait + Sync>(
     alloc: Global,
     mut shelf: MemShelf,
 ) -> Result<(bool, usize), Trouble> {
-    let Ok(job) = load_job(alloc, &mut shelf, "job") else {
-        return Err(Trouble::NotLoaded);
-    };
-    let hooks = make_hooks(alloc, job.job.workers)?;
-    let (run, _) = run_job(rt, alloc, hooks, &job, &Courtesy)?;
-    let text = report(alloc, &run)?;
-    let is_lawful = recheck(alloc, &job, &text)? == Check::Lawful;
-    Ok((is_lawful && are_counted(&run), walked_in(&run)))
+    let ran = run_held(rt, alloc, &mut shelf, &Courtesy, &mut NoTender)?;
+    Ok((ran.is_lawful && are_counted(&ran.run), walked_in(&ran.run)))
 }
 
 // Whether all of many jobs are run as they have to be, and how many packets they have.

@@ -1,6 +1,6 @@
 use Rattle.std.proofs.Common.{arith}
 use Rattle.report_laws.proofs.ShortRuns.{events_few, packets_few}
-use Rattle.run_cases.proofs.random.judge.Goals as goal
+use Rattle.clsact_cli.proofs.run_cases.running.run_held.Goals as goal
 
 pub report-requires-clause-events : goal.report-requires-clause-events
 report-requires-clause-events g c = let few = events_few c.in-Ok.job c.in_ok-run.run' c.in-Ok.ensures.loaded (_, c.in_ok-run.ensures.run) in omega (arith, few)

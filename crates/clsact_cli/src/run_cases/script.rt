@@ -1,16 +1,14 @@
 //! A round whose threads meet in a given order.
 
-use crate::jobs::{capture_to, no_files};
-use crate::order::{Order, Step, Turns};
-use crate::trouble::Trouble;
-use job_files::load_job;
-use job_rounds::{make_hooks, run_job_heard};
-use run_report::report;
+use crate::run_cases::jobs::{capture_to, no_files};
+use crate::run_cases::order::{Order, Step, Turns};
+use crate::run_cases::running::run_held;
+use crate::run_cases::trouble::Trouble;
 use std::alloc::Global;
 use std::str;
 use std::sync::Wait;
 use std::thread::Threads;
-use tc_base::{MemShelf, NoEar};
+use tc_base::MemShelf;
 
 /// A job of two rounds, and the order in which the threads of the second one meet. In the first round control
 /// 4 applies a batch. In the second one controls 1 and 2 apply one each, while packets to some hosts of
@@ -35,17 +33,13 @@ fn report_in<R: Threads + Wait + Sync>(
     shelf: &mut MemShelf,
     steps: &[Step],
 ) -> Result<Vec<u8>, Trouble> {
-    let Ok(job) = load_job(alloc, shelf, "job") else {
-        return Err(Trouble::NotLoaded);
-    };
     let order = Order::new(steps);
     let mut turns = Turns { order: &order };
-    let hooks = make_hooks(alloc, job.job.workers)?;
-    let (run, _, _) = run_job_heard(rt, alloc, hooks, &job, &order, NoEar, &mut turns)?;
+    let ran = run_held(rt, alloc, shelf, &order, &mut turns)?;
     if !order.is_done() {
         return Err(Trouble::Late);
     }
-    Ok(report(alloc, &run)?)
+    Ok(ran.report)
 }
 
 // What a report tells of the second round, and its counters.

@@ -1,0 +1,235 @@
+//! Commands, and what they ask of what lies outside.
+
+use crate::tests::{DROP, HOOK, TWO, WALK};
+
+/// A call of the shelf.
+#[derive(Clone, Copy)]
+pub(crate) enum Call<'a> {
+    Fetch(&'a str),
+    Put(&'a str),
+}
+
+/// What a file holds.
+#[derive(Clone, Copy)]
+pub(crate) enum Held<'a> {
+    Text(&'a str),
+    /// A capture without packets, and one of two, to 10.0.0.1 and 10.0.0.2.
+    NoPackets,
+    TwoPackets,
+}
+
+/// How a text is written.
+#[derive(Clone, Copy)]
+pub(crate) enum Written<'a> {
+    /// A line with each call.
+    ByLines(&'a str),
+    /// All by one call.
+    Whole(&'a str),
+    /// All by one call, and what it is depends on threads.
+    AnyWhole,
+}
+
+/// A command with its files; and where no call outside fails, its calls of the shelf, its status and its
+/// text.
+#[derive(Clone, Copy)]
+pub(crate) struct Case<'a> {
+    pub(crate) words: &'a [&'a str],
+    pub(crate) files: &'a [(&'a str, Held<'a>)],
+    pub(crate) calls: &'a [Call<'a>],
+    pub(crate) status: &'a str,
+    pub(crate) written: Written<'a>,
+}
+
+const AGAIN: &str = "qdisc add dev eth0 clsact\nqdisc add dev eth0 clsact\n";
+
+const SHOWN: &str = "qdisc add dev eth0 clsact
+actions add action gact drop index 1
+counts gact index 1 serial 1 references 1 binds 1
+filter add dev eth0 ingress protocol ip pref 10 chain 0 handle 0x1 flower dst_ip 10.0.0.1/32 \
+    action gact index 1
+end
+";
+
+const BOTH_PASS: &str = "packet 1 pass length 60
+packet 2 pass length 60
+counter serial 1 gact index 1 packets 0 bytes 0
+summary edits 2 refused 0 packets 2 passed 2 dropped 0
+end
+";
+
+// Of the 96 packets each of the four filters takes twelve. The last one drops them.
+const MADE: &str = "counter serial 1 gact index 2 packets 36 bytes 2160
+counter serial 2 gact index 1 packets 12 bytes 720
+summary edits 5 refused 0 packets 96 passed 84 dropped 12
+end
+";
+
+// No packet comes while there are edits, so threads make no difference.
+const ROUNDS: &str = "clsact job 1
+workers 1
+controls 2
+round
+batch 1 rules
+capture ingress none out1
+round
+batch 2 more
+capture ingress two out2
+end
+";
+
+const REPORT: &str = "clsact report 1
+round 1
+edit 1 control 1 line 1 hooked
+edit 2 control 1 line 2 filter pref 10 handle 0x1 actions 1
+end round 1
+round 2
+refused 2 control 2 line 1 HookExists
+packet 1 worker 1 drop length 60 points 2 2 2
+packet 2 worker 1 pass length 60 points 2 2
+end round 2
+counter serial 1 gact index 1 packets 1 bytes 60
+summary edits 2 refused 1 packets 2 passed 1 dropped 1
+end
+";
+
+// The packets of the second round meet its edits, as in examples/overlap.
+const OVERLAP: &str = "clsact job 1
+workers 2
+controls 1
+round
+batch 1 base
+round
+batch 1 change
+capture ingress input passed
+end
+";
+
+const CHANGE: &str =
+    "filter add dev eth0 ingress protocol ip pref 10 flower dst_ip 10.0.0.2 action drop
+filter del dev eth0 ingress protocol ip pref 10 handle 1 flower
+";
+
+const ROUND_FILES: &[(&str, Held)] = &[
+    ("job", Held::Text(ROUNDS)),
+    ("rules", Held::Text(DROP)),
+    ("none", Held::NoPackets),
+    ("more", Held::Text(HOOK)),
+    ("two", Held::TwoPackets),
+    ("report", Held::Text(REPORT)),
+];
+
+/// All commands. Of `run` and `recheck` the files are those that the job names, in its order.
+pub(crate) const CASES: &[Case] = &[
+    Case {
+        words: &["show", "batch"],
+        files: &[("batch", Held::Text(DROP))],
+        calls: &[Call::Fetch("batch")],
+        status: "0 ",
+        written: Written::ByLines(SHOWN),
+    },
+    Case {
+        words: &["show", "batch"],
+        files: &[("batch", Held::Text(AGAIN))],
+        calls: &[Call::Fetch("batch")],
+        status: "1 1 lines refused",
+        written: Written::ByLines(
+            "refused 1 control 1 line 2 HookExists\nqdisc add dev eth0 clsact\nend\n",
+        ),
+    },
+    Case {
+        words: &WALK,
+        files: &[("batch", Held::Text(DROP)), ("capture", Held::TwoPackets)],
+        calls: &[
+            Call::Fetch("batch"),
+            Call::Fetch("capture"),
+            Call::Put("output"),
+        ],
+        status: "0 ",
+        written: Written::ByLines(TWO),
+    },
+    Case {
+        words: &["walk", "egress", "batch", "capture", "output"],
+        files: &[("batch", Held::Text(DROP)), ("capture", Held::TwoPackets)],
+        calls: &[
+            Call::Fetch("batch"),
+            Call::Fetch("capture"),
+            Call::Put("output"),
+        ],
+        status: "0 ",
+        written: Written::ByLines(BOTH_PASS),
+    },
+    Case {
+        words: &["run", "job"],
+        files: ROUND_FILES,
+        calls: &[
+            Call::Fetch("job"),
+            Call::Fetch("rules"),
+            Call::Fetch("none"),
+            Call::Fetch("more"),
+            Call::Fetch("two"),
+            Call::Put("out1"),
+            Call::Put("out2"),
+        ],
+        status: "1 1 lines refused",
+        written: Written::Whole(REPORT),
+    },
+    Case {
+        words: &["run", "job"],
+        files: &[
+            ("job", Held::Text(OVERLAP)),
+            ("base", Held::Text(DROP)),
+            ("change", Held::Text(CHANGE)),
+            ("input", Held::TwoPackets),
+        ],
+        calls: &[
+            Call::Fetch("job"),
+            Call::Fetch("base"),
+            Call::Fetch("change"),
+            Call::Fetch("input"),
+            Call::Put("passed"),
+        ],
+        status: "0 ",
+        written: Written::AnyWhole,
+    },
+    Case {
+        words: &["recheck", "job", "report"],
+        files: ROUND_FILES,
+        calls: &[
+            Call::Fetch("job"),
+            Call::Fetch("rules"),
+            Call::Fetch("none"),
+            Call::Fetch("more"),
+            Call::Fetch("two"),
+            Call::Fetch("report"),
+        ],
+        status: "0 ",
+        written: Written::Whole("lawful\n"),
+    },
+    // The batch that the job names `more` is no report.
+    Case {
+        words: &["recheck", "job", "more"],
+        files: ROUND_FILES,
+        calls: &[
+            Call::Fetch("job"),
+            Call::Fetch("rules"),
+            Call::Fetch("none"),
+            Call::Fetch("more"),
+            Call::Fetch("two"),
+            Call::Fetch("more"),
+        ],
+        status: "7 report not lawful at line 1",
+        written: Written::Whole("unlawful 1\n"),
+    },
+    Case {
+        words: &["gen", "4", "x"],
+        files: &[],
+        calls: &[
+            Call::Put("x.tc"),
+            Call::Put("x.pcap"),
+            Call::Put("x.job"),
+            Call::Put("x.out.pcap"),
+        ],
+        status: "0 ",
+        written: Written::ByLines(MADE),
+    },
+];

@@ -1,0 +1,196 @@
+//! Each call outside that fails, in each command.
+//!
+//! The shelf fails at its first call, then at its second, and so on, up to the command that has no further
+//! call and succeeds; and so does the sink.
+
+use crate::tests::fault_table::{CASES, Call, Case, Held, Written};
+use crate::tests::{EMPTY, numbers, run, two_packets};
+use std::alloc::{AllocError, Global};
+use std::sync::Wait;
+use std::test::Fail;
+use std::thread::Threads;
+use tc_base::{MemShelf, MemSink, NoMemory};
+
+// What stands under the names of outputs before.
+const OLD: &[u8] = b"old";
+
+// What a command leaves.
+#[derive(Drop)]
+struct Left {
+    status: String,
+    shelf: MemShelf,
+    out: MemSink,
+}
+
+impl Written<'_> {
+    // How many calls of the sink it takes.
+    fn calls(self) -> usize {
+        match self {
+            Written::ByLines(text) => text.lines().count(),
+            Written::Whole(_) | Written::AnyWhole => 1,
+        }
+    }
+
+    // Whether these bytes are what the first calls write, so many of them.
+    fn begins_with(self, bytes: &[u8], calls: usize) -> bool {
+        match self {
+            Written::ByLines(text) => {
+                let lines = bytes.iter().filter(|byte| **byte == b'\n').count();
+                let is_cut = bytes.last().is_some_and(|byte| *byte != b'\n');
+                text.as_bytes().starts_with(bytes) && lines == calls && !is_cut
+            }
+            Written::Whole(text) if calls > 0 => bytes == text.as_bytes(),
+            Written::AnyWhole if calls > 0 => bytes.ends_with(b"\nend\n"),
+            _ => bytes.is_empty(),
+        }
+    }
+}
+
+impl Case<'_> {
+    fn shelf(&self, alloc: Global, fails: &[u32]) -> Result<MemShelf, NoMemory> {
+        let mut shelf = MemShelf::new(alloc, numbers(alloc, fails)?);
+        for (name, held) in self.files {
+            match held {
+                Held::Text(text) => shelf.insert(name, text.as_bytes())?,
+                Held::NoPackets => shelf.insert(name, &EMPTY)?,
+                Held::TwoPackets => shelf.insert(name, &two_packets(alloc, false)?)?,
+            }
+        }
+        for call in self.calls {
+            if let Call::Put(name) = call {
+                shelf.insert(name, OLD)?;
+            }
+        }
+        Ok(shelf)
+    }
+
+    // What the command leaves where these calls of the shelf and of the sink fail.
+    fn left<R: AllocGlobal + Threads + Wait + Sync>(
+        &self,
+        rt: &R,
+        shelf_fails: &[u32],
+        sink_fails: &[u32],
+    ) -> Result<Left, Fail> {
+        let mut shelf = self.shelf(rt.alloc(), shelf_fails)?;
+        let mut out = MemSink::new(rt.alloc(), numbers(rt.alloc(), sink_fails)?);
+        let status = run(rt, self.words, &mut shelf, &mut out)?;
+        Ok(Left { status, shelf, out })
+    }
+
+    // What is told of the call of the shelf that fails.
+    fn told(&self, alloc: Global, call: usize) -> Result<String, AllocError> {
+        match self.calls.get(call) {
+            Some(Call::Fetch(name)) => format!(in alloc; "4 cannot read {name}"),
+            Some(Call::Put(_)) => String::from_str(alloc, "5 cannot write"),
+            None => String::from_str(alloc, self.status),
+        }
+    }
+
+    // Whether a file was put as a run without faults puts it, or at all where that depends on threads.
+    fn is_put(&self, name: &str, left: &Left, whole: &Left) -> bool {
+        match self.written {
+            Written::AnyWhole => left.shelf.get(name) != Some(OLD),
+            _ => left.shelf.get(name) == whole.shelf.get(name),
+        }
+    }
+
+    // Whether the puts among the first calls were made, so many of them, and no other.
+    fn are_put(&self, calls: usize, left: &Left, whole: &Left) -> bool {
+        self.calls.iter().enumerate().all(|(place, call)| match call {
+            Call::Fetch(_) => true,
+            Call::Put(name) if place < calls => self.is_put(name, left, whole),
+            Call::Put(name) => left.shelf.get(name) == Some(OLD),
+        })
+    }
+
+    // What is wrong in what a command leaves, if anything, where that status is due, and the first calls of
+    // the shelf and of the sink, so many of them.
+    fn wrong_in(
+        &self,
+        left: &Left,
+        whole: &Left,
+        status: &str,
+        calls: usize,
+        writes: usize,
+    ) -> Option<&'static str> {
+        if left.status.as_str() != status {
+            return Some("another status");
+        }
+        if !self.are_put(calls, left, whole) {
+            return Some("another file");
+        }
+        if !self.written.begins_with(left.out.bytes(), writes) {
+            return Some("another text");
+        }
+        None
+    }
+
+    // The shelf fails at each call, and then at none. Tells how often it failed.
+    fn fail_at_shelf<R: AllocGlobal + Threads + Wait + Sync>(&self, rt: &R) -> Result<u32, Fail> {
+        let whole = self.left(rt, &[], &[])?;
+        let mut failed = 0u32;
+        for call in 0..=self.calls.len() {
+            let left = self.left(rt, &[failed.saturating_add(1)], &[])?;
+            let told = self.told(rt.alloc(), call)?;
+            let is_last = call == self.calls.len();
+            let writes = if is_last { self.written.calls() } else { 0 };
+            if let Some(wrong) = self.wrong_in(&left, &whole, told.as_str(), call, writes) {
+                return Err(self.fail(rt.alloc(), call, wrong)?);
+            }
+            failed = failed.saturating_add(u32::from(!is_last));
+        }
+        Ok(failed)
+    }
+
+    // So does the sink. All files are put before.
+    fn fail_at_sink<R: AllocGlobal + Threads + Wait + Sync>(&self, rt: &R) -> Result<u32, Fail> {
+        let whole = self.left(rt, &[], &[])?;
+        let (calls, writes) = (self.calls.len(), self.written.calls());
+        let mut failed = 0u32;
+        for write in 0..=writes {
+            let left = self.left(rt, &[], &[failed.saturating_add(1)])?;
+            let is_last = write == writes;
+            let told = if is_last {
+                self.status
+            } else {
+                "5 cannot write"
+            };
+            if let Some(wrong) = self.wrong_in(&left, &whole, told, calls, write) {
+                return Err(self.fail(rt.alloc(), write, wrong)?);
+            }
+            failed = failed.saturating_add(u32::from(!is_last));
+        }
+        Ok(failed)
+    }
+
+    // Says which call of which command failed with what.
+    fn fail(&self, alloc: Global, call: usize, wrong: &str) -> Result<Fail, AllocError> {
+        let mut told = format!(in alloc; "{wrong} behind {call} calls of")?;
+        for word in self.words {
+            told.push_str(&format!(in alloc; " {word}")?)?;
+        }
+        Ok(Fail::from(told))
+    }
+}
+
+// By commands: 1 + 1 of show, 3 + 3 of walk, 7 + 5 of run, 6 + 6 of recheck, and 4 of gen.
+#[test]
+fn each_call_of_the_shelf_fails(rt: HostRuntime) -> Result<(), Fail> {
+    let mut failed = 0u32;
+    for case in CASES {
+        failed = failed.saturating_add(case.fail_at_shelf(&rt)?);
+    }
+    assert_eq!(rt; failed, 36);
+    Ok(())
+}
+
+// Lines: 5 + 3 of show, 5 + 5 of walk, and 4 of gen. All others write by one call: two runs and two rechecks.
+#[test]
+fn each_call_of_the_sink_fails(rt: HostRuntime) -> Result<(), Fail> {
+    let mut failed = 0u32;
+    for case in CASES {
+        failed = failed.saturating_add(case.fail_at_sink(&rt)?);
+    }
+    assert_eq!(rt; failed, 26);
+    Ok(())
+}
