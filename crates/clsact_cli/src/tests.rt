@@ -246,7 +246,7 @@ fn faults_at_a_recheck_are_told(rt: HostRuntime) -> Result<(), Fail> {
 
 #[test]
 fn faults_at_a_run_are_told(rt: HostRuntime) -> Result<(), Fail> {
-    // The job is read, then its files. Then the capture is put, and the whole report written by one call.
+    // The job is read, then its files. Then the capture is put, and the report written, which is one page.
     let rows: [(&[u32], &[u32], &str, &str, bool); 6] = [
         (&[1], &[], "4 cannot read job", "", false),
         (&[2], &[], "4 cannot read batch", "", false),

@@ -3,3 +3,4 @@ pub mod Counts
 pub mod Buffers
 pub mod Places
 pub mod Tails
+pub mod Pages

@@ -4,6 +4,7 @@ use Rattle.std.specs.Prelude.{◌≡◌, List, ℕ, ◌++◌, length, codes, Opt
 use Rattle.walk_texts.specs.Texts.{counted, end_text}
 use Rattle.run_report.specs.declared.outcomes.Outcome.{Outcome}
 use Rattle.run_report.specs.declared.outcomes.OutcomeView.{OutcomeView}
+use Rattle.run_report.specs.declared.packet_tails.Tails.{Tails}
 use Rattle.run_report.specs.Kept.{outcome_seen}
 use Rattle.run_report.specs.PacketTexts.{points_text}
 
@@ -16,3 +17,8 @@ packet_tail outcome =
 abbrev pub IsTold : Option OutcomeView → List ℕ → Type 0
 IsTold None text = Unit {0}
 IsTold (Some outcome) text = text ≡ packet_tail (outcome_seen outcome)
+
+-- so are both tails
+abbrev pub AreTold : Tails → Type 0
+AreTold tails =
+    IsTold tails.passed.outcome tails.passed.text.items × IsTold tails.dropped.outcome tails.dropped.text.items
