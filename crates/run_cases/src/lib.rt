@@ -30,6 +30,8 @@ mod random;
 #[cfg(test)]
 mod random_jobs;
 #[cfg(test)]
+mod reported;
+#[cfg(test)]
 mod script;
 #[cfg(test)]
 mod scripts;

@@ -2,11 +2,12 @@
 
 use crate::dice::Dice;
 use crate::random_jobs::random_job;
+use crate::reported::report_of;
 use crate::trouble::Trouble;
 use job_files::load_job;
 use job_rounds::{make_hooks, run_job};
 use report_check::{Check, recheck};
-use run_report::{CounterLine, RoundRecord, RunRecord, report};
+use run_report::{CounterLine, RoundRecord, RunRecord};
 use std::alloc::Global;
 use std::sync::Wait;
 use std::test::Fail;
@@ -82,8 +83,8 @@ fn judge<R: Threads + Wait + Sync>(
     };
     let hooks = make_hooks(alloc, job.job.workers)?;
     let (run, _) = run_job(rt, alloc, hooks, &job, &Courtesy)?;
-    let text = report(alloc, &run)?;
-    let is_lawful = recheck(alloc, &job, &text)? == Check::Lawful;
+    let report = report_of(alloc, &run)?;
+    let is_lawful = recheck(alloc, &job, report.bytes())? == Check::Lawful;
     Ok((is_lawful && are_counted(&run), walked_in(&run)))
 }
 

@@ -2,15 +2,15 @@
 
 use crate::jobs::{capture_to, no_files};
 use crate::order::{Order, Step, Turns};
+use crate::reported::report_of;
 use crate::trouble::Trouble;
 use job_files::load_job;
 use job_rounds::{make_hooks, run_job_heard};
-use run_report::report;
 use std::alloc::Global;
 use std::str;
 use std::sync::Wait;
 use std::thread::Threads;
-use tc_base::{MemShelf, NoEar};
+use tc_base::{MemShelf, MemSink, NoEar};
 
 /// A job of two rounds, and the order in which the threads of the second one meet. In the first round control
 /// 4 applies a batch. In the second one controls 1 and 2 apply one each, while packets to some hosts of
@@ -34,7 +34,7 @@ fn report_in<R: Threads + Wait + Sync>(
     alloc: Global,
     shelf: &mut MemShelf,
     steps: &[Step],
-) -> Result<Vec<u8>, Trouble> {
+) -> Result<MemSink, Trouble> {
     let Ok(job) = load_job(alloc, shelf, "job") else {
         return Err(Trouble::NotLoaded);
     };
@@ -45,7 +45,7 @@ fn report_in<R: Threads + Wait + Sync>(
     if !order.is_done() {
         return Err(Trouble::Late);
     }
-    Ok(report(alloc, &run)?)
+    report_of(alloc, &run)
 }
 
 // What a report tells of the second round, and its counters.
@@ -80,7 +80,7 @@ impl Script<'_> {
     ) -> Result<bool, Trouble> {
         let mut shelf = self.files(alloc)?;
         let report = report_in(rt, alloc, &mut shelf, self.order)?;
-        Ok(match told_in(&report) {
+        Ok(match told_in(report.bytes()) {
             Some(told) => self.told.contains(&told),
             None => false,
         })

@@ -4,3 +4,5 @@ pub mod Buffers
 pub mod Places
 pub mod Tails
 pub mod Pages
+pub mod Counting
+pub mod Heads

@@ -8,6 +8,7 @@ ghost use Rattle.run_report.specs.PacketTexts.{packet_name, points_text, shown_p
 ghost use Rattle.run_report.specs.PacketTails.{packet_tail};
 ghost use Rattle.run_report.specs.Pages.{IsPaged};
 
+use crate::line_head::LineHead;
 use crate::outcomes::{OutcomeView, Outcomes};
 use crate::packet_tails::Tails;
 use crate::page::turn;
@@ -96,10 +97,12 @@ pub(crate) fn write_packets<O: Sink>(
     ensures later { O.faults out.old ≤ O.faults out.new }
     ensures cause { IsErrOf result Put.Failed → Rose (O.faults out.old) (O.faults out.new) }
 {
+    let mut head = LineHead::new(alloc)?;
     let mut tails = Tails::new(alloc);
     for place in 0..outcomes.len() {
         turn(page, out)?;
-        push_count(page, "packet ", place as u64 + 1)?;
+        head.turn_to_next()?;
+        page.extend_from_slice(&head.text)?;
         tails.push(page, outcomes.at(place))?;
     }
     Ok(())
