@@ -17,7 +17,7 @@ ghost use Rattle.tool_run.specs.Runs.{RanJob, RanSoFar, status_of_run};
 use job_files::load_job;
 use job_rounds::{make_hooks, run_job};
 use lawful_runs::LoadedJob;
-use run_report::{RunRecord, report, summary_of};
+use run_report::{RunRecord, summary_of, write_report};
 use std::alloc::Global;
 use std::sync::Wait;
 use std::thread::Threads;
@@ -40,7 +40,7 @@ fn run_loaded<R: Threads + Wait + Sync, G: Gate>(
     Ok(run)
 }
 
-// Puts the captures of a run, and writes its report from the one buffer in which it was made.
+// Puts the captures of a run, and writes its report.
 fn deliver<S: Shelf, O: Sink>(
     alloc: Global,
     loaded: &LoadedJob,
@@ -59,8 +59,7 @@ fn deliver<S: Shelf, O: Sink>(
     ensures cause { IfErr result (DeliveryFails S.write_faults O.faults shelf.old shelf.new out.old out.new) }
 {
     put_outputs(alloc, loaded, run, shelf)?;
-    let text = report(alloc, run)?;
-    Ok(out.write_all(&text)?)
+    Ok(write_report(alloc, run, out)?)
 }
 
 // How a run ends: with how many of its lines were refused.

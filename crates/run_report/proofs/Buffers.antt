@@ -1,14 +1,13 @@
 -- Parts of buffers that grow at their ends.
-use Rattle.std.proofs.Common.{◌≡◌, ◌∙◌, ℕ, ◌-◌, ◌<◌, ◌≤◌, List, [], ◌∷◌, ◌++◌, length, take, drop, length-drop, get_or, Some, zero, suc, refl, sym, ap, subst, arith, length-append}
-use Rattle.std.specs.Prelude.{slice_get, slice_range, option_map, Result, Ok, Err, OnErr}
-use Rattle.std.proofs.lemmas.Option.{slice_get-map}
+use Rattle.std.proofs.Common.{◌≡◌, ◌∙◌, ℕ, ◌-◌, ◌<◌, ◌≤◌, List, [], ◌∷◌, ◌++◌, length, take, drop, length-drop, get_or, Some, zero, suc, refl, sym, ap, ap₂, subst, arith, length-append}
+use Rattle.std.specs.Prelude.{slice_get, slice_range}
 use Rattle.std.proofs.Math.Seq.{drop-append_seam}
-use Rattle.std.proofs.lemmas.List.{drop-append-le, take-append-le, map-append}
+use Rattle.std.proofs.lemmas.List.{drop-append-le, take-append-le}
 use Rattle.tc_report.proofs.Lines.{take_whole}
-use Rattle.filter_state.specs.Sound.{Each}
 use Rattle.run_report.specs.declared.outcomes.Outcome.{Outcome}
+use Rattle.run_report.specs.declared.outcome_list.Ends.{Ends}
 use Rattle.run_report.specs.declared.outcome_list.Row.{Row}
-use Rattle.run_report.specs.Kept.{IsRowOf, outcome_in, outcomes_in}
+use Rattle.run_report.specs.Kept.{first_ends, ends_of, start_of, AreParts, AreRowsUpTo, outcome_in, outcomes_in}
 
 -- a part stays as it is
 part_kept : {X : Type 0} (xs more : List X) (start end : ℕ) → start ≤ end → end ≤ length xs → slice_range (xs ++ more) start end ≡ slice_range xs start end
@@ -17,111 +16,126 @@ part_kept xs more start end order within =
     ∙ take-append-le (end - start) (drop start xs) more (omega (arith, length-drop start xs))
 
 -- what is put behind is the part behind
-part_put : {X : Type 0} (xs more : List X) (end : ℕ) → end ≡ length (xs ++ more) → slice_range (xs ++ more) (length xs) end ≡ more
-part_put xs more end is =
-    ap (take (end - length xs)) (drop-append_seam xs more)
-    ∙ take_whole more (end - length xs) (omega (arith, is, length-append xs more))
+part_put : {X : Type 0} (xs more : List X) → slice_range (xs ++ more) (length xs) (length (xs ++ more)) ≡ more
+part_put xs more =
+    ap (take (length (xs ++ more) - length xs)) (drop-append_seam xs more)
+    ∙ take_whole more (length (xs ++ more) - length xs) (omega (arith, length-append xs more))
 
-module _ (bytes more_bytes points more_points : List ℕ) (executed more_executed : List (ℕ × ℕ)) where
-  row_kept : (row : Row) → IsRowOf (length bytes) (length points) (length executed) row
-      → outcome_in (bytes ++ more_bytes) (points ++ more_points) (executed ++ more_executed) row ≡ outcome_in bytes points executed row
-  row_kept row r =
-      let b = part_kept bytes more_bytes row.bytes.start row.bytes.end r.bytes_lie.0 r.bytes_lie.1 in
-      let p = part_kept points more_points row.points.start row.points.end r.points_lie.0 r.points_lie.1 in
-      let e = part_kept executed more_executed row.executed.start row.executed.end r.executed_lie.0 r.executed_lie.1 in
-      rw (b, p, e) refl
+-- ---- rows
+-- the rows' parts end no earlier than they begin
+ends_lie : (last start : Ends) (rows : List Row) → AreRowsUpTo last start rows → AreParts start last
+ends_lie last start [] lie = subst (AreParts start) lie (omega arith, omega arith, omega arith)
+ends_lie last start (row ∷ rows) lie =
+    let first = lie.0 in
+    let rest = ends_lie last row.ends rows lie.1 in
+    (omega (arith, first.0, rest.0), omega (arith, first.1, rest.1), omega (arith, first.2, rest.2))
 
-  -- the outcomes are those that they were
-  pub outcomes_kept : (rows : List Row) → Each (IsRowOf (length bytes) (length points) (length executed)) rows
-      → outcomes_in (bytes ++ more_bytes) (points ++ more_points) (executed ++ more_executed) rows ≡ outcomes_in bytes points executed rows
-  outcomes_kept [] each = refl
-  outcomes_kept (row ∷ rows) each =
-      ap (λ (o : Outcome). o ∷ outcomes_in (bytes ++ more_bytes) (points ++ more_points) (executed ++ more_executed) rows) (row_kept row each.0)
-      ∙ ap (λ (os : List Outcome). outcome_in bytes points executed row ∷ os) (outcomes_kept rows each.1)
+-- the parts of the packet in a row lie in the buffers
+pub parts_at : (last start : Ends) (rows : List Row) (place : ℕ) (d : Row) → place < length rows → AreRowsUpTo last start rows
+    → AreParts (start_of start rows place) (get_or rows place d).ends × AreParts (get_or rows place d).ends last
+parts_at last start [] place d within lie = absurd (omega arith)
+parts_at last start (row ∷ rows) zero d within lie = (lie.0, ends_lie last row.ends rows lie.1)
+parts_at last start (row ∷ rows) (suc place) d within lie = parts_at last row.ends rows place d (omega arith) lie.1
 
--- rows lie in larger buffers too
-pub rows_lie : (bytes points executed more_bytes more_points more_executed : ℕ) → bytes ≤ more_bytes → points ≤ more_points → executed ≤ more_executed → (rows : List Row)
-    → Each (IsRowOf bytes points executed) rows → Each (IsRowOf more_bytes more_points more_executed) rows
-rows_lie bytes points executed more_bytes more_points more_executed b p e [] each = tt
-rows_lie bytes points executed more_bytes more_points more_executed b p e (row ∷ rows) each =
-    let r = each.0 in (
-      record {
-        bytes_lie = (r.bytes_lie.0, omega (arith, r.bytes_lie.1));
-        points_lie = (r.points_lie.0, omega (arith, r.points_lie.1));
-        executed_lie = (r.executed_lie.0, omega (arith, r.executed_lie.1));
-      },
-      rows_lie bytes points executed more_bytes more_points more_executed b p e rows each.1,
-    )
+-- they begin where those of the row before end
+pub start_behind : (start : Ends) (rows : List Row) (place : ℕ) (d : Row) → place < length rows → start_of start rows (suc place) ≡ (get_or rows place d).ends
+start_behind start [] place d within = absurd (omega arith)
+start_behind start (row ∷ rows) zero d within = refl
+start_behind start (row ∷ rows) (suc place) d within = start_behind row.ends rows place d (omega arith)
 
-pub one_row_more : (P : Row → Type 0) (rows : List Row) (row : Row) → Each P rows → P row → Each P (rows ++ row ∷ [])
-one_row_more P [] row each last = (last, tt)
-one_row_more P (first ∷ rows) row each last = (each.0, one_row_more P rows row each.1 last)
+-- ---- outcomes
+pub outcomes_count : (bytes points : List ℕ) (executed : List (ℕ × ℕ)) (start : Ends) (rows : List Row) → length (outcomes_in bytes points executed start rows) ≡ length rows
+outcomes_count bytes points executed start [] = refl
+outcomes_count bytes points executed start (row ∷ rows) = ap suc (outcomes_count bytes points executed row.ends rows)
 
-pub row_at : (P : Row → Type 0) (rows : List Row) (place : ℕ) (row : Row) → place < length rows → Each P rows → P (get_or rows place row)
-row_at P [] place row within each = absurd (omega arith)
-row_at P (first ∷ rows) zero row within each = each.0
-row_at P (first ∷ rows) (suc place) row within each = row_at P rows place row (omega arith) each.1
+-- the outcome in a row
+pub outcome_at : (bytes points : List ℕ) (executed : List (ℕ × ℕ)) (start : Ends) (rows : List Row) (place : ℕ) (d : Row) → place < length rows
+    → slice_get (outcomes_in bytes points executed start rows) place ≡ Some (outcome_in bytes points executed (start_of start rows place) (get_or rows place d))
+outcome_at bytes points executed start [] place d within = absurd (omega arith)
+outcome_at bytes points executed start (row ∷ rows) zero d within = refl
+outcome_at bytes points executed start (row ∷ rows) (suc place) d within = outcome_at bytes points executed row.ends rows place d (omega arith)
 
 -- ---- one outcome more
-module _ (bytes points : List ℕ) (executed : List (ℕ × ℕ)) (rows : List Row) (each : Each (IsRowOf (length bytes) (length points) (length executed)) rows) where
-  pub kept_still : (all_bytes all_points : List ℕ) (all_executed : List (ℕ × ℕ)) (more_bytes more_points : List ℕ) (more_executed : List (ℕ × ℕ))
-      → all_bytes ≡ bytes ++ more_bytes → all_points ≡ points ++ more_points → all_executed ≡ executed ++ more_executed
-      → outcomes_in all_bytes all_points all_executed rows ≡ outcomes_in bytes points executed rows
-  kept_still all_bytes all_points all_executed more_bytes more_points more_executed b p e =
-      rw (b, p, e) (outcomes_kept bytes more_bytes points more_points executed more_executed rows each)
+-- its row, where its parts end there
+abbrev pub row_of : Outcome → Ends → Row
+row_of outcome ends = record {
+  ends = ends;
+  worker = outcome.worker;
+  priority = outcome.meta.priority;
+  mark = outcome.meta.mark;
+  queue = outcome.meta.queue;
+  verdict = outcome.verdict;
+}
 
-  pub lie_still : (all_bytes all_points : List ℕ) (all_executed : List (ℕ × ℕ)) (more_bytes more_points : List ℕ) (more_executed : List (ℕ × ℕ))
-      → all_bytes ≡ bytes ++ more_bytes → all_points ≡ points ++ more_points → all_executed ≡ executed ++ more_executed
-      → Each (IsRowOf (length all_bytes) (length all_points) (length all_executed)) rows
-  lie_still all_bytes all_points all_executed more_bytes more_points more_executed b p e =
-      rows_lie (length bytes) (length points) (length executed) (length all_bytes) (length all_points) (length all_executed)
-      (omega (arith, ap length b, length-append bytes more_bytes)) (omega (arith, ap length p, length-append points more_points)) (omega (arith, ap length e, length-append executed more_executed)) rows each
+module _ (bytes points : List ℕ) (executed : List (ℕ × ℕ)) (outcome : Outcome) where
+  abbrev all_bytes : List ℕ
+  all_bytes = bytes ++ outcome.bytes
 
-  -- the row of an outcome whose lists lie behind those that were there
-  pub put_behind : (outcome : Outcome) (bytes_at points_at executed_at bytes_end points_end executed_end : ℕ) (all_bytes all_points : List ℕ) (all_executed : List (ℕ × ℕ)) (all_rows : List Row)
-      → bytes_at ≡ length bytes → points_at ≡ length points → executed_at ≡ length executed → bytes_end ≡ length all_bytes → points_end ≡ length all_points → executed_end ≡ length all_executed
-      → all_bytes ≡ bytes ++ outcome.bytes → all_points ≡ points ++ outcome.points → all_executed ≡ executed ++ outcome.executed
-      → all_rows ≡ rows ++ record {
-        worker = outcome.worker;
-        verdict = outcome.verdict;
-        meta = outcome.meta;
-        bytes = record { start = bytes_at; end = bytes_end };
-        points = record { start = points_at; end = points_end };
-        executed = record { start = executed_at; end = executed_end };
-      } ∷ []
-      → (outcomes_in all_bytes all_points all_executed all_rows ≡ outcomes_in bytes points executed rows ++ outcome ∷ []) × Each (IsRowOf (length all_bytes) (length all_points) (length all_executed)) all_rows
-  put_behind outcome bytes_at points_at executed_at bytes_end points_end executed_end all_bytes all_points all_executed all_rows b0 p0 e0 b1 p1 e1 b p e r =
-      let row : Row = record {
-        worker = outcome.worker;
-        verdict = outcome.verdict;
-        meta = outcome.meta;
-        bytes = record { start = bytes_at; end = bytes_end };
-        points = record { start = points_at; end = points_end };
-        executed = record { start = executed_at; end = executed_end };
-      } in
-      let front = kept_still all_bytes all_points all_executed outcome.bytes outcome.points outcome.executed b p e in
-      let last_bytes : slice_range all_bytes bytes_at bytes_end ≡ outcome.bytes = rw (b0, b) (part_put bytes outcome.bytes bytes_end (b1 ∙ ap length b)) in
-      let last_points : slice_range all_points points_at points_end ≡ outcome.points = rw (p0, p) (part_put points outcome.points points_end (p1 ∙ ap length p)) in
-      let last_executed : slice_range all_executed executed_at executed_end ≡ outcome.executed = rw (e0, e) (part_put executed outcome.executed executed_end (e1 ∙ ap length e)) in
-      let last : outcome_in all_bytes all_points all_executed row ≡ outcome = rw (last_bytes, last_points, last_executed) refl in
-      let IsRow : Row → Type 0 = IsRowOf (length all_bytes) (length all_points) (length all_executed) in
-      let lies : IsRow row = record {
-        bytes_lie = (omega (arith, ap length b, length-append bytes outcome.bytes), omega arith);
-        points_lie = (omega (arith, ap length p, length-append points outcome.points), omega arith);
-        executed_lie = (omega (arith, ap length e, length-append executed outcome.executed), omega arith);
-      } in (
-        ap (outcomes_in all_bytes all_points all_executed) r ∙ map-append (outcome_in all_bytes all_points all_executed) rows (row ∷ [])
-            ∙ ap (λ (os : List Outcome). os ++ outcome_in all_bytes all_points all_executed row ∷ []) front ∙ ap (λ (o : Outcome). outcomes_in bytes points executed rows ++ o ∷ []) last,
-        subst (Each IsRow) (sym r) (one_row_more IsRow rows row (lie_still all_bytes all_points all_executed outcome.bytes outcome.points outcome.executed b p e) lies),
-      )
+  abbrev all_points : List ℕ
+  all_points = points ++ outcome.points
 
--- a fact that holds whatever the result is
-pub on_err_of : {A E : Type 0} (result : Result A E) (P : Type 0) → P → OnErr result P
-on_err_of (Ok value) P p = tt
-on_err_of (Err error) P p = p
+  abbrev all_executed : List (ℕ × ℕ)
+  all_executed = executed ++ outcome.executed
 
--- ---- an outcome at a place
-pub outcome_at : (bytes points : List ℕ) (executed : List (ℕ × ℕ)) (rows : List Row) (all : List Outcome) (place : ℕ) (row : Row) (outcome : Outcome)
-    → outcomes_in bytes points executed rows ≡ all → slice_get rows place ≡ Some row → outcome_in bytes points executed row ≡ outcome → slice_get all place ≡ Some outcome
-outcome_at bytes points executed rows all place row outcome view there is =
-    ap (λ (os : List Outcome). slice_get os place) (sym view) ∙ slice_get-map (outcome_in bytes points executed) rows place ∙ ap (option_map (outcome_in bytes points executed)) there ∙ ap (λ (o : Outcome). Some o) is
+  abbrev pub last_row : Row
+  last_row = row_of outcome (ends_of all_bytes all_points all_executed)
+
+  -- what was there stays
+  row_kept : (start : Ends) (row : Row) → AreParts start row.ends → AreParts row.ends (ends_of bytes points executed)
+      → outcome_in all_bytes all_points all_executed start row ≡ outcome_in bytes points executed start row
+  row_kept start row order within =
+      let b = part_kept bytes outcome.bytes start.bytes row.ends.bytes order.0 within.0 in
+      let p = part_kept points outcome.points start.points row.ends.points order.1 within.1 in
+      let e = part_kept executed outcome.executed start.executed row.ends.executed order.2 within.2 in
+      rw (b, p, e) refl
+
+  last_is : outcome_in all_bytes all_points all_executed (ends_of bytes points executed) last_row ≡ outcome
+  last_is = rw (part_put bytes outcome.bytes, part_put points outcome.points, part_put executed outcome.executed) refl
+
+  pub outcomes_put : (start : Ends) (rows : List Row) → AreRowsUpTo (ends_of bytes points executed) start rows
+      → outcomes_in all_bytes all_points all_executed start (rows ++ last_row ∷ []) ≡ outcomes_in bytes points executed start rows ++ outcome ∷ []
+  outcomes_put start [] lie =
+      ap (λ (at : Ends). outcome_in all_bytes all_points all_executed at last_row ∷ []) lie ∙ ap (λ (o : Outcome). o ∷ []) last_is
+  outcomes_put start (row ∷ rows) lie =
+      ap₂ (λ (o : Outcome) (os : List Outcome). o ∷ os) (row_kept start row lie.0 (ends_lie (ends_of bytes points executed) row.ends rows lie.1))
+      (outcomes_put row.ends rows lie.1)
+
+  pub rows_put : (start : Ends) (rows : List Row) → AreRowsUpTo (ends_of bytes points executed) start rows
+      → AreRowsUpTo (ends_of all_bytes all_points all_executed) start (rows ++ last_row ∷ [])
+  rows_put start [] lie =
+      let longer : AreParts (ends_of bytes points executed) (ends_of all_bytes all_points all_executed) = (
+        omega (arith, length-append bytes outcome.bytes),
+        omega (arith, length-append points outcome.points),
+        omega (arith, length-append executed outcome.executed),
+      ) in
+      (subst (λ (at : Ends). AreParts at (ends_of all_bytes all_points all_executed)) (sym lie) longer, refl)
+  rows_put start (row ∷ rows) lie = (lie.0, rows_put row.ends rows lie.1)
+
+  -- the same of what is equal to all that
+  pub put_behind : (rows : List Row) (bs ps : List ℕ) (es : List (ℕ × ℕ)) (all : List Row) (b p e : ℕ) → AreRowsUpTo (ends_of bytes points executed) first_ends rows
+      → bs ≡ all_bytes → ps ≡ all_points → es ≡ all_executed → b ≡ length bs → p ≡ length ps → e ≡ length es
+      → all ≡ rows ++ row_of outcome (record { bytes = b; points = p; executed = e }) ∷ []
+      → (outcomes_in bs ps es first_ends all ≡ outcomes_in bytes points executed first_ends rows ++ outcome ∷ []) × AreRowsUpTo (ends_of bs ps es) first_ends all
+  put_behind rows bs ps es all b p e lie is_b is_p is_e end_b end_p end_e put =
+      rw (put, end_b, end_p, end_e, is_b, is_p, is_e) (outcomes_put first_ends rows lie, rows_put first_ends rows lie)
+
+-- ---- what is seen of a list
+module _ (bytes points : List ℕ) (executed : List (ℕ × ℕ)) (rows : List Row) (all : List Outcome) (seen : outcomes_in bytes points executed first_ends rows ≡ all) where
+  pub many_rows : length all ≡ length rows
+  many_rows = ap length (sym seen) ∙ outcomes_count bytes points executed first_ends rows
+
+  -- the outcome in a row, from what is lent
+  pub read_row : (place : ℕ) (row d : Row) (start : Ends) (outcome : Outcome) → place < length rows → get_or rows place d ≡ row → start ≡ start_of first_ends rows place
+      → outcome ≡ outcome_in bytes points executed start row → slice_get all place ≡ Some outcome
+  read_row place row d start outcome within there begins is =
+      ap (λ (os : List Outcome). slice_get os place) (sym seen) ∙ outcome_at bytes points executed first_ends rows place d within
+      ∙ ap₂ (λ (s : Ends) (r : Row). Some (outcome_in bytes points executed s r)) (sym begins) there ∙ ap (λ (o : Outcome). Some o) (sym is)
+
+-- where the parts of the packet in a row lie, from what is lent
+pub parts_of : (last start : Ends) (rows : List Row) (place : ℕ) (row : Row) → place < length rows → AreRowsUpTo last first_ends rows
+    → get_or rows place row ≡ row → start ≡ start_of first_ends rows place → AreParts start row.ends × AreParts row.ends last
+parts_of last start rows place row within lie there begins =
+    let at = parts_at last first_ends rows place row within lie in (
+      subst (λ (s : Ends). AreParts s row.ends) (sym begins) (subst (λ (r : Row). AreParts (start_of first_ends rows place) r.ends) there at.0),
+      subst (λ (r : Row). AreParts r.ends last) there at.1,
+    )

@@ -4,3 +4,4 @@ pub mod PacketTexts
 pub mod PacketTails
 pub mod Reports
 pub mod Kept
+pub mod Pages

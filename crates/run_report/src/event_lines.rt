@@ -1,15 +1,18 @@
 //! The lines of a round's events.
-ghost use Rattle.std.specs.Prelude.{◌≡◌, ◌+◌, ◌<◌, ◌^◌, ◌++◌, length, IfOk, OnOk, if◌then◌else◌};
+ghost use Rattle.std.specs.Prelude.{◌≡◌, ◌+◌, ◌<◌, ◌≤◌, ◌^◌, ◌++◌, length, IfOk, OnOk, IsErrOf, if◌then◌else◌};
+ghost use Rattle.tc_base.specs.Outside.{AppendsUpTo, Rose};
 ghost use Rattle.walk_texts.specs.Texts.{joined};
 ghost use Rattle.run_report.specs.Counts.{is_accepted, accepted_count};
 ghost use Rattle.run_report.specs.EventTexts.{edit_place, edit_line, event_line, event_lines};
+ghost use Rattle.run_report.specs.Pages.{IsPaged};
 
 use crate::done::push_done;
 use crate::events::{Event, EventKind};
+use crate::page::turn;
 use crate::pieces::push_text;
 use filter_state::Done;
 use std::alloc::AllocError;
-use tc_base::NoMemory;
+use tc_base::{NoMemory, Put, Sink};
 use tc_report::{push_bad_line, push_refused};
 use walk_texts::push_count;
 
@@ -59,16 +62,27 @@ fn accepted(event: &Event) -> u32
     u32::from(matches!(event.kind, EventKind::Accepted(_)))
 }
 
-/// Puts a line for each event of a round before which so many edits were accepted, and answers how many were
+/// Writes a line for each event of a round before which so many edits were accepted, and answers how many were
 /// accepted then.
-pub(crate) fn push_events(out: &mut Vec<u8>, before: u32, events: &[Event]) -> Result<u32, NoMemory>
+pub(crate) fn write_events<O: Sink>(
+    page: &mut Vec<u8>,
+    out: &mut O,
+    before: u32,
+    events: &[Event],
+) -> Result<u32, Put>
     requires { before + length events.now < 2 ^ 32 }
-    ensures text { OnOk result (out.new.items ≡ out.old.items ++ joined (event_lines before events.now)) }
+    ensures text { OnOk result (IsPaged (O.written out.old) (O.written out.new)
+        (page.old.items ++ joined (event_lines before events.now)) page.new.items) }
     ensures edits { IfOk result (λ edits. edits ≡ before + accepted_count events.now) }
+    ensures up_to { AppendsUpTo (O.written out.old) (O.written out.new)
+        (page.old.items ++ joined (event_lines before events.now)) }
+    ensures later { O.faults out.old ≤ O.faults out.new }
+    ensures cause { IsErrOf result Put.Failed → Rose (O.faults out.old) (O.faults out.new) }
 {
     let mut edits = before;
     for event in events {
-        push_event_line(out, edits, event)?;
+        turn(page, out)?;
+        push_event_line(page, edits, event)?;
         edits += accepted(event);
     }
     Ok(edits)

@@ -7,24 +7,25 @@
 //! how often it ran. Whoever runs a job makes one, and whether it is lawful is said above this crate. The
 //! lists in it are types that contracts see as lists, so that a record is plain data in a clause.
 //!
-//! `report` gives the text of a record, which is defined as a list of lines, `report_lines` in
+//! `write_report` writes the text of a record, which is defined as a list of lines, `report_lines` in
 //! `specs/Reports.antt`. An event's line has the number of edits that were accepted before it, with the edit
 //! itself where it was accepted: so these numbers tell the state to which an edit was applied, and a point
 //! names a state by the same number. A frame's line has its length, and not its bytes. The last line is
 //! `end`, by which a report that was cut off is known.
 //!
-//! All lines grow in one buffer, one piece after the other, and its memory is all that is taken but for that of
-//! one line: where a packet's line tells the same as the one before it, but for its number, that is made once
-//! (`packet_tails`). The line of an event and that of a packet can also be had alone, from what they show
-//! (`push_event_line`, `push_packet_line`), for whoever compares a report line by line.
+//! A report may be as long as what it tells of, so it is never held whole. Its lines are put on a page of some
+//! 256 KiB, which is handed to the sink when it is full, and then begun again in the same memory (`page`): few
+//! calls of the sink, and none for a line alone. Where packets' lines tell the same but for their numbers, that
+//! is made once (`packet_tails`), and a number is counted up in its digits (`line_head`). The line of an event and that of a packet can also be had alone, from what
+//! they show (`push_event_line`, `push_packet_line`), for whoever compares a report line by line.
 //!
 //! A round has as many outcomes as packets. Whoever walks packets puts their outcomes into an `OutcomeList`,
 //! which keeps frames, points and executions in three buffers that all share, and lends an outcome by its row.
 //! The `Outcomes` of a round are several such lists with the place of each packet's outcome in them, so that
 //! nothing is copied when a round ends. Contracts see both as the list of outcomes.
 //!
-//! Records are plain data, which may go to any thread. `report` keeps nothing, and may be called by any
-//! thread that may read the record.
+//! Records are plain data, which may go to any thread. `write_report` keeps nothing, and may be called by any
+//! thread that may read the record and owns the sink.
 //!
 //! Not promised: that memory suffices, that a record is one of a run that happened, and how long a report is.
 #![tactic(auto)]
@@ -33,10 +34,12 @@ mod counters;
 mod done;
 mod event_lines;
 mod events;
+mod line_head;
 mod outcome_list;
 mod outcomes;
 mod packet_lines;
 mod packet_tails;
+mod page;
 mod pieces;
 mod record;
 mod reporting;
@@ -52,6 +55,6 @@ pub use outcome_list::OutcomeList;
 pub use outcomes::{Outcome, OutcomePlace, OutcomeView, Outcomes};
 pub use packet_lines::push_packet_line;
 pub use record::RunRecord;
-pub use reporting::report;
+pub use reporting::write_report;
 pub use rounds::{RoundRecord, RoundRecords};
 pub use summing::summary_of;

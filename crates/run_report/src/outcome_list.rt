@@ -1,5 +1,7 @@
 //! Outcomes in buffers that all of them share.
-ghost use Rattle.std.specs.Prelude.{◌≡◌, ◌<◌, ◌≤◌, ◌↔◌, length, slice_range, IsTrue};
+ghost use Rattle.std.specs.Prelude.{◌≡◌, ◌+◌, ◌<◌, ◌≤◌, ◌++◌, ◌↔◌, length, slice_range, IsTrue};
+ghost use Rattle.std.specs.Prelude.{vec_len, vec_capacity};
+ghost use Rattle.run_report.specs.Kept.{first_ends, start_of};
 
 use crate::outcomes::OutcomeView;
 use frame_edit::Meta;
@@ -8,22 +10,24 @@ use std::marker::Model;
 use tc_base::{NoMemory, Point};
 use walk_rules::Verdict;
 
-// Where a packet's part of a list begins, and where the next one's does.
+// Where a packet's parts of the buffers end.
 #[derive(Clone, Copy, Debug)]
-struct Span {
-    start: usize,
-    end: usize,
+struct Ends {
+    bytes: usize,
+    points: usize,
+    executed: usize,
 }
 
-// The record of a packet, but for its lists.
+// The record of a packet, but for its lists: each of them begins where that of the packet before ends. There are
+// as many as packets, so its numbers stand side by side, which makes it 40 bytes.
 #[derive(Clone, Copy, Debug)]
 struct Row {
+    ends: Ends,
     worker: u32,
+    priority: u32,
+    mark: u32,
+    queue: u16,
     verdict: Verdict,
-    meta: Meta,
-    bytes: Span,
-    points: Span,
-    executed: Span,
 }
 
 /// Outcomes in the order in which they came. The frames of all of them lie in one buffer, and so do the points
@@ -37,25 +41,50 @@ pub struct OutcomeList {
 }
 
 impl Model for OutcomeList {
-    ghost use Rattle.std.specs.Prelude.{List, length};
-    ghost use Rattle.filter_state.specs.Sound.{Each};
+    ghost use Rattle.std.specs.Prelude.{List};
     ghost use Rattle.run_report.specs.declared.outcomes.Outcome.{Outcome};
-    ghost use Rattle.run_report.specs.Kept.{outcomes_in, IsRowOf};
+    ghost use Rattle.run_report.specs.Kept.{first_ends, ends_of, outcomes_in, AreRowsUpTo};
 
     ghost Value = { List Outcome };
 
-    ghost view = { λ o. outcomes_in o.bytes.items o.points.items o.executed.items o.rows.items };
+    ghost view = { λ o. outcomes_in o.bytes.items o.points.items o.executed.items first_ends o.rows.items };
 
-    ghost invariant = { λ o. Each
-        (IsRowOf (length o.bytes.items) (length o.points.items) (length o.executed.items)) o.rows.items };
+    ghost invariant = { λ o. AreRowsUpTo (ends_of o.bytes.items o.points.items o.executed.items) first_ends
+        o.rows.items };
 }
 
-// The part of a list that a span names.
-fn part<T>(list: &[T], span: Span) -> &[T]
-    requires { (span.start ≤ span.end) × (span.end ≤ length list.now) }
-    ensures { result.now ≡ slice_range list.now span.start span.end }
+// Where the parts of the packet in a row begin.
+fn start_of(rows: &[Row], row: usize) -> Ends
+    requires { row < length rows.now }
+    ensures { result ≡ start_of first_ends rows.now row }
 {
-    &list[span.start..span.end]
+    match row {
+        0 => Ends {
+            bytes: 0,
+            points: 0,
+            executed: 0,
+        },
+        _ => rows[row - 1].ends,
+    }
+}
+
+// The part of a list from a place up to another.
+fn part<T>(list: &[T], start: usize, end: usize) -> &[T]
+    requires { (start ≤ end) × (end ≤ length list.now) }
+    ensures { result.now ≡ slice_range list.now start end }
+{
+    &list[start..end]
+}
+
+// Puts more behind a list, which has room for it.
+fn put<T: Copy>(list: &mut Vec<T>, more: &[T])
+    requires { vec_len list.old + length more.now ≤ vec_capacity list.old }
+    ensures { list.new.items ≡ list.old.items ++ more.now }
+{
+    match list.extend_from_slice(more) {
+        Ok(()) => {}
+        Err(_) => unreachable!(),
+    }
 }
 
 impl OutcomeList {
@@ -81,27 +110,25 @@ impl OutcomeList {
         ensures put { OnOk result (self.new ≡ self.old ++ outcome_seen outcome.now ∷ []) }
         ensures kept { OnErr result (self.new ≡ self.old) }
     {
-        let (bytes, points, executed) = (self.bytes.len(), self.points.len(), self.executed.len());
-        self.bytes.extend_from_slice(outcome.bytes)?;
-        self.points.extend_from_slice(outcome.points)?;
-        self.executed.extend_from_slice(outcome.executed)?;
-        self.rows.push(Row {
+        self.bytes.reserve(outcome.bytes.len())?;
+        self.points.reserve(outcome.points.len())?;
+        self.executed.reserve(outcome.executed.len())?;
+        self.rows.reserve(1)?;
+        put(&mut self.bytes, outcome.bytes);
+        put(&mut self.points, outcome.points);
+        put(&mut self.executed, outcome.executed);
+        self.rows.push_reserved(Row {
+            ends: Ends {
+                bytes: self.bytes.len(),
+                points: self.points.len(),
+                executed: self.executed.len(),
+            },
             worker: outcome.worker,
+            priority: outcome.meta.priority,
+            mark: outcome.meta.mark,
+            queue: outcome.meta.queue,
             verdict: outcome.verdict,
-            meta: outcome.meta,
-            bytes: Span {
-                start: bytes,
-                end: self.bytes.len(),
-            },
-            points: Span {
-                start: points,
-                end: self.points.len(),
-            },
-            executed: Span {
-                start: executed,
-                end: self.executed.len(),
-            },
-        })?;
+        });
         Ok(())
     }
 
@@ -124,14 +151,19 @@ impl OutcomeList {
         requires { row < length self.now }
         ensures { slice_get self.now row ≡ Some (outcome_seen result) }
     {
+        let start = start_of(&self.rows, row);
         let row = &self.rows[row];
         OutcomeView {
             worker: row.worker,
             verdict: row.verdict,
-            bytes: part(&self.bytes, row.bytes),
-            meta: row.meta,
-            points: part(&self.points, row.points),
-            executed: part(&self.executed, row.executed),
+            bytes: part(&self.bytes, start.bytes, row.ends.bytes),
+            meta: Meta {
+                priority: row.priority,
+                mark: row.mark,
+                queue: row.queue,
+            },
+            points: part(&self.points, start.points, row.ends.points),
+            executed: part(&self.executed, start.executed, row.ends.executed),
         }
     }
 }

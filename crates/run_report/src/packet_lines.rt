@@ -1,17 +1,21 @@
 //! The lines of a round's packets.
-ghost use Rattle.std.specs.Prelude.{◌≡◌, ◌++◌, codes, OnOk};
+ghost use Rattle.std.specs.Prelude.{◌≡◌, ◌≤◌, ◌++◌, codes, OnOk, IsErrOf};
 ghost use Rattle.std.specs.List.{flat_map};
+ghost use Rattle.tc_base.specs.Outside.{AppendsUpTo, Rose};
 ghost use Rattle.walk_texts.specs.Texts.{joined, counted};
 ghost use Rattle.run_report.specs.Kept.{outcome_seen};
 ghost use Rattle.run_report.specs.PacketTexts.{packet_name, points_text, shown_packet, packet_lines};
 ghost use Rattle.run_report.specs.PacketTails.{packet_tail};
+ghost use Rattle.run_report.specs.Pages.{IsPaged};
 
+use crate::line_head::LineHead;
 use crate::outcomes::{OutcomeView, Outcomes};
-use crate::packet_tails::{Tail, push_kept};
+use crate::packet_tails::Tails;
+use crate::page::turn;
 use crate::pieces::push_text;
 use frame_edit::Meta;
 use std::alloc::{AllocError, Global};
-use tc_base::Point;
+use tc_base::{Point, Put, Sink};
 use walk_rules::Verdict;
 use walk_texts::{push_count, push_end};
 
@@ -79,18 +83,27 @@ pub(crate) fn push_tail(out: &mut Vec<u8>, outcome: &OutcomeView<'_>) -> Result<
     push_text(out, "\n")
 }
 
-/// Puts a line for each packet of a round.
-pub(crate) fn push_packets(
+/// Writes a line for each packet of a round.
+pub(crate) fn write_packets<O: Sink>(
     alloc: Global,
-    out: &mut Vec<u8>,
+    page: &mut Vec<u8>,
+    out: &mut O,
     outcomes: &Outcomes,
-) -> Result<(), AllocError>
-    ensures { OnOk result (out.new.items ≡ out.old.items ++ joined (packet_lines outcomes.now)) }
+) -> Result<(), Put>
+    ensures text { OnOk result (IsPaged (O.written out.old) (O.written out.new)
+        (page.old.items ++ joined (packet_lines outcomes.now)) page.new.items) }
+    ensures up_to { AppendsUpTo (O.written out.old) (O.written out.new)
+        (page.old.items ++ joined (packet_lines outcomes.now)) }
+    ensures later { O.faults out.old ≤ O.faults out.new }
+    ensures cause { IsErrOf result Put.Failed → Rose (O.faults out.old) (O.faults out.new) }
 {
-    let mut tail = Tail::new(alloc);
+    let mut head = LineHead::new(alloc)?;
+    let mut tails = Tails::new(alloc);
     for place in 0..outcomes.len() {
-        push_count(out, "packet ", place as u64 + 1)?;
-        push_kept(out, outcomes.at(place), &mut tail)?;
+        turn(page, out)?;
+        head.turn_to_next()?;
+        page.extend_from_slice(&head.text)?;
+        tails.push(page, outcomes.at(place))?;
     }
     Ok(())
 }

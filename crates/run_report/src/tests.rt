@@ -3,14 +3,14 @@ ghost use Rattle.run_report.specs.Counts.{events_in, packets_in};
 
 use crate::{
     CounterLine, CounterLines, Event, EventKind, Events, OutcomeList, OutcomePlace, OutcomeView,
-    Outcomes, RoundRecord, RoundRecords, RunRecord, report,
+    Outcomes, RoundRecord, RoundRecords, RunRecord, write_report,
 };
 use act_kinds::Kind;
 use filter_state::Done;
 use frame_edit::Meta;
 use std::alloc::{AllocError, Global};
 use std::test::Fail;
-use tc_base::{NoMemory, Numbers};
+use tc_base::{MemSink, NoMemory, Numbers};
 use walk_rules::Verdict;
 
 // A batch drops 10.0.0.1. The next round's batch lets 10.0.0.2 pass, and that edit is accepted between the
@@ -97,6 +97,8 @@ fn edit_between_two_visits(rt: HostRuntime) -> Result<(), Fail> {
         rounds: rounds(rt.alloc())?,
         counters: CounterLines::from_vec(counters),
     };
-    assert_eq!(rt; report(rt.alloc(), &run)?.as_slice(), REPORT);
+    let mut out = MemSink::new(rt.alloc(), Numbers::from_vec(Vec::new(rt.alloc())));
+    write_report(rt.alloc(), &run, &mut out)?;
+    assert_eq!(rt; out.bytes(), REPORT);
     Ok(())
 }

@@ -1,4 +1,3 @@
-pub mod Counting
 pub mod Due
 pub mod Exact
 pub mod Generating

@@ -8,7 +8,7 @@ use std::alloc::Global;
 use std::str;
 use std::sync::Wait;
 use std::thread::Threads;
-use tc_base::MemShelf;
+use tc_base::{MemShelf, MemSink};
 
 /// A job of two rounds, and the order in which the threads of the second one meet. In the first round control
 /// 4 applies a batch. In the second one controls 1 and 2 apply one each, while packets to some hosts of
@@ -32,7 +32,7 @@ fn report_in<R: Threads + Wait + Sync>(
     alloc: Global,
     shelf: &mut MemShelf,
     steps: &[Step],
-) -> Result<Vec<u8>, Trouble> {
+) -> Result<MemSink, Trouble> {
     let order = Order::new(steps);
     let mut turns = Turns { order: &order };
     let ran = run_held(rt, alloc, shelf, &order, &mut turns)?;
@@ -74,7 +74,7 @@ impl Script<'_> {
     ) -> Result<bool, Trouble> {
         let mut shelf = self.files(alloc)?;
         let report = report_in(rt, alloc, &mut shelf, self.order)?;
-        Ok(match told_in(&report) {
+        Ok(match told_in(report.bytes()) {
             Some(told) => self.told.contains(&told),
             None => false,
         })

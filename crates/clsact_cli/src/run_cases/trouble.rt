@@ -1,7 +1,7 @@
 //! What keeps a test from its end.
 
 use std::alloc::{AllocError, AllocFailed};
-use tc_base::NoMemory;
+use tc_base::{NoMemory, Put};
 
 /// What keeps a test from its end. None of it comes where a test passes.
 #[derive(Clone, Copy, Debug, PartialEq, Eq)]
@@ -31,6 +31,13 @@ pub(crate) enum Trouble {
 
 impl From<NoMemory> for Trouble {
     fn from(_: NoMemory) -> Self {
+        Trouble::NoMemory
+    }
+}
+
+// A sink in memory that is told no fault fails for want of memory alone.
+impl From<Put> for Trouble {
+    fn from(_: Put) -> Self {
         Trouble::NoMemory
     }
 }

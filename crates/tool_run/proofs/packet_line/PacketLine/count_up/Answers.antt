@@ -5,7 +5,7 @@ use Rattle.std.proofs.lemmas.List.{get_or_default}
 use Rattle.walk_texts.specs.Texts.{counted}
 use Rattle.batch_walk.specs.Texts.{packet_line}
 use Rattle.tool_run.specs.Endings.{ending_of}
-use Rattle.tool_run.proofs.Counting.{IsCarriedIn, begins, in_text, carries, counts, as_long}
+use Rattle.run_report.proofs.Counting.{IsCarriedIn, begins, in_text, carries, counts, as_long}
 use Rattle.tool_run.proofs.PacketLines.{label, length_counted, line_in_three}
 use Rattle.tool_run.proofs.packet_line.PacketLine.count_up.Goals as goal
 

@@ -1,7 +1,7 @@
 use Rattle.std.proofs.Common.{◌≡◌}
 use Rattle.std.specs.Prelude.{decimal}
 use Rattle.tool_run.specs.Endings.{ending_of}
-use Rattle.tool_run.proofs.Counting.{IsCarriedIn}
+use Rattle.run_report.proofs.Counting.{IsCarriedIn}
 use Rattle.tool_run.proofs.PacketLines.{label}
 use Rattle.tool_run.proofs.packet_line.PacketLine.count_up.Given as goal
 
