@@ -1,21 +1,20 @@
 //! All that `gen` makes.
 ghost use Rattle.gen_files.specs.declared.limits.TheConstants.{GEN_MAX};
 ghost use Rattle.std.specs.Prelude.{◌≡◌, ◌≤◌, ℕ, length, IfOk};
-ghost use Rattle.tc_base.specs.declared.hook.Hook.TheVariants.{Ingress};
 ghost use Rattle.pcap_io.specs.Captures.{AreShort};
 ghost use Rattle.batch_run.specs.declared.limit.TheConstants.{COMMANDS_MAX};
 ghost use Rattle.batch_run.specs.Commands.{commands_of};
-ghost use Rattle.batch_run.specs.Runs.{Ran};
-ghost use Rattle.batch_walk.specs.Walked.{IsWalked};
+ghost use Rattle.lawful_runs.specs.Given.{IsLoaded};
 ghost use Rattle.gen_files.specs.Generated.{batch_text};
-ghost use Rattle.gen_run.specs.Generated.{capture_of, IsRunOf, IsGenerated};
+ghost use Rattle.gen_run.specs.Generated.{capture_of};
+ghost use Rattle.gen_run.specs.Workloads.{workload_of};
 
-use batch_walk::{BatchWalk, walk_batch};
-use gen_files::{gen_batch, gen_job, gen_packets};
-use pcap_io::{Capture, write};
+use crate::job::made_job;
+use gen_files::{gen_batch, gen_packets};
+use lawful_runs::{Captures, LoadedJob};
+use pcap_io::Capture;
 use std::alloc::Global;
-use tc_base::{Hook, NoMemory};
-use tc_words::lines;
+use tc_base::{Bytes, Files, NoMemory};
 
 /// A workload: its files, and what its job comes to.
 #[derive(Drop)]
@@ -54,51 +53,21 @@ fn capture_of(alloc: Global, filters: u32) -> Result<Capture, NoMemory>
     })
 }
 
-// Applies the generated batch, and walks the packets of the generated capture.
-fn walk_all<'a>(
-    alloc: Global,
-    filters: u32,
-    batch: &[u8],
-    capture: &'a Capture,
-) -> Result<BatchWalk<'a>, NoMemory>
-    requires few { filters ≤ GEN_MAX }
-    requires batch { batch.now ≡ batch_text filters }
-    requires capture { capture.now ≡ capture_of filters }
-    requires short { AreShort capture.now.packets }
-    ensures { IfOk result (λ walk. (ran : Ran) × IsRunOf filters ran
-        × IsWalked ran Ingress (capture_of filters) walk) }
-{
-    few_commands();
-    let texts = lines(alloc, batch)?;
-    walk_batch(alloc, &texts, Hook::Ingress, capture)
-}
-
-/// Makes a batch of so many filters, a capture that meets each twelve times, and the job that walks the one
-/// through the other, and runs that job. Its batch is over before its capture begins, so each packet's walk
-/// is the plain one. The names of the files begin with `front`.
+/// The job that walks a capture through the batch of so many filters, with the batch, and with the capture,
+/// which meets each filter twelve times. It can be run as it is.
 ///
 /// `NoMemory`: memory was refused.
-pub fn generate(alloc: Global, filters: u32, front: &str) -> Result<Generated, NoMemory>
+pub fn load_workload(alloc: Global, filters: u32) -> Result<LoadedJob, NoMemory>
     requires some { 1 ≤ filters }
     requires few { filters ≤ GEN_MAX }
-    ensures { IfOk result (λ made. (ran : Ran) × IsRunOf filters ran
-        × IsGenerated filters front.now ran made) }
+    ensures is { IfOk result (λ loaded. loaded ≡ workload_of filters) }
+    ensures loaded { IfOk result IsLoaded }
 {
-    let batch = gen_batch(alloc, filters)?;
+    let batch = Bytes::from_vec(gen_batch(alloc, filters)?);
     let capture = capture_of(alloc, filters)?;
-    let BatchWalk {
-        output,
-        text,
-        refused,
-    } = walk_all(alloc, filters, &batch, &capture)?;
-    let output = output.joined()?;
-    let capture = write(alloc, &capture)?;
-    Ok(Generated {
-        batch,
-        capture,
-        job: gen_job(alloc, front)?,
-        output,
-        text: text.closing,
-        refused,
+    Ok(LoadedJob {
+        job: made_job(alloc)?,
+        batches: Files::from_vec(Vec::from_array(alloc, [batch])?),
+        captures: Captures::from_vec(Vec::from_array(alloc, [capture])?),
     })
 }
