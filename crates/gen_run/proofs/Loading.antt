@@ -1,11 +1,11 @@
 -- The job of a workload can be run.
-use Rattle.std.proofs.Common.{◌≡◌, ◌∙◌, ◌*◌, ◌≤◌, ℕ, List, [], ◌∷◌, length, refl, ap, subst, arith}
-use Rattle.std.specs.List.{All}
+use Rattle.std.proofs.Common.{◌≡◌, ◌*◌, ◌≤◌, ℕ, [], length, refl, sym, subst, arith}
 use Rattle.std.proofs.lemmas.List.Elements.{All-nil, All-cons}
 use Rattle.std.proofs.lemmas.List.FromFn.{length-map-range_with_len}
 use Rattle.pcap_io.specs.declared.capture.Capture.{Capture}
 use Rattle.pcap_io.specs.Captures.{AreShort}
-use Rattle.job_lines.specs.Jobs.{IsName, IsBatch, IsRound, IsJob}
+use Rattle.job_lines.specs.Jobs.{IsBatch, IsRound, IsJob}
+use Rattle.lawful_runs.specs.declared.loaded.LoadedJob.{LoadedJob}
 use Rattle.lawful_runs.specs.Given.{IsLoaded}
 use Rattle.gen_files.specs.Generated.{packet_of, packets_of}
 use Rattle.gen_run.specs.Generated.{capture_of}
@@ -14,13 +14,13 @@ use Rattle.gen_run.proofs.LineFeeds.{few}
 
 -- ---- the job
 is_batch : IsBatch 1 batch_name
-is_batch = (omega arith, omega arith, (omega arith, tt))
+is_batch = (omega arith, omega arith, (omega arith, refl))
 
 first_round : IsRound 1 batch_round
 first_round = ((is_batch, tt), (tt, tt), tt)
 
 second_round : IsRound 1 capture_round
-second_round = (tt, tt, ((omega arith, tt), (omega arith, tt)))
+second_round = (tt, tt, ((omega arith, refl), (omega arith, refl)))
 
 pub is_job : IsJob made_job
 is_job = (omega arith, omega arith, omega arith, omega arith, (first_round, (second_round, tt)))
@@ -39,3 +39,7 @@ can_run filters most short =
       packets = omega (arith, many, most);
       frames = All-cons (λ (capture : Capture). AreShort capture.packets) (capture_of filters) [] short (All-nil (λ (capture : Capture). AreShort capture.packets));
     }
+
+-- so can the one that was loaded
+pub loaded_can_run : (filters : ℕ) (loaded : LoadedJob) → filters ≤ 4096 → loaded ≡ workload_of filters → AreShort (packets_of filters) → IsLoaded loaded
+loaded_can_run filters loaded most is short = subst IsLoaded (sym is) (can_run filters most short)

@@ -1,5 +1,5 @@
 -- The job of a workload as a run is given it (this project's own).
-use Rattle.std.specs.Prelude.{ℕ, false, List, [], ◌∷◌, None, Some, codes}
+use Rattle.std.specs.Prelude.{ℕ, false, [], ◌∷◌, None, Some, codes}
 use Rattle.tc_base.specs.declared.hook.Hook.TheVariants.{Ingress}
 use Rattle.job_lines.specs.declared.job.BatchName.{BatchName}
 use Rattle.job_lines.specs.declared.job.CaptureName.{CaptureName}
