@@ -12,7 +12,7 @@ use std::alloc::Global;
 use std::sync::Wait;
 use std::thread::Threads;
 use tc_base::{Gate, Shelf, Sink};
-use tool_run::run_gen;
+use tool_run::deliver_workload;
 use tool_words::Status;
 
 /// Makes a batch of so many filters, a capture, and a job of both, runs the job on threads, puts its files and
@@ -41,5 +41,5 @@ pub fn gen_counted<R: Threads + Wait + Sync, S: Shelf, O: Sink, G: Gate>(
 {
     let loaded = load_workload(alloc, count)?;
     let run = run_loaded(rt, alloc, &loaded, gates)?;
-    run_gen(alloc, count, front, &loaded, &run, shelf, out)
+    deliver_workload(alloc, count, front, &loaded, &run, shelf, out)
 }

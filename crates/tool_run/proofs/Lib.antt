@@ -12,3 +12,4 @@ pub mod Rechecking
 pub mod Running
 pub mod Walking
 pub mod Writing
+pub mod Workloads

@@ -13,8 +13,8 @@
 //!
 //! The run of a job needs threads, and so `run` and `gen` stand in the program, beside this: `obey` asks that
 //! the words are neither's. What they promise is said here all the same (`specs/Runs.antt`,
-//! `specs/Delivered.antt`), and so is the rest that needs no thread, of a run that is over: `put_outputs` puts
-//! the captures of a job, and `run_gen` puts the files of a workload and writes its text.
+//! `specs/Delivered.antt`), and so is the rest that needs no thread, of a run that is over: `put_outputs`
+//! puts the captures of a job, and `deliver_workload` puts the files of a workload and writes its text.
 //!
 //! None of it is a part of the program since nothing here needs a process: tests call it with a shelf and a
 //! sink of their own.
@@ -34,5 +34,5 @@ mod serving;
 mod text;
 
 pub use outputs::put_outputs;
-pub use run_gen::run_gen;
+pub use run_gen::deliver_workload;
 pub use serving::{ended, obey};

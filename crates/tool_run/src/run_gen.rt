@@ -1,7 +1,8 @@
-//! The command `gen`.
+//! The command `gen`, behind the run of its job.
 ghost use Rattle.gen_files.specs.declared.limits.TheConstants.{GEN_MAX};
 ghost use Rattle.std.specs.Prelude.{◌≡◌, ◌⊎◌, ◌≤◌, ◌++◌, string_bytes, IfOk, IfErr, OnOk};
 ghost use Rattle.batch_run.specs.Runs.{Ran};
+ghost use Rattle.lawful_runs.specs.Given.{IsLoaded};
 ghost use Rattle.lawful_runs.specs.Lawful.{IsLawfulRun};
 ghost use Rattle.gen_run.specs.Generated.{IsRunOf, IsGenerated};
 ghost use Rattle.gen_run.specs.Workloads.{workload_of};
@@ -34,7 +35,8 @@ fn generated(
 ) -> Result<Generated, NoMemory>
     requires some { 1 ≤ count }
     requires few { count ≤ GEN_MAX }
-    requires loaded { loaded.now ≡ workload_of count }
+    requires made { loaded.now ≡ workload_of count }
+    requires loaded { IsLoaded loaded.now }
     requires run { IsLawfulRun loaded.now run.now }
     ensures { IfOk result (λ made. (ran : Ran) × IsRunOf count ran × IsGenerated count front.now ran made) }
 {
@@ -121,7 +123,7 @@ fn deliver<S: Shelf, O: Sink>(
 /// Puts the files of a workload of so many filters, with the output of a lawful run of its job, under names
 /// that begin with `front`, and writes the counters and the summary of the run. Answers whether a line was
 /// refused.
-pub fn run_gen<S: Shelf, O: Sink>(
+pub fn deliver_workload<S: Shelf, O: Sink>(
     alloc: Global,
     count: u32,
     front: &str,
@@ -132,7 +134,8 @@ pub fn run_gen<S: Shelf, O: Sink>(
 ) -> Result<bool, Status>
     requires some { 1 ≤ count }
     requires few { count ≤ GEN_MAX }
-    requires loaded { loaded.now ≡ workload_of count }
+    requires made { loaded.now ≡ workload_of count }
+    requires loaded { IsLoaded loaded.now }
     requires run { IsLawfulRun loaded.now run.now }
     ensures done { IfOk result (λ refused. Made (S.held shelf.old) (S.held shelf.new) (O.written out.old)
         (O.written out.new) count front.now (status_after refused)) }
