@@ -7,12 +7,11 @@ ghost use Rattle.tool_run.specs.Causes.{CausedTo};
 ghost use Rattle.tool_run.specs.Delivered.{Made, LeavesAllUnlessRun, MadeSoFar};
 
 use crate::run_job::run_loaded;
-use gen_run::load_workload;
 use std::alloc::Global;
 use std::sync::Wait;
 use std::thread::Threads;
 use tc_base::{Gate, Shelf, Sink};
-use tool_run::deliver_workload;
+use tool_run::{deliver_workload, load_workload};
 use tool_words::Status;
 
 /// Makes a batch of so many filters, a capture, and a job of both, runs the job on threads, puts its files and

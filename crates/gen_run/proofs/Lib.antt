@@ -1,2 +1,1 @@
 pub mod LineFeeds
-pub mod Loading

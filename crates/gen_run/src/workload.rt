@@ -1,20 +1,16 @@
-//! All that `gen` makes.
+//! All that `gen` makes, and its capture.
 ghost use Rattle.gen_files.specs.declared.limits.TheConstants.{GEN_MAX};
 ghost use Rattle.std.specs.Prelude.{◌≡◌, ◌≤◌, ℕ, length, IfOk};
 ghost use Rattle.pcap_io.specs.Captures.{AreShort};
 ghost use Rattle.batch_run.specs.declared.limit.TheConstants.{COMMANDS_MAX};
 ghost use Rattle.batch_run.specs.Commands.{commands_of};
-ghost use Rattle.lawful_runs.specs.Given.{IsLoaded};
 ghost use Rattle.gen_files.specs.Generated.{batch_text};
 ghost use Rattle.gen_run.specs.Generated.{capture_of};
-ghost use Rattle.gen_run.specs.Workloads.{workload_of};
 
-use crate::job::made_job;
-use gen_files::{gen_batch, gen_packets};
-use lawful_runs::{Captures, LoadedJob};
+use gen_files::gen_packets;
 use pcap_io::Capture;
 use std::alloc::Global;
-use tc_base::{Bytes, Files, NoMemory};
+use tc_base::NoMemory;
 
 /// A workload: its files, and what its job comes to.
 #[derive(Drop)]
@@ -39,8 +35,10 @@ pub fn few_commands()
     ensures { (filters : ℕ) → filters ≤ GEN_MAX → length (commands_of (batch_text filters)) ≤ COMMANDS_MAX }
 {}
 
-// The capture that meets the generated batch.
-fn capture_of(alloc: Global, filters: u32) -> Result<Capture, NoMemory>
+/// The capture that meets each filter of the generated batch twelve times.
+///
+/// `NoMemory`: memory was refused.
+pub fn capture_of(alloc: Global, filters: u32) -> Result<Capture, NoMemory>
     requires some { 1 ≤ filters }
     requires few { filters ≤ GEN_MAX }
     ensures is { IfOk result (λ capture. capture ≡ capture_of filters) }
@@ -50,24 +48,5 @@ fn capture_of(alloc: Global, filters: u32) -> Result<Capture, NoMemory>
         big: false,
         nanos: false,
         packets: gen_packets(alloc, filters)?,
-    })
-}
-
-/// The job that walks a capture through the batch of so many filters, with the batch, and with the capture,
-/// which meets each filter twelve times. It can be run as it is.
-///
-/// `NoMemory`: memory was refused.
-pub fn load_workload(alloc: Global, filters: u32) -> Result<LoadedJob, NoMemory>
-    requires some { 1 ≤ filters }
-    requires few { filters ≤ GEN_MAX }
-    ensures is { IfOk result (λ loaded. loaded ≡ workload_of filters) }
-    ensures loaded { IfOk result IsLoaded }
-{
-    let batch = Bytes::from_vec(gen_batch(alloc, filters)?);
-    let capture = capture_of(alloc, filters)?;
-    Ok(LoadedJob {
-        job: made_job(alloc)?,
-        batches: Files::from_vec(Vec::from_array(alloc, [batch])?),
-        captures: Captures::from_vec(Vec::from_array(alloc, [capture])?),
     })
 }

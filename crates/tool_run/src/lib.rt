@@ -13,8 +13,10 @@
 //!
 //! The run of a job needs threads, and so `run` and `gen` stand in the program, beside this: `obey` asks that
 //! the words are neither's. What they promise is said here all the same (`specs/Runs.antt`,
-//! `specs/Delivered.antt`), and so is the rest that needs no thread, of a run that is over: `put_outputs`
-//! puts the captures of a job, and `deliver_workload` puts the files of a workload and writes its text.
+//! `specs/Delivered.antt`), and so is the rest that needs no thread. Of a run that is over `put_outputs` puts
+//! the captures; `load_workload` has the job of `gen` in memory, and `deliver_workload` puts the files of a
+//! workload and writes its text. That this text is that of plain walks, whatever the threads did, is the law of
+//! `quiet_jobs`.
 //!
 //! None of it is a part of the program since nothing here needs a process: tests call it with a shelf and a
 //! sink of their own.
@@ -26,13 +28,17 @@
 mod input;
 mod outputs;
 mod packet_line;
+mod quiet_jobs;
 mod run_gen;
 mod run_recheck;
 mod run_show;
 mod run_walk;
 mod serving;
 mod text;
+mod workloads;
 
 pub use outputs::put_outputs;
+pub use quiet_jobs::a_batch_then_a_capture;
 pub use run_gen::deliver_workload;
 pub use serving::{ended, obey};
+pub use workloads::load_workload;

@@ -8,28 +8,27 @@ use Rattle.walk_texts.specs.declared.summary.Summary.{Summary}
 use Rattle.run_report.specs.declared.rounds.RoundRecord.{RoundRecord}
 use Rattle.run_report.specs.Counts.{events_in, packets_in, summary_of}
 use Rattle.gen_run.specs.Generated.{capture_of}
-use Rattle.report_laws.proofs.ShortRuns.{events_few, packets_few}
 use Rattle.tool_run.specs.OfOutputs.Outputs.{passed_capture}
 use Rattle.tool_run.specs.OfOutputs.Ready.{AreWalks}
-use Rattle.tool_run.proofs.Workloads.{comes_to, only_capture, walks_of, same_output, any_refused}
+use Rattle.tool_run.proofs.MadeRuns.{comes_to, few_in, only_capture, walks_of, same_output, any_refused}
 use Rattle.tool_run.proofs.run_gen.generated.Goals as goal
 
 -- no more events and packets than a job may have
 pub summary_of-summary-requires-clause-events : goal.summary_of-summary-requires-clause-events
 summary_of-summary-requires-clause-events c =
-    let few = events_few c.args.loaded.now c.args.run.now c.requires.loaded c.requires.run in
+    let few = (few_in c.args.count c.args.loaded.now c.args.run.now c.requires.few c.requires.made c.requires.run).0 in
     let same = ap events_in c.as_slice-rounds.ensures in
     omega (arith, few, same)
 
 pub summary_of-summary-requires-clause-packets : goal.summary_of-summary-requires-clause-packets
 summary_of-summary-requires-clause-packets c =
-    let few = packets_few c.args.loaded.now c.args.run.now c.requires.loaded c.requires.run in
+    let few = (few_in c.args.count c.args.loaded.now c.args.run.now c.requires.few c.requires.made c.requires.run).1 in
     let same = ap packets_in c.as_slice-rounds.ensures in
     omega (arith, few, same)
 
 pub closing_text-requires-clause-few : goal.closing_text-requires-clause-few
 closing_text-requires-clause-few c =
-    let few = packets_few c.args.loaded.now c.args.run.now c.requires.loaded c.requires.run in
+    let few = (few_in c.args.count c.args.loaded.now c.args.run.now c.requires.few c.requires.made c.requires.run).1 in
     let same = ap packets_in c.as_slice-rounds.ensures in
     let within = c.summary_of-summary.ensures.within in
     omega (arith, few, same, within)

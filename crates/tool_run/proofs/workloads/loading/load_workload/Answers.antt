@@ -2,9 +2,9 @@ use Rattle.std.proofs.Common.{◌≡◌, ap, subst, arith}
 use Rattle.pcap_io.specs.declared.capture.Capture.{Capture}
 use Rattle.pcap_io.specs.Captures.{AreShort}
 use Rattle.lawful_runs.specs.declared.loaded.LoadedJob.{LoadedJob}
-use Rattle.gen_run.specs.Workloads.{workload_of}
-use Rattle.gen_run.proofs.Loading.{loaded_can_run}
-use Rattle.gen_run.proofs.workload.load_workload.Goals as goal
+use Rattle.tool_run.specs.Workloads.{workload_of}
+use Rattle.tool_run.proofs.Loading.{loaded_can_run}
+use Rattle.tool_run.proofs.workloads.loading.load_workload.Goals as goal
 
 pub returns-clause-loaded : goal.returns-clause-loaded
 returns-clause-loaded c =

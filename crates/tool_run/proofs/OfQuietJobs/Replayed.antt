@@ -14,7 +14,7 @@ use Rattle.capture_walk.specs.Captures.{outcomes_of, passed_one, passed, execute
 use Rattle.run_report.specs.declared.outcomes.Outcome.{Outcome}
 use Rattle.lawful_runs.specs.Outcomes.{IsRecordOf, left_packet, passed_of}
 use Rattle.lawful_runs.specs.Lawful.{executed_in as recorded_in}
-use Rattle.quiet_job_laws.specs.Ends.{AreRecordsOf}
+use Rattle.tool_run.specs.OfQuietJobs.Ends.{AreRecordsOf}
 
 -- a record at each place is a record of each walk
 pub records_from : (s : State) (hook : Hook) (packets : List Packet) (outcomes : List Outcome) → length outcomes ≡ length packets

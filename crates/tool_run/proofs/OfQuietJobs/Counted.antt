@@ -19,8 +19,8 @@ use Rattle.run_report.specs.declared.outcomes.Outcome.{Outcome}
 use Rattle.run_report.specs.Counts.{passed_count}
 use Rattle.run_report.specs.Reports.{counter_lines}
 use Rattle.lawful_runs.specs.Lawful.{counter_of}
-use Rattle.quiet_job_laws.specs.Ends.{AreRecordsOf}
-use Rattle.quiet_job_laws.proofs.Replayed.{pairs_of}
+use Rattle.tool_run.specs.OfQuietJobs.Ends.{AreRecordsOf}
+use Rattle.tool_run.proofs.OfQuietJobs.Replayed.{pairs_of}
 
 -- ---- packets
 pub same_length : (outcomes : List Outcome) (walks : List WalkOutcome) → AreRecordsOf outcomes walks → length outcomes ≡ length (map end_of walks)

@@ -1,6 +1,6 @@
 //! The job of a workload.
 ghost use Rattle.std.specs.Prelude.{◌≡◌, IfOk};
-ghost use Rattle.gen_run.specs.Workloads.{batch_round, capture_round, made_job};
+ghost use Rattle.tool_run.specs.Workloads.{batch_round, capture_round, made_job};
 
 use job_lines::{BatchName, BatchNames, CaptureName, Job, Round, Rounds};
 use std::alloc::{AllocError, Global};

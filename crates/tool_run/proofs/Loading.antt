@@ -9,7 +9,7 @@ use Rattle.lawful_runs.specs.declared.loaded.LoadedJob.{LoadedJob}
 use Rattle.lawful_runs.specs.Given.{IsLoaded}
 use Rattle.gen_files.specs.Generated.{packet_of, packets_of}
 use Rattle.gen_run.specs.Generated.{capture_of}
-use Rattle.gen_run.specs.Workloads.{batch_name, batch_round, capture_round, made_job, workload_of}
+use Rattle.tool_run.specs.Workloads.{batch_name, batch_round, capture_round, made_job, workload_of}
 use Rattle.gen_run.proofs.LineFeeds.{few}
 
 -- ---- the job

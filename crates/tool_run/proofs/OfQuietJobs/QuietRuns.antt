@@ -39,11 +39,11 @@ use Rattle.lawful_runs.proofs.Places.{each_from}
 use Rattle.lawful_runs.proofs.Results.{results_lawful}
 use Rattle.lawful_runs.proofs.Walks.{point_within, plain_at}
 use Rattle.lawful_runs.proofs.GivenCommands.{AreGiven, all_given}
-use Rattle.quiet_job_laws.specs.Jobs.{unforced, batch_round, capture_round, IsBatchThenCapture}
-use Rattle.quiet_job_laws.specs.Ends.{closing_of, AreRecordsOf, ComesToWalk}
-use Rattle.quiet_job_laws.proofs.Applied.{applied}
-use Rattle.quiet_job_laws.proofs.Replayed.{pairs_of, records_from, same_passed, same_executed}
-use Rattle.quiet_job_laws.proofs.Counted.{same_length, same_count, same_lines}
+use Rattle.tool_run.specs.OfQuietJobs.Jobs.{unforced, batch_round, capture_round, IsBatchThenCapture}
+use Rattle.tool_run.specs.OfQuietJobs.Ends.{closing_of, AreRecordsOf, ComesToWalk}
+use Rattle.tool_run.proofs.OfQuietJobs.Applied.{applied}
+use Rattle.tool_run.proofs.OfQuietJobs.Replayed.{pairs_of, records_from, same_passed, same_executed}
+use Rattle.tool_run.proofs.OfQuietJobs.Counted.{same_length, same_count, same_lines}
 
 -- ---- a round without batches has no events, and one without packets no outcomes
 no_events : (s : State) (events : List Event) (edits : List Edit) → AreResults [] s events edits → events ≡ []
@@ -98,6 +98,8 @@ record IsQuiet (commands : List Command) (hook : Hook) (capture : Capture) (its 
   accepted : ran.accepted ≡ accepted_count first.events
   events : length first.events ≡ accepted_count first.events + refused_count (is_some ran.stop)
   walked : AreRecordsOf second.outcomes (outcomes_of ran.state hook capture.packets)
+  few : length first.events ≤ length commands
+  one_each : length second.outcomes ≡ length capture.packets
 
 quiet_rounds : (workers control : ℕ) (commands : List Command) (hook : Hook) (capture : Capture) (its : List RoundRecord) (journal : List Edit) → AreGiven (unforced control commands ∷ [])
     → AreRounds workers (batch_round control commands ∷ capture_round hook capture ∷ []) [] [] its journal → IsQuiet commands hook capture its journal
@@ -125,6 +127,8 @@ quiet_rounds workers control commands hook capture (first ∷ second ∷ []) jou
       events = run.events_are;
       walked = subst (λ (s : State). AreRecordsOf second.outcomes (outcomes_of s hook capture.packets)) (sym run.state)
           (replayed workers hook capture edits others first.outcomes second lawful none two);
+      few = run.few;
+      one_each = two.walked.one_each ∙ length-map capture.packets (λ (p : Packet). record { hook = hook; packet = p });
     }
 
 -- ---- what is counted
@@ -195,12 +199,26 @@ comes_to_walk loaded run commands hook capture journal are is = (
   },
 )
 
--- EACH LAWFUL RUN OF SUCH A JOB
-pub quiet_runs : (loaded : LoadedJob) (run : RunRecord) (control : ℕ) (commands : List Command) (hook : Hook) (capture : Capture) → IsJob loaded.job → IsBatchThenCapture loaded control commands hook capture
-    → IsLawfulRun loaded run → (ran : Ran) × IsRun no_state 0 commands ran × ComesToWalk ran hook capture run
-quiet_runs loaded run control commands hook capture job shape (journal, are) =
-    let given : Each (λ (g : GivenRound). AreGiven g.batches) (batch_round control commands ∷ capture_round hook capture ∷ []) =
-    subst (Each (λ (g : GivenRound). AreGiven g.batches)) shape (all_given loaded job) in
-    comes_to_walk loaded run commands hook capture journal are
-    (quiet_rounds loaded.job.workers control commands hook capture run.rounds journal given.0
-    (subst (λ (rounds : List GivenRound). AreRounds loaded.job.workers rounds [] [] run.rounds journal) shape are.rounds))
+module _ (loaded : LoadedJob) (run : RunRecord) (control : ℕ) (commands : List Command) (hook : Hook) (capture : Capture) (job : IsJob loaded.job) (shape : IsBatchThenCapture loaded control commands hook capture) where
+  its_quiet : (journal : List Edit) → IsRunWith loaded run journal → IsQuiet commands hook capture run.rounds journal
+  its_quiet journal are =
+      let given : Each (λ (g : GivenRound). AreGiven g.batches) (batch_round control commands ∷ capture_round hook capture ∷ []) =
+      subst (Each (λ (g : GivenRound). AreGiven g.batches)) shape (all_given loaded job) in
+      quiet_rounds loaded.job.workers control commands hook capture run.rounds journal given.0
+      (subst (λ (rounds : List GivenRound). AreRounds loaded.job.workers rounds [] [] run.rounds journal) shape are.rounds)
+
+  -- EACH LAWFUL RUN OF SUCH A JOB
+  pub quiet_runs : IsLawfulRun loaded run → (ran : Ran) × IsRun no_state 0 commands ran × ComesToWalk ran hook capture run
+  quiet_runs (journal, are) = comes_to_walk loaded run commands hook capture journal are (its_quiet journal are)
+
+  -- has no more events than commands, and an outcome for each packet
+  pub few_in_run : IsLawfulRun loaded run → (events_in run.rounds ≤ length commands) × (packets_in run.rounds ≡ length capture.packets)
+  few_in_run (journal, are) =
+      let is = its_quiet journal are in
+      let none_more : length is.second.events ≡ 0 = ap length is.none_after in
+      let none_came : length is.first.outcomes ≡ 0 = ap length is.no_outcomes in
+      let events : events_in run.rounds ≡ 0 + length is.first.events + length is.second.events = ap events_in is.rounds in
+      let packets : packets_in run.rounds ≡ 0 + length is.first.outcomes + length is.second.outcomes = ap packets_in is.rounds in
+      let few = is.few in
+      let one_each = is.one_each in
+      (omega (arith, none_more, events, few), omega (arith, none_came, packets, one_each))

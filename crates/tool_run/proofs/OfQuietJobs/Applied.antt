@@ -1,5 +1,5 @@
 -- The events of a round with one batch that isn't forced are that batch's run, command by command.
-use Rattle.std.proofs.Common.{◌≡◌, ◌∙◌, ℕ, zero, suc, ◌+◌, Bool, false, cond, List, [], ◌∷◌, ◌++◌, length, Option, Some, None, Ok, inl, inr, refl, sym, ap, subst, eq-eqb, append_assoc, append-nil, arith}
+use Rattle.std.proofs.Common.{◌≡◌, ◌∙◌, ℕ, zero, suc, ◌+◌, ◌≤◌, Bool, false, cond, List, [], ◌∷◌, ◌++◌, length, Option, Some, None, Ok, inl, inr, refl, sym, ap, subst, eq-eqb, append_assoc, append-nil, arith}
 use Rattle.std.specs.Prelude.{is_some, ◌||◌, if◌then◌else◌}
 use Rattle.std.proofs.lemmas.List.Sums.{sum_by-cons}
 use Rattle.filter_state.specs.declared.edit.Edit.{Edit}
@@ -22,7 +22,7 @@ use Rattle.lawful_runs.specs.Given.{GivenBatch}
 use Rattle.lawful_runs.specs.Events.{IsAmong, events_of, GoesOn, IsThrough, IsLineOf, IsResult, AreResults, AreInOrder}
 use Rattle.lawful_runs.specs.Lawful.{made_by}
 use Rattle.lawful_runs.proofs.GivenCommands.{AreGiven, one_words}
-use Rattle.quiet_job_laws.specs.Jobs.{unforced}
+use Rattle.tool_run.specs.OfQuietJobs.Jobs.{unforced}
 
 -- ---- the lines of the one batch
 one_among : {X : Type 0} (x y : X) → IsAmong y (x ∷ []) → y ≡ x
@@ -64,6 +64,7 @@ pub record IsApplied (s : State) (so_far : SoFar) (commands : List Command) (edi
   pub made : ran.made ≡ so_far.made ++ made_by s edits
   pub accepted_are : ran.accepted ≡ so_far.accepted + accepted
   pub events_are : events ≡ accepted + refused_count (is_some ran.stop)
+  pub few : events ≤ length commands
 
 -- an accepted edit, and the run behind it
 goes_on : (s next : State) (done : Done) (so_far : SoFar) (command : Command) (commands : List Command) (edit : Edit) (first rest : List Edit) (events accepted : ℕ)
@@ -73,6 +74,7 @@ goes_on s next done so_far command commands edit first rest events accepted give
     let run : State → SoFar → Type 0 = λ after since. IsRunFrom after since commands more.ran in
     let count = more.accepted_are in
     let others = more.events_are in
+    let short = more.few in
     record {
       ran = more.ran;
       is = inl (edit, gives, subst (λ (st : Stepped). IsAfter run s so_far command.line st more.ran) (sym stepped) more.is);
@@ -82,18 +84,20 @@ goes_on s next done so_far command commands edit first rest events accepted give
           ∙ ap (λ (st : Stepped). so_far.made ++ (made_since s (state_after s st) ++ made_by (state_after s st) rest)) stepped);
       accepted_are = omega (arith, count);
       events_are = omega (arith, others);
+      few = omega (arith, short);
     }
 
 -- a run that ends here, with no edit
-ends : (s : State) (so_far : SoFar) (commands : List Command) (edits : List Edit) (events : ℕ) (stop : Option Stop) → edits ≡ [] → events ≡ refused_count (is_some stop)
+ends : (s : State) (so_far : SoFar) (commands : List Command) (edits : List Edit) (events : ℕ) (stop : Option Stop) → edits ≡ [] → events ≡ refused_count (is_some stop) → events ≤ length commands
     → IsRunFrom s so_far commands (ended s so_far stop) → IsApplied s so_far commands edits events 0
-ends s so_far commands edits events stop none count is = record {
+ends s so_far commands edits events stop none count short is = record {
   ran = ended s so_far stop;
   is = is;
   state = sym (ap (state_from s) none);
   made = sym (ap (λ (es : List Edit). so_far.made ++ made_by s es) none ∙ append-nil so_far.made);
   accepted_are = omega arith;
   events_are = omega (arith, count);
+  few = short;
 }
 
 -- a batch that stops has no further events, and so no further edits
@@ -114,22 +118,24 @@ by_kind (kinds.Refused refusal) batches s next so_far command commands events fi
     let long : length events ≡ 0 = ap length on in
     let none : accepted_count events ≡ 0 = ap accepted_count on in
     let count : suc (length events) ≡ refused_count (is_some stop) = omega (arith, long) in
+    let short : suc (length events) ≤ length (command ∷ commands) = omega (arith, long) in
     subst (IsApplied s so_far (command ∷ commands) (first ++ rest) (suc (length events))) (sym (ap (λ (n : ℕ). 0 + n) none))
-    (ends s so_far (command ∷ commands) (first ++ rest) (suc (length events)) stop (no_more batches next events [] first rest on results is) count
+    (ends s so_far (command ∷ commands) (first ++ rest) (suc (length events)) stop (no_more batches next events [] first rest on results is) count short
     (inl (edit, gives, subst (λ (st : Stepped). IsAfter run s so_far command.line st (ended s so_far stop)) (sym stepped) refl)))
 by_kind (kinds.Syntax word) batches s next so_far command commands events first rest (bad, same, is) on results more =
     let stop : Option Stop = Some (stops.Syntax command.line word) in
     let long : length events ≡ 0 = ap length on in
     let none : accepted_count events ≡ 0 = ap accepted_count on in
     let count : suc (length events) ≡ refused_count (is_some stop) = omega (arith, long) in
+    let short : suc (length events) ≤ length (command ∷ commands) = omega (arith, long) in
     subst (IsApplied s so_far (command ∷ commands) (first ++ rest) (suc (length events))) (sym (ap (λ (n : ℕ). 0 + n) none))
-    (ends s so_far (command ∷ commands) (first ++ rest) (suc (length events)) stop (no_more batches next events [] first rest on results is) count (inr (word, bad, refl)))
+    (ends s so_far (command ∷ commands) (first ++ rest) (suc (length events)) stop (no_more batches next events [] first rest on results is) count short (inr (word, bad, refl)))
 
 -- ---- all events
 module _ (control : ℕ) (whole : List Command) (given : AreGiven (unforced control whole ∷ [])) where
   applied_from : (s : State) (so_far : SoFar) (commands : List Command) (events : List Event) (edits : List Edit) → ((command : Command) → IsAmong command commands → IsAmong command whole)
       → IsThrough false commands events → AreResults (unforced control whole ∷ []) s events edits → IsApplied s so_far commands edits (length events) (accepted_count events)
-  applied_from s so_far [] [] edits within through results = ends s so_far [] edits 0 None results refl refl
+  applied_from s so_far [] [] edits within through results = ends s so_far [] edits 0 None results refl (omega arith) refl
   applied_from s so_far [] (event ∷ events) edits within through results = absurd (cc through)
   applied_from s so_far (command ∷ commands) [] edits within through results = absurd through
   applied_from s so_far (command ∷ commands) (event ∷ events) edits within through (words, next, first, rest, line, result, more, is) =

@@ -3,7 +3,7 @@ ghost use Rattle.std.specs.Prelude.{◌≡◌, ◌+◌, ◌<◌, ◌^◌, ◌++�
 ghost use Rattle.walk_texts.specs.Texts.{joined};
 ghost use Rattle.run_report.specs.Counts.{summary_of};
 ghost use Rattle.run_report.specs.Reports.{counter_lines};
-ghost use Rattle.quiet_job_laws.specs.Ends.{closing_of};
+ghost use Rattle.tool_run.specs.OfQuietJobs.Ends.{closing_of};
 
 use batch_run::MadeAction;
 use run_report::{CounterLine, RunRecord};
@@ -30,7 +30,7 @@ fn push_counters(out: &mut Vec<u8>, counters: &[CounterLine]) -> Result<(), Allo
 }
 
 /// The counters of a run, its summary, `end`.
-pub fn closing_text(
+pub(crate) fn closing_text(
     alloc: Global,
     run: &RunRecord,
     summary: &Summary,
