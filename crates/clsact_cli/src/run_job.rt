@@ -25,8 +25,8 @@ use tc_base::{Gate, NoMemory, Shelf, Sink};
 use tool_run::put_outputs;
 use tool_words::Status;
 
-// Runs a job over a hook of its own.
-fn run_loaded<R: Threads + Wait + Sync, G: Gate>(
+/// Runs a job over a hook of its own.
+pub(crate) fn run_loaded<R: Threads + Wait + Sync, G: Gate>(
     rt: &R,
     alloc: Global,
     loaded: &LoadedJob,

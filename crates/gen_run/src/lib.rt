@@ -1,13 +1,14 @@
 //! What the command `gen` makes: a workload of known outcome, with the outcome.
 //!
-//! `gen_files` has the contents of a batch, a capture and a job. `generate` runs that job: the batch on a
-//! state in which nothing stands, and each packet through what it leaves. The job has the batch in one round
-//! and the capture in the next, so no packet meets an edit on its way, and each walk is the plain one
-//! (`specs/Generated.antt`). Putting the files and writing the text are the caller's.
+//! `gen_files` has the contents of a batch, a capture and a job. That job has the batch in one round and the
+//! capture in the next, so no packet meets an edit on its way: what comes of it is the batch's run and each
+//! packet's plain walk over the state that it leaves (`specs/Generated.antt`). It is said so, and knows of no
+//! thread. That each run of the job on threads comes to just this is a law above this crate (`quiet_jobs` of
+//! `tool_run`), and so are the run, putting the files and writing the text.
 //!
 //! Each call keeps nothing. Any thread may call it. Not promised: that memory suffices.
 #![tactic(auto)]
 
 mod workload;
 
-pub use workload::{Generated, few_commands, generate};
+pub use workload::{Generated, capture_of, few_commands};

@@ -1,21 +1,16 @@
-//! All that `gen` makes.
+//! All that `gen` makes, and its capture.
 ghost use Rattle.gen_files.specs.declared.limits.TheConstants.{GEN_MAX};
 ghost use Rattle.std.specs.Prelude.{◌≡◌, ◌≤◌, ℕ, length, IfOk};
-ghost use Rattle.tc_base.specs.declared.hook.Hook.TheVariants.{Ingress};
 ghost use Rattle.pcap_io.specs.Captures.{AreShort};
 ghost use Rattle.batch_run.specs.declared.limit.TheConstants.{COMMANDS_MAX};
 ghost use Rattle.batch_run.specs.Commands.{commands_of};
-ghost use Rattle.batch_run.specs.Runs.{Ran};
-ghost use Rattle.batch_walk.specs.Walked.{IsWalked};
 ghost use Rattle.gen_files.specs.Generated.{batch_text};
-ghost use Rattle.gen_run.specs.Generated.{capture_of, IsRunOf, IsGenerated};
+ghost use Rattle.gen_run.specs.Generated.{capture_of};
 
-use batch_walk::{BatchWalk, walk_batch};
-use gen_files::{gen_batch, gen_job, gen_packets};
-use pcap_io::{Capture, write};
+use gen_files::gen_packets;
+use pcap_io::Capture;
 use std::alloc::Global;
-use tc_base::{Hook, NoMemory};
-use tc_words::lines;
+use tc_base::NoMemory;
 
 /// A workload: its files, and what its job comes to.
 #[derive(Drop)]
@@ -40,8 +35,10 @@ pub fn few_commands()
     ensures { (filters : ℕ) → filters ≤ GEN_MAX → length (commands_of (batch_text filters)) ≤ COMMANDS_MAX }
 {}
 
-// The capture that meets the generated batch.
-fn capture_of(alloc: Global, filters: u32) -> Result<Capture, NoMemory>
+/// The capture that meets each filter of the generated batch twelve times.
+///
+/// `NoMemory`: memory was refused.
+pub fn capture_of(alloc: Global, filters: u32) -> Result<Capture, NoMemory>
     requires some { 1 ≤ filters }
     requires few { filters ≤ GEN_MAX }
     ensures is { IfOk result (λ capture. capture ≡ capture_of filters) }
@@ -51,54 +48,5 @@ fn capture_of(alloc: Global, filters: u32) -> Result<Capture, NoMemory>
         big: false,
         nanos: false,
         packets: gen_packets(alloc, filters)?,
-    })
-}
-
-// Applies the generated batch, and walks the packets of the generated capture.
-fn walk_all<'a>(
-    alloc: Global,
-    filters: u32,
-    batch: &[u8],
-    capture: &'a Capture,
-) -> Result<BatchWalk<'a>, NoMemory>
-    requires few { filters ≤ GEN_MAX }
-    requires batch { batch.now ≡ batch_text filters }
-    requires capture { capture.now ≡ capture_of filters }
-    requires short { AreShort capture.now.packets }
-    ensures { IfOk result (λ walk. (ran : Ran) × IsRunOf filters ran
-        × IsWalked ran Ingress (capture_of filters) walk) }
-{
-    few_commands();
-    let texts = lines(alloc, batch)?;
-    walk_batch(alloc, &texts, Hook::Ingress, capture)
-}
-
-/// Makes a batch of so many filters, a capture that meets each twelve times, and the job that walks the one
-/// through the other, and runs that job. Its batch is over before its capture begins, so each packet's walk
-/// is the plain one. The names of the files begin with `front`.
-///
-/// `NoMemory`: memory was refused.
-pub fn generate(alloc: Global, filters: u32, front: &str) -> Result<Generated, NoMemory>
-    requires some { 1 ≤ filters }
-    requires few { filters ≤ GEN_MAX }
-    ensures { IfOk result (λ made. (ran : Ran) × IsRunOf filters ran
-        × IsGenerated filters front.now ran made) }
-{
-    let batch = gen_batch(alloc, filters)?;
-    let capture = capture_of(alloc, filters)?;
-    let BatchWalk {
-        output,
-        text,
-        refused,
-    } = walk_all(alloc, filters, &batch, &capture)?;
-    let output = output.joined()?;
-    let capture = write(alloc, &capture)?;
-    Ok(Generated {
-        batch,
-        capture,
-        job: gen_job(alloc, front)?,
-        output,
-        text: text.closing,
-        refused,
     })
 }

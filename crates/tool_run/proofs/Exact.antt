@@ -16,7 +16,7 @@ use Rattle.tool_words.specs.Ends.{status_after, IsAllDone}
 use Rattle.input_files.specs.Holdings.{Holds, HasBatch}
 use Rattle.input_files.specs.Failures.{ReadFails}
 use Rattle.tool_run.specs.Holdings.{HasRun}
-use Rattle.tool_run.specs.Work.{Ends, EndsOnly, IsRead}
+use Rattle.tool_run.specs.Work.{EndsOnly, IsRead}
 use Rattle.tool_run.specs.Causes.{DueTo, DueIn, AllowedTo, CausedTo, FailedOutside}
 use Rattle.tool_run.specs.Ready.{ShowReady, WalkReady, IsReady}
 use Rattle.tool_run.proofs.Due.{is_due, stands}

@@ -4,10 +4,13 @@ pub mod Generating
 pub mod JobFaults
 pub mod Lines
 pub mod Making
+pub mod Loading
 pub mod OfOutputs
+pub mod OfQuietJobs
 pub mod PacketLines
 pub mod Readings
 pub mod Rechecking
 pub mod Running
 pub mod Walking
 pub mod Writing
+pub mod MadeRuns

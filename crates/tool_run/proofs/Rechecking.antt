@@ -1,15 +1,14 @@
 -- The answer of a recheck that is due is one, and comes where its input is ready.
-use Rattle.std.proofs.Common.{◌≡◌, ◌⊎◌, inl, inr, ◌∙◌, ℕ, List, Option, Some, None, Result, Ok, Err, refl, sym, ap, subst}
+use Rattle.std.proofs.Common.{◌≡◌, ◌⊎◌, inl, inr, ◌∙◌, ℕ, List, Option, Some, None, Ok, Err, refl, sym, ap, subst}
 use Rattle.std.specs.Prelude.{IsSomeAnd}
 use Rattle.tc_base.specs.Outside.{Held, Rose}
 use Rattle.lawful_runs.specs.declared.loaded.LoadedJob.{LoadedJob}
 use Rattle.tool_words.specs.declared.status.InputKind.{InputKind}
 use Rattle.tool_words.specs.declared.status.Status.{Status}
 use Rattle.tool_words.specs.declared.status.Status.TheVariants as statuses
-use Rattle.tool_words.specs.Command.{Request, Recheck}
+use Rattle.tool_words.specs.Command.{Recheck}
 use Rattle.tool_words.specs.Ends.{IsAllDone}
 use Rattle.input_files.specs.Holdings.{Holds}
-use Rattle.input_files.specs.Failures.{ReadFails}
 use Rattle.input_files.proofs.Readings.{same_bytes}
 use Rattle.job_files.specs.Holdings.{HasJob}
 use Rattle.job_files.specs.Faults.{JobBreaks}

@@ -1,5 +1,5 @@
 -- The answer of a run that is due is the one that comes, and it comes where the job is ready.
-use Rattle.std.proofs.Common.{◌≡◌, ◌⊎◌, inl, inr, ◌∙◌, ℕ, List, Option, Some, None, Result, Ok, Err, refl, sym, subst}
+use Rattle.std.proofs.Common.{◌≡◌, ◌⊎◌, inl, inr, ◌∙◌, ℕ, List, Option, Some, None, Ok, Err, refl, sym, subst}
 use Rattle.std.specs.Prelude.{IsSomeAnd}
 use Rattle.tc_base.specs.Outside.{Held, Rose}
 use Rattle.lawful_runs.specs.declared.loaded.LoadedJob.{LoadedJob}
@@ -7,14 +7,12 @@ use Rattle.lawful_runs.specs.Lawful.{IsLawfulRun}
 use Rattle.tool_words.specs.declared.status.InputKind.{InputKind}
 use Rattle.tool_words.specs.declared.status.Status.{Status}
 use Rattle.tool_words.specs.declared.status.Status.TheVariants as statuses
-use Rattle.tool_words.specs.Command.{Request, Run}
+use Rattle.tool_words.specs.Command.{Run}
 use Rattle.tool_words.specs.Ends.{IsAllDone}
 use Rattle.input_files.specs.Holdings.{Holds}
-use Rattle.input_files.specs.Failures.{ReadFails}
-use Rattle.job_files.specs.Holdings.{HasJob}
 use Rattle.job_files.specs.Faults.{JobBreaks, JobReads}
 use Rattle.job_files.proofs.Exact.{stands}
-use Rattle.tool_run.specs.Runs.{status_of_run, JobEnds, JobEndsOnly}
+use Rattle.tool_run.specs.Runs.{JobEnds, JobEndsOnly}
 use Rattle.tool_run.specs.Causes.{DueTo, AllowedTo, CausedTo}
 use Rattle.tool_run.specs.Ready.{RunReady}
 use Rattle.tool_run.proofs.JobFaults.{IsJobBreak, one_job, no_break, one_break}

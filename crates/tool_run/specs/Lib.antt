@@ -4,9 +4,11 @@ pub mod Endings
 pub mod Holdings
 pub mod Made
 pub mod OfOutputs
+pub mod OfQuietJobs
 pub mod Parts
 pub mod Promises
 pub mod Ready
 pub mod Rechecks
 pub mod Runs
 pub mod Work
+pub mod Workloads

@@ -17,4 +17,5 @@
 mod passing;
 mod putting;
 
+pub(crate) use passing::passed_of;
 pub use putting::put_outputs;

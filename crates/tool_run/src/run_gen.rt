@@ -1,6 +1,11 @@
-//! The command `gen`.
+//! The command `gen`, behind the run of its job.
 ghost use Rattle.gen_files.specs.declared.limits.TheConstants.{GEN_MAX};
 ghost use Rattle.std.specs.Prelude.{◌≡◌, ◌⊎◌, ◌≤◌, ◌++◌, string_bytes, IfOk, IfErr, OnOk};
+ghost use Rattle.batch_run.specs.Runs.{Ran};
+ghost use Rattle.lawful_runs.specs.Given.{IsLoaded};
+ghost use Rattle.lawful_runs.specs.Lawful.{IsLawfulRun};
+ghost use Rattle.gen_run.specs.Generated.{IsRunOf, IsGenerated};
+ghost use Rattle.tool_run.specs.Workloads.{workload_of};
 ghost use Rattle.tc_base.specs.Outside.{Appended, AppendsUpTo, OthersStay, Stands};
 ghost use Rattle.tool_words.specs.Command.{Gen};
 ghost use Rattle.tool_words.specs.Ends.{status_after, IsAllDone};
@@ -9,11 +14,45 @@ ghost use Rattle.tool_run.specs.Made.{AllStand, AllElseStay, PutUpTo, files_in};
 ghost use Rattle.tool_run.specs.Parts.{PutFails, DeliveryFails};
 ghost use Rattle.tool_run.specs.Delivered.{Made, LeavesAllUnlessRun, MadeSoFar};
 
+use crate::outputs::passed_of;
 use crate::text::write_text;
-use gen_run::{Generated, generate};
+use crate::workloads::closing_text;
+use gen_files::{gen_batch, gen_job};
+use gen_run::Generated;
+use lawful_runs::LoadedJob;
+use pcap_io::write;
+use run_report::{RunRecord, summary_of};
 use std::alloc::{AllocError, Global};
-use tc_base::{Shelf, Sink};
+use tc_base::{NoMemory, Shelf, Sink};
 use tool_words::Status;
+
+// A workload with what a lawful run of its job came to.
+fn generated(
+    alloc: Global,
+    count: u32,
+    front: &str,
+    loaded: &LoadedJob,
+    run: &RunRecord,
+) -> Result<Generated, NoMemory>
+    requires some { 1 ≤ count }
+    requires few { count ≤ GEN_MAX }
+    requires made { loaded.now ≡ workload_of count }
+    requires loaded { IsLoaded loaded.now }
+    requires run { IsLawfulRun loaded.now run.now }
+    ensures { IfOk result (λ made. (ran : Ran) × IsRunOf count ran × IsGenerated count front.now ran made) }
+{
+    let capture = &loaded.captures.as_slice()[0];
+    let rounds = run.rounds.as_slice();
+    let summary = summary_of(rounds);
+    Ok(Generated {
+        batch: gen_batch(alloc, count)?,
+        capture: write(alloc, capture)?,
+        job: gen_job(alloc, front)?,
+        output: passed_of(alloc, capture, &rounds[1].outcomes)?.joined()?,
+        text: closing_text(alloc, run, &summary)?,
+        refused: summary.refused > 0,
+    })
+}
 
 // The name of a file.
 fn name_of(alloc: Global, front: &str, ending: &str) -> Result<String, AllocError>
@@ -82,18 +121,23 @@ fn deliver<S: Shelf, O: Sink>(
     Ok(write_text(&made.text, out)?)
 }
 
-/// Makes a batch of so many filters, a capture, and a job of both, runs the job, puts its files and its
-/// output under names that begin with `front`, and writes the counters and the summary. Answers whether a
-/// line was refused.
-pub fn run_gen<S: Shelf, O: Sink>(
+/// Puts the files of a workload of so many filters, with the output of a lawful run of its job, under names
+/// that begin with `front`, and writes the counters and the summary of the run. Answers whether a line was
+/// refused.
+pub fn deliver_workload<S: Shelf, O: Sink>(
     alloc: Global,
     count: u32,
     front: &str,
+    loaded: &LoadedJob,
+    run: &RunRecord,
     shelf: &mut S,
     out: &mut O,
 ) -> Result<bool, Status>
     requires some { 1 ≤ count }
     requires few { count ≤ GEN_MAX }
+    requires made { loaded.now ≡ workload_of count }
+    requires loaded { IsLoaded loaded.now }
+    requires run { IsLawfulRun loaded.now run.now }
     ensures done { IfOk result (λ refused. Made (S.held shelf.old) (S.held shelf.new) (O.written out.old)
         (O.written out.new) count front.now (status_after refused)) }
     ensures cause { IfErr result (CausedTo S.held S.read_faults S.failed_name S.write_faults O.faults
@@ -104,7 +148,7 @@ pub fn run_gen<S: Shelf, O: Sink>(
     ensures so_far { MadeSoFar (S.held shelf.old) (S.held shelf.new) (O.written out.old) (O.written out.new)
         count front.now }
 {
-    let made = generate(alloc, count, front)?;
+    let made = generated(alloc, count, front, loaded, run)?;
     deliver(alloc, front, &made, shelf, out)?;
     Ok(made.refused)
 }

@@ -1,7 +1,7 @@
 //! The command that the words are, and its run.
 ghost use Rattle.std.specs.Prelude.{◌≡◌, false};
-ghost use Rattle.tool_words.specs.Command.{texts, request_of, is_run, asks_for_run, asks_for_job};
-ghost use Rattle.tool_words.specs.Requests.{request, HasFewFilters};
+ghost use Rattle.tool_words.specs.Command.{texts, request_of, runs_job, asks_for_job};
+ghost use Rattle.tool_words.specs.Requests.{request};
 ghost use Rattle.tool_words.specs.Ends.{status_after, IsAllDone};
 ghost use Rattle.tool_run.specs.Causes.{CausedTo};
 ghost use Rattle.tool_run.specs.Rechecks.{status_of_check};
@@ -9,7 +9,6 @@ ghost use Rattle.tool_run.specs.Delivered.{DeliveredTo, LeavesAllUnlessRun, Came
 ghost use Rattle.tool_run.specs.Promises.{UsageExactlyForNoCommand, DoneOnlyIfDelivered, HasCause};
 ghost use Rattle.tool_run.specs.Promises.{DueUnlessFailed, DoneIfReady, NothingIfAtFault, CameInOrder};
 
-use crate::run_gen::run_gen;
 use crate::run_recheck::run_recheck;
 use crate::run_show::run_show;
 use crate::run_walk::run_walk;
@@ -18,7 +17,9 @@ use std::alloc::Global;
 use tc_base::{Shelf, Sink};
 use tool_words::{Command, Status, WalkNames, command_of};
 
-fn ended(refused: bool) -> Status
+/// How a command ends that applied a batch, of which a line was refused or none: a batch stops at its first
+/// refused line.
+pub fn ended(refused: bool) -> Status
     ensures { result ≡ status_after refused }
 {
     if refused {
@@ -37,15 +38,14 @@ fn judged(check: Check) -> Status
     }
 }
 
-// Does what a command asks for that is no run of a job.
+// Does what a command asks for that runs no job.
 fn serve<S: Shelf, O: Sink>(
     alloc: Global,
     command: Command<'_>,
     shelf: &mut S,
     out: &mut O,
 ) -> Status
-    requires few { HasFewFilters command }
-    requires other { is_run (request command) ≡ false }
+    requires { runs_job (request command) ≡ false }
     ensures done { IsAllDone result → DeliveredTo (S.held shelf.old) (S.held shelf.new) (O.written out.old)
         (O.written out.new) (request command.entry) result }
     ensures cause { CausedTo S.held S.read_faults S.failed_name S.write_faults O.faults shelf.old shelf.new
@@ -80,43 +80,13 @@ fn serve<S: Shelf, O: Sink>(
             Ok(check) => judged(check),
             Err(status) => status,
         },
-        Command::Gen { count, front } => match run_gen(alloc, count, front, shelf, out) {
-            Ok(refused) => ended(refused),
-            Err(status) => status,
-        },
-        Command::Run { .. } => unreachable!(),
+        Command::Run { .. } | Command::Gen { .. } => unreachable!(),
     }
 }
 
-/// Does what the words say, on lists and without threads: every command but the run of a job. It returns
-/// always.
+/// Does what the words say, on lists and without threads, for the commands that run no job: all but `run` and
+/// `gen`. It returns always.
 pub fn obey<S: Shelf, O: Sink>(
-    alloc: Global,
-    words: &[String],
-    shelf: &mut S,
-    out: &mut O,
-) -> Status
-    requires { asks_for_run (request_of (texts words.now)) ≡ false }
-    ensures usage { UsageExactlyForNoCommand (texts words.now) result }
-    ensures done { DoneOnlyIfDelivered S.held O.written shelf.old shelf.new out.old out.new (texts words.now)
-        result }
-    ensures cause { HasCause S.held S.read_faults S.failed_name S.write_faults O.faults
-        shelf.old shelf.new out.old out.new (texts words.now) result }
-    ensures exact { DueUnlessFailed S.held S.read_faults S.write_faults O.faults
-        shelf.old shelf.new out.old out.new (texts words.now) result }
-    ensures complete { DoneIfReady S.held S.read_faults S.write_faults O.faults
-        shelf.old shelf.new out.old out.new (texts words.now) result }
-    ensures nothing { NothingIfAtFault S.held O.written shelf.old shelf.new out.old out.new result }
-    ensures so_far { CameInOrder S.held O.written shelf.old shelf.new out.old out.new (texts words.now) }
-{
-    match command_of(words) {
-        None => Status::Usage,
-        Some(command) => serve(alloc, command, shelf, out),
-    }
-}
-
-/// Does what the words say, for the commands that run no job. It returns always.
-pub fn plain<S: Shelf, O: Sink>(
     alloc: Global,
     words: &[String],
     shelf: &mut S,
@@ -135,5 +105,8 @@ pub fn plain<S: Shelf, O: Sink>(
     ensures nothing { NothingIfAtFault S.held O.written shelf.old shelf.new out.old out.new result }
     ensures so_far { CameInOrder S.held O.written shelf.old shelf.new out.old out.new (texts words.now) }
 {
-    obey(alloc, words, shelf, out)
+    match command_of(words) {
+        None => Status::Usage,
+        Some(command) => serve(alloc, command, shelf, out),
+    }
 }

@@ -71,18 +71,6 @@ request_of (verb ∷ first ∷ second ∷ []) = request_of_two verb first second
 request_of (verb ∷ hook ∷ batch ∷ capture ∷ output ∷ []) = request_of_four verb hook batch capture output
 request_of words = None
 
--- what the threads of a run do decides how it ends; every other command's answer follows from its input
-abbrev pub is_run : Request → Bool
-is_run (Walk hook batch capture output) = false
-is_run (Show batch) = false
-is_run (Run job) = true
-is_run (Recheck job report) = false
-is_run (Gen count front) = false
-
-abbrev pub asks_for_run : Option Request → Bool
-asks_for_run None = false
-asks_for_run (Some request) = is_run request
-
 -- a command that runs a job, and so may start threads
 abbrev pub runs_job : Request → Bool
 runs_job (Walk hook batch capture output) = false

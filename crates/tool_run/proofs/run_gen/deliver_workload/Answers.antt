@@ -3,7 +3,7 @@ use Rattle.std.proofs.lemmas.Result.{err_from_is_err_and}
 use Rattle.tool_words.specs.Command.{Gen}
 use Rattle.tool_run.proofs.Generating.{made_all, made_so_far, nothing_made, gen_ends}
 use Rattle.tool_run.proofs.Writing.{delivery_caused}
-use Rattle.tool_run.proofs.run_gen.run_gen.Goals as goal
+use Rattle.tool_run.proofs.run_gen.deliver_workload.Goals as goal
 
 pub returns-in_err-made-clause-so_far : goal.returns-in_err-made-clause-so_far
 returns-in_err-made-clause-so_far g c =

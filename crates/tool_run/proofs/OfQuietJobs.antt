@@ -1,0 +1,4 @@
+pub mod Applied
+pub mod Replayed
+pub mod Counted
+pub mod QuietRuns
