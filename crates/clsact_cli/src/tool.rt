@@ -68,7 +68,7 @@ fn serve_gen<R: Threads + Wait + Sync, S: Shelf, O: Sink, G: Gate>(
     }
 }
 
-/// Does what the words say. Where they ask for the run of a job, it starts threads and waits for them; for
+/// Does what the words say. For `run` and `gen`, which run a job, it starts threads and waits for them; for
 /// every other command it starts none and returns always.
 pub fn tool<R: Threads + Wait + Sync, S: Shelf, O: Sink, G: Gate>(
     rt: &R,
