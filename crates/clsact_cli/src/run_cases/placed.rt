@@ -63,11 +63,11 @@ impl Placed<'_> {
         self.judge_run(alloc, &schedule, &past, &ran)
     }
 
-    fn judge_run(
+    fn judge_run<'a>(
         &self,
         alloc: Global,
-        schedule: &Schedule<'_>,
-        past: &Past,
+        schedule: &'a Schedule<'_>,
+        past: &'a Past,
         ran: &Ran,
     ) -> Result<(), Trouble> {
         if !ran.is_lawful || !are_counted(&ran.run) {
@@ -135,15 +135,15 @@ fn are_met(past: &Past, round: &RoundRecord, lines: usize) -> bool {
 
 // A packet that is judged.
 #[derive(Drop)]
-struct Packet<'a> {
+struct Packet<'a, 'b> {
     alloc: Global,
-    schedule: &'a Schedule<'a>,
+    schedule: &'a Schedule<'b>,
     past: &'a Past,
     number: usize,
     host: u32,
 }
 
-impl Packet<'_> {
+impl Packet<'_, '_> {
     fn judge(&self, placed: &Placed<'_>, round: &RoundRecord) -> Result<(), Trouble> {
         let place = self.number.saturating_sub(1);
         if place >= round.outcomes.len() {
