@@ -1,5 +1,6 @@
 //! The lines of a round's events.
-ghost use Rattle.std.specs.Prelude.{◌≡◌, ◌+◌, ◌<◌, ◌≤◌, ◌^◌, ◌++◌, length, IfOk, OnOk, IsErrOf, if◌then◌else◌};
+ghost use Rattle.std.specs.Prelude.{◌≡◌, ◌+◌, ◌<◌, ◌≤◌, ◌^◌, ◌++◌, length, IfOk, OnOk, IsErrOf};
+ghost use Rattle.std.specs.Prelude.{if◌then◌else◌};
 ghost use Rattle.tc_base.specs.Outside.{AppendsUpTo, Rose};
 ghost use Rattle.walk_texts.specs.Texts.{joined};
 ghost use Rattle.run_report.specs.Counts.{is_accepted, accepted_count};
@@ -62,8 +63,8 @@ fn accepted(event: &Event) -> u32
     u32::from(matches!(event.kind, EventKind::Accepted(_)))
 }
 
-/// Writes a line for each event of a round before which so many edits were accepted, and answers how many were
-/// accepted then.
+/// Writes a line for each event of a round before which so many edits were accepted, and answers how many
+/// were accepted then.
 pub(crate) fn write_events<O: Sink>(
     page: &mut Vec<u8>,
     out: &mut O,

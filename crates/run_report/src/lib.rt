@@ -13,11 +13,12 @@
 //! names a state by the same number. A frame's line has its length, and not its bytes. The last line is
 //! `end`, by which a report that was cut off is known.
 //!
-//! A report may be as long as what it tells of, so it is never held whole. Its lines are put on a page of some
-//! 256 KiB, which is handed to the sink when it is full, and then begun again in the same memory (`page`): few
-//! calls of the sink, and none for a line alone. Where packets' lines tell the same but for their numbers, that
-//! is made once (`packet_tails`), and a number is counted up in its digits (`line_head`). The line of an event and that of a packet can also be had alone, from what
-//! they show (`push_event_line`, `push_packet_line`), for whoever compares a report line by line.
+//! A report may be as long as what it tells of, so it is never held whole. Its lines are put on a page of
+//! some 256 KiB, which is handed to the sink when it is full, and then begun again in the same memory
+//! (`page`): few calls of the sink, and none for a line alone. Where packets' lines tell the same but for
+//! their numbers, that is made once (`packet_tails`), and a number is counted up in its digits (`line_head`).
+//! The line of an event and that of a packet can also be had alone, from what they show (`push_event_line`,
+//! `push_packet_line`), for whoever compares a report line by line.
 //!
 //! A round has as many outcomes as packets. Whoever walks packets puts their outcomes into an `OutcomeList`,
 //! which keeps frames, points and executions in three buffers that all share, and lends an outcome by its row.

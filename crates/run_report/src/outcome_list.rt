@@ -18,8 +18,8 @@ struct Ends {
     executed: usize,
 }
 
-// The record of a packet, but for its lists: each of them begins where that of the packet before ends. There are
-// as many as packets, so its numbers stand side by side, which makes it 40 bytes.
+// The record of a packet, but for its lists: each of them begins where that of the packet before ends. There
+// are as many as packets, so its numbers stand side by side, which makes it 40 bytes.
 #[derive(Clone, Copy, Debug)]
 struct Row {
     ends: Ends,

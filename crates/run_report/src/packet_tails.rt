@@ -1,5 +1,5 @@
-//! What the line of a packet tells behind its number. Packets that come one after the other and are passed, or
-//! dropped, often have all of it in common, and then it is made once.
+//! What the line of a packet tells behind its number. Packets that come one after the other and are passed,
+//! or dropped, often have all of it in common, and then it is made once.
 ghost use Rattle.std.specs.Prelude.{◌≡◌, ◌++◌, true, OnOk};
 ghost use Rattle.run_report.specs.Kept.{outcome_seen};
 ghost use Rattle.run_report.specs.PacketTails.{packet_tail, IsTold};
