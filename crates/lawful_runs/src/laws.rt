@@ -22,7 +22,7 @@ ghost use Rattle.lawful_runs.specs.Points.{seen_by};
 ghost use Rattle.lawful_runs.specs.Outcomes.{IsRecordOf, IsWalked};
 ghost use Rattle.lawful_runs.specs.Lawful.{IsRunWith, IsLawfulRun, IsLawfulReport, outcomes_in};
 
-/// The text that `report` makes of a lawful run is a lawful report.
+/// The text that `write_report` writes of a lawful run is a lawful report.
 pub fn reports_of_runs()
     ensures { (loaded : LoadedJob) (run : RunRecord) (bytes : List ℕ) → IsLawfulRun loaded run
         → bytes ≡ report_text run → IsLawfulReport loaded bytes }
