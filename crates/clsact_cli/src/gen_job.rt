@@ -14,9 +14,9 @@ use tc_base::{Gate, Shelf, Sink};
 use tool_run::{deliver_workload, load_workload};
 use tool_words::Status;
 
-/// Makes a batch of so many filters, a capture, and a job of both, runs the job on threads, puts its files and
-/// its output under names that begin with `front`, and writes the counters and the summary of the run. Answers
-/// whether a line was refused.
+/// Makes a batch of so many filters, a capture, and a job of both, runs the job on threads, puts its files
+/// and its output under names that begin with `front`, and writes the counters and the summary of the run.
+/// Answers whether a line was refused.
 pub fn gen_counted<R: Threads + Wait + Sync, S: Shelf, O: Sink, G: Gate>(
     rt: &R,
     alloc: Global,

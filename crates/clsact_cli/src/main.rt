@@ -4,8 +4,8 @@
 //! it: real files, standard output, the text of a status on standard error, the exit number. What the words
 //! may be and what each status says is `tool_words`; what a command does is `tool_run`. `tool` has the
 //! promise of all that (`specs/Promises.antt` of `tool_run`). It picks: `run_job` and `gen_job` run a job on
-//! threads over a shared hook (`job_rounds`), one that files say and one that is made, and every other command
-//! is `tool_run`'s `obey`, which stands on no thread and on no crate of the shared hook.
+//! threads over a shared hook (`job_rounds`), one that files say and one that is made, and every other
+//! command is `tool_run`'s `obey`, which starts no thread and calls nothing of the shared hook.
 //!
 //! One thread calls all of this. `tool` alone starts others, for `run` and `gen`, and none is left when it
 //! returns.

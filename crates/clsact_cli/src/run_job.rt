@@ -63,7 +63,7 @@ fn deliver<S: Shelf, O: Sink>(
 }
 
 // How a run ends: with how many of its lines were refused.
-fn ended(run: &RunRecord) -> Status
+fn status_of(run: &RunRecord) -> Status
     requires events { events_in run.now.rounds < 2 ^ 32 }
     requires packets { packets_in run.now.rounds < 2 ^ 64 }
     ensures status { result ≡ status_of_run run.now }
@@ -101,5 +101,5 @@ pub fn run_named<R: Threads + Wait + Sync, S: Shelf, O: Sink, G: Gate>(
     let loaded = load_job(alloc, shelf, job)?;
     let run = run_loaded(rt, alloc, &loaded, gates)?;
     deliver(alloc, &loaded, &run, shelf, out)?;
-    Ok(ended(&run))
+    Ok(status_of(&run))
 }

@@ -2,6 +2,7 @@
 //! (`faults`). What the program does with files stands in the folder cases/.
 mod fault_table;
 mod faults;
+mod gateway;
 
 use crate::tool::tool;
 use std::alloc::{AllocError, Global};
@@ -46,14 +47,20 @@ fn word(big: bool, number: u8) -> [u8; 4] {
     }
 }
 
-// Adds packet `number`, whose frame goes to 10.0.0.`number`.
-fn add(bytes: &mut Vec<u8>, big: bool, number: u8) -> Result<(), AllocError> {
-    for part in [number, 0, 60, 60] {
+// Adds packet `number`, with its frame.
+fn add_frame(bytes: &mut Vec<u8>, big: bool, number: u8, frame: &[u8]) -> Result<(), AllocError> {
+    let length = u8::try_from(frame.len()).unwrap_or(u8::MAX);
+    for part in [number, 0, length, length] {
         bytes.extend_from_slice(&word(big, part))?;
     }
+    bytes.extend_from_slice(frame)
+}
+
+// Adds packet `number`, whose frame goes to 10.0.0.`number`.
+fn add(bytes: &mut Vec<u8>, big: bool, number: u8) -> Result<(), AllocError> {
     let mut frame = FRAME;
     frame[33] = number;
-    bytes.extend_from_slice(&frame)
+    add_frame(bytes, big, number, &frame)
 }
 
 fn two_packets(alloc: Global, big: bool) -> Result<Vec<u8>, AllocError> {

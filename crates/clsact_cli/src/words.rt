@@ -9,15 +9,16 @@ use tool_words::Status;
 // How long a word may be at first; the room is doubled for one that is longer.
 const WORD_ROOM: usize = 4096;
 
-// How often: Linux gives no word of more than 131,072 bytes (execve(2)).
-const DOUBLINGS: u32 = 32;
+// How often room is tried. Linux gives no word of more than 32 pages (execve(2)): the sixth try holds that
+// where pages have 4,096 bytes, and the tenth where they have 65,536.
+const TRIES: u32 = 10;
 
 // The word at a place behind the program's own name, or none where the words have ended.
 fn word_at<R: Env + AllocGlobal>(rt: &R, place: usize) -> Result<Option<String>, Status>
     ensures cause { IfErr result (λ status. (status ≡ statuses.Usage) ⊎ (status ≡ statuses.NoMemory)) }
 {
     let mut room = WORD_ROOM;
-    for _ in 0..DOUBLINGS {
+    for _ in 0..TRIES {
         let mut bytes = vec![in rt.alloc(); 0u8; room]?;
         match rt.arg(place, &mut bytes) {
             Ok(length) => {

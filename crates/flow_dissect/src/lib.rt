@@ -25,8 +25,6 @@ ghost use Rattle.flow_dissect.specs.Fields.{frame_values};
 mod link;
 mod network;
 mod numbers;
-#[cfg(test)]
-mod tests;
 mod transport;
 
 use flow_fields::Key;

@@ -24,8 +24,6 @@ pub mod field;
 mod key;
 mod laws;
 mod table;
-#[cfg(test)]
-mod tests;
 
 pub use access::{get, set};
 pub use key::Key;

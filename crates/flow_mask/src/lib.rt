@@ -27,8 +27,6 @@ mod hashing;
 mod masked_key;
 mod matching;
 mod sizes;
-#[cfg(test)]
-mod tests;
 
 pub use hashing::hash;
 pub use masked_key::MaskedKey;

@@ -19,8 +19,6 @@ mod frame;
 mod limits;
 mod meta;
 mod tag;
-#[cfg(test)]
-mod tests;
 
 pub use frame::{Frame, NoRoom};
 pub use limits::FRAME_MAX;

@@ -13,8 +13,6 @@ mod batch;
 mod job;
 mod limits;
 mod packets;
-#[cfg(test)]
-mod tests;
 
 pub use batch::gen_batch;
 pub use job::gen_job;

@@ -4,8 +4,8 @@
 //! memory, where it is there, is enough; that edits at random are answered as plain lists, kept apart, answer
 //! them (`random`); that a reader that walks while such edits are made is told, at each visit, what plain
 //! lists at the visit's point say (`meanwhile`); that edits between two given visits give a walk the points
-//! that were worked out by hand (`scripts`); and that a reader that stays inside holds edits up, by the answer
-//! that was worked out by hand, and no longer than it stays (`holding`).
+//! that were worked out by hand (`scripts`); and that a reader that stays inside holds edits up, by the
+//! answer that was worked out by hand, and no longer than it stays (`holding`).
 //!
 //! # How it is tried
 //!
@@ -52,3 +52,5 @@ mod scripts;
 mod trouble;
 #[cfg(test)]
 mod walker;
+#[cfg(test)]
+mod wanting;

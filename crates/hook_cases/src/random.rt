@@ -70,8 +70,8 @@ fn count_in(tables: &[FilterTable]) -> (u32, u32) {
     (filters, masks)
 }
 
-// How many filters, masks and live actions there are.
-fn in_use(lists: &Lists) -> (u32, u32, u32) {
+/// How many filters, masks and live actions there are.
+pub(crate) fn in_use(lists: &Lists) -> (u32, u32, u32) {
     let (ingress, its_masks) = count_in(lists.tables(Hook::Ingress));
     let (egress, other_masks) = count_in(lists.tables(Hook::Egress));
     (
@@ -87,8 +87,8 @@ fn rest(desk: &Desk, pool: Pool, all: u32) -> u32 {
         .wrapping_sub(desk.retired(pool))
 }
 
-// Whether what is free, what left and what the plain lists have in use are all that there are.
-fn adds_up(desk: &Desk, lists: &Lists) -> bool {
+/// Whether what is free, what left and what the plain lists have in use are all that there are.
+pub(crate) fn adds_up(desk: &Desk, lists: &Lists) -> bool {
     let (filters, masks, actions) = in_use(lists);
     rest(desk, Pool::MaskRoots, 8_192) == masks
         && rest(desk, Pool::ActionRoots, 2_048) == actions

@@ -159,8 +159,8 @@ const SCRIPTS: &[Script] = &[
         executed: &[(2, 42), (2, 42)],
         verdict: Verdict::Pass,
     },
-    // Edit 14 gives the filter an action that restarts the walk, in the tables that its head told: the mask is
-    // looked up again, and edit 15 has the action drop.
+    // Edit 14 gives the filter an action that restarts the walk, in the tables that its head told: the mask
+    // is looked up again, and edit 15 has the action drop.
     Script {
         about: "a restart comes to the same mask and to an action that is another one then",
         turns: &[

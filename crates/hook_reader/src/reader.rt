@@ -58,6 +58,8 @@ impl HookReader {
     ghost use Rattle.pin_store.specs.Calls.{IsSeatOf, IsSameReader, sheet_of};
 
     /// A reader that has made no walk.
+    ///
+    /// `NoMemory`: memory was refused. No other call takes any.
     pub fn new(alloc: Global, reader: Reader<HookLaw>) -> Result<HookReader, NoMemory>
         requires outside { floor_of reader.place ≡ None }
         ensures place { IfOk result (λ r. r.place ≡ reader.place) }

@@ -36,7 +36,5 @@
 
 pub mod edits;
 mod law;
-#[cfg(test)]
-mod tests;
 
 pub use law::{HookLaw, HookStore};

@@ -9,6 +9,8 @@ use tc_base::{Fetch, Shelf};
 use tool_words::Status;
 
 /// The bytes under a name.
+///
+/// `ReadFault`: nothing stands under the name, or it could not be read. `NoMemory`: memory was refused.
 pub fn load<S: Shelf>(alloc: Global, shelf: &mut S, name: &str) -> Result<Vec<u8>, Status>
     ensures bytes { IfOk result (λ v. Holds (S.held shelf.old) name.now v.items) }
     ensures cause { IfErr result (LoadFails S.held S.read_faults S.failed_name shelf.old shelf.new name.now) }

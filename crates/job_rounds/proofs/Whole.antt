@@ -6,7 +6,7 @@ use Rattle.std.proofs.lemmas.List.{take_all}
 use Rattle.tc_base.specs.declared.ear.EventName.{EventName}
 use Rattle.pcap_io.specs.declared.capture.Capture.{Capture}
 use Rattle.job_lines.specs.declared.job.Round.{Round}
-use Rattle.pin_store.specs.Calls.{IsNewAt, pin_of}
+use Rattle.pin_store.specs.Calls.{IsNewAt, IsSeatAt, IsOutside, pin_of}
 use Rattle.filter_state.specs.declared.edit.Edit.{Edit}
 use Rattle.filter_state.specs.Sound.{Each}
 use Rattle.filter_state.specs.States.{no_state}
@@ -62,6 +62,17 @@ pub have_visited : (rounds : List RoundRecord) (workers : List Worker) → ((at 
 have_visited rounds workers each at reader is =
     let own = mapped_back workers at reader is in
     subst (λ (r : HookSeat). r.visits ≡ visits_by (at + 1) (outcomes_in rounds)) own.2 (each at own.0 own.1)
+
+-- ---- the readers
+each_reader : (P : HookSeat → Type 0) (workers : List Worker) → ((at : ℕ) (worker : Worker) → slice_get workers at ≡ Some worker → P worker.reader) → All P (map (λ (worker : Worker). worker.reader) workers)
+each_reader P [] each at reader less = absurd (omega (arith, less))
+each_reader P (worker ∷ workers) each zero reader less = each 0 worker refl
+each_reader P (worker ∷ workers) each (suc at) reader less = each_reader P workers (λ k w there. each (suc k) w there) at reader (omega (arith, less))
+
+pub readers_stay : (store : StoreName) (left : ℕ) (earlier : List Outcome) (workers : List Worker) → ((at : ℕ) (worker : Worker) → slice_get workers at ≡ Some worker → IsBetween store left earlier at worker)
+    → All (λ (reader : HookSeat). IsSeatAt store.table store.shape reader.place × IsOutside reader.place) (map (λ (worker : Worker). worker.reader) workers)
+readers_stay store left earlier workers between = each_reader (λ (reader : HookSeat). IsSeatAt store.table store.shape reader.place × IsOutside reader.place) workers
+    (λ at worker there. let own = between at worker there in (own.own, own.outside))
 
 -- ---- the beginning
 none_more : (heard : Option (List EventName)) → heard ≡ option_map (λ (names : List EventName). names ++ []) heard

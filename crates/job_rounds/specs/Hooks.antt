@@ -1,6 +1,6 @@
 -- A hook for the workers of a job (this project's own).
 use Rattle.std.specs.Prelude.{◌≡◌, ℕ, ◌+◌, List, [], length, All, slice_get, Some}
-use Rattle.pin_store.specs.Calls.{IsSeatOf, IsNewReader}
+use Rattle.pin_store.specs.Calls.{IsSeatOf, IsOutside, IsNewReader}
 use Rattle.desk_parts.specs.Desk.{hook_shape}
 use Rattle.shared_hook.specs.Views.{journal, IsUnused}
 use Rattle.hook_reader.specs.Seats.{HookSeat}
@@ -16,11 +16,12 @@ pub record AreNewHooks (workers : ℕ) (hooks : Hooks) : Type 0 where
   pub readers : All (λ reader. IsNewReader hooks.store reader.place) hooks.readers.items
   pub unused : All IsUnused hooks.readers.items
 
--- behind a run: the hook is of the same store, with as many readers
+-- behind a run: the hook is of the same store, with as many readers of it, all of them outside
 pub record AreHooksOf (old new : Hooks) : Type 0 where
   pub store : new.store ≡ old.store
   pub desk : IsSeatOf new.store new.desk.place
   pub many : length new.readers.items ≡ length old.readers.items
+  pub readers : All (λ reader. IsSeatOf new.store reader.place × IsOutside reader.place) new.readers.items
 
 -- a worker for each reader, numbered from 1
 pub record AreWorkersOf (readers : List HookSeat) (workers : List Worker) : Type 0 where

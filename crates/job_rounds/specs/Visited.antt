@@ -10,7 +10,7 @@ abbrev pub visits_by : ℕ → List Outcome → ℕ
 visits_by worker outcomes =
     sum_by (λ (outcome : Outcome). if outcome.worker == worker then length outcome.points else 0) outcomes
 
--- THE READERS OF A RUN, each at its worker's place, have made exactly the visits that its outcomes tell
+-- THE READERS OF A RUN, each at its worker's place, have made exactly as many visits as its outcomes tell
 abbrev pub HaveVisited : List RoundRecord → List HookSeat → Type 0
 HaveVisited rounds readers = (at : ℕ) (reader : HookSeat) → slice_get readers at ≡ Some reader
     → reader.visits ≡ visits_by (at + 1) (outcomes_in rounds)

@@ -1,4 +1,5 @@
 //! A hook with as many readers as a job has workers.
+ghost use Rattle.block_codec.specs.declared.places.TheConstants.{READERS};
 ghost use Rattle.std.specs.Prelude.{◌≡◌, ◌+◌, ◌≤◌, ◌++◌, length, vec_len, vec_capacity, IfOk};
 ghost use Rattle.job_rounds.specs.Hooks.{AreNewHooks};
 
@@ -36,7 +37,7 @@ fn take_readers(passes: &mut Passes, readers: &mut Vec<HookReader>, count: u32)
 ///
 /// `NoMemory`: memory was refused.
 pub fn make_hooks(alloc: Global, workers: u32) -> Result<Hooks, NoMemory>
-    requires { (1 ≤ workers) × (workers ≤ 8) }
+    requires { (1 ≤ workers) × (workers ≤ READERS) }
     ensures { IfOk result (AreNewHooks workers) }
 {
     let mut readers = Vec::with_capacity(alloc, workers as usize)?;

@@ -116,8 +116,8 @@ fn run_over<E: Ear, G: Gate, T: Tender, R: Threads + Wait + Sync>(
 ///
 /// The run is a lawful one of the job, and the hook's journal is its own: each accepted edit once, in order.
 /// The ear has heard of just these edits, where it tells what it heard. The hook that comes back is of the
-/// same store, with as many readers: that of each worker, at its place, has made exactly as many visits as the
-/// worker's outcomes have points.
+/// same store, with as many readers of it, all outside: that of each worker, at its place, has made exactly
+/// as many visits as the worker's outcomes have points.
 ///
 /// `NoMemory`: memory was refused, here or in a thread. Hook and ear are gone.
 pub fn run_job_heard<R: Threads + Wait + Sync, G: Gate, E: Ear, T: Tender>(
@@ -167,7 +167,7 @@ pub fn run_job_heard<R: Threads + Wait + Sync, G: Gate, E: Ear, T: Tender>(
 }
 
 /// Runs a job over a new hook: the run is a lawful one of the job, the hook's journal is its own, and its
-/// readers have made the visits that the run tells.
+/// readers, all outside, have made as many visits as the run tells.
 ///
 /// `NoMemory`: memory was refused, here or in a thread. The hook is gone.
 pub fn run_job<R: Threads + Wait + Sync, G: Gate>(

@@ -1,4 +1,5 @@
 //! The workers of a run.
+ghost use Rattle.block_codec.specs.declared.places.TheConstants.{READERS};
 ghost use Rattle.std.specs.Prelude.{◌≡◌, ◌≤◌, length, map, IfOk};
 ghost use Rattle.job_rounds.specs.Hooks.{AreWorkersOf};
 
@@ -22,7 +23,7 @@ fn worker_of(alloc: Global, number: u32, reader: HookReader) -> Result<Worker, N
 
 /// A worker for each reader, numbered from 1.
 pub(crate) fn workers_of(alloc: Global, readers: Vec<HookReader>) -> Result<Vec<Worker>, NoMemory>
-    requires { length readers.items ≤ 8 }
+    requires { length readers.items ≤ READERS }
     ensures { IfOk result (λ workers. AreWorkersOf readers.items workers.items) }
 {
     let mut workers = Vec::with_capacity(alloc, readers.len())?;

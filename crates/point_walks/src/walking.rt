@@ -13,6 +13,8 @@ use walk_steps::{Progress, Walk};
 
 /// Walks a frame of at most 262,144 bytes with a visit at each of these points, and tells whether that is a
 /// walk: its last visit is the last one, and the points are lawful within these bounds.
+///
+/// `NoMemory`: memory was refused.
 pub fn walk_at<A: PointAnswers>(
     walk: &mut Walk,
     latest: &mut LatestPoints,

@@ -6,17 +6,9 @@ use Rattle.std.specs.List.{flat_map}
 use Rattle.tc_report.proofs.Lines.{text_more, flat_mapped}
 use Rattle.std.proofs.lemmas.Grind.{flat_map-append}
 use Rattle.tc_base.specs.Outside.{Appended, AppendsUpTo}
-use Rattle.tc_base.proofs.Appends.{Appended-nil, Appended-then, AppendsUpTo-front, AppendsUpTo-last, AppendsUpTo-more}
+use Rattle.tc_base.proofs.Appends.{Appended-then, AppendsUpTo-front, AppendsUpTo-last, AppendsUpTo-more}
 use Rattle.walk_texts.specs.Texts.{joined}
 use Rattle.run_report.specs.Pages.{IsPaged}
-
--- nothing was written yet
-pub page_begun : (told : Option (List ℕ)) (page : List ℕ) → IsPaged told told page page
-page_begun told page = record { front = []; wrote = Appended-nil told; whole = refl }
-
--- a full page was written, and the next one is empty
-pub page_written : (old new : Option (List ℕ)) (page : List ℕ) → Appended old new page → IsPaged old new page []
-page_written old new page wrote = record { front = page; wrote = wrote; whole = append-nil page }
 
 -- more is put on the page
 pub page_put : (old new : Option (List ℕ)) (text page more : List ℕ) → IsPaged old new text page → IsPaged old new (text ++ more) (page ++ more)

@@ -5,11 +5,10 @@ ghost use Rattle.walk_texts.specs.Texts.{counted};
 ghost use Rattle.run_report.specs.EventTexts.{serials_text, filter_name, filter_text, action_made_text};
 ghost use Rattle.run_report.specs.EventTexts.{done_text};
 
-use crate::pieces::push_text;
 use filter_state::Done;
 use line_texts::{push_handle, push_number};
 use std::alloc::AllocError;
-use walk_texts::push_count;
+use walk_texts::{push_count, push_text};
 
 fn push_other_serials(out: &mut Vec<u8>, serials: &[u32]) -> Result<(), AllocError>
     ensures { OnOk result (out.new.items

@@ -10,12 +10,11 @@ ghost use Rattle.run_report.specs.Pages.{IsPaged};
 use crate::done::push_done;
 use crate::events::{Event, EventKind};
 use crate::page::turn;
-use crate::pieces::push_text;
 use filter_state::Done;
 use std::alloc::AllocError;
 use tc_base::{NoMemory, Put, Sink};
 use tc_report::{push_bad_line, push_refused};
-use walk_texts::push_count;
+use walk_texts::{push_count, push_text};
 
 #[tactic(auto, unfolding(crate::specs::EventTexts::edit_place))]
 fn push_edit_place(out: &mut Vec<u8>, edits: u32, control: u32, line: u64) -> Result<(), AllocError>

@@ -21,9 +21,9 @@
 //! `push_packet_line`), for whoever compares a report line by line.
 //!
 //! A round has as many outcomes as packets. Whoever walks packets puts their outcomes into an `OutcomeList`,
-//! which keeps frames, points and executions in three buffers that all share, and lends an outcome by its row.
-//! The `Outcomes` of a round are several such lists with the place of each packet's outcome in them, so that
-//! nothing is copied when a round ends. Contracts see both as the list of outcomes.
+//! which keeps frames, points and executions in three buffers that all share, and lends an outcome by its
+//! row. The `Outcomes` of a round are several such lists with the place of each packet's outcome in them, so
+//! that nothing is copied when a round ends. Contracts see both as the list of outcomes.
 //!
 //! Records are plain data, which may go to any thread. `write_report` keeps nothing, and may be called by any
 //! thread that may read the record and owns the sink.
@@ -46,8 +46,6 @@ mod record;
 mod reporting;
 mod rounds;
 mod summing;
-#[cfg(test)]
-mod tests;
 
 pub use counters::{CounterLine, CounterLines};
 pub use event_lines::push_event_line;

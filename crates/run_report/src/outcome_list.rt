@@ -30,8 +30,8 @@ struct Row {
     verdict: Verdict,
 }
 
-/// Outcomes in the order in which they came. The frames of all of them lie in one buffer, and so do the points
-/// and the executions: one packet more takes no memory of its own.
+/// Outcomes in the order in which they came. The frames of all of them lie in one buffer, and so do the
+/// points and the executions: one packet more takes no memory of its own.
 #[derive(Drop, Debug)]
 pub struct OutcomeList {
     rows: Vec<Row>,

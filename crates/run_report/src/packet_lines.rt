@@ -12,12 +12,11 @@ use crate::line_head::LineHead;
 use crate::outcomes::{OutcomeView, Outcomes};
 use crate::packet_tails::Tails;
 use crate::page::turn;
-use crate::pieces::push_text;
 use frame_edit::Meta;
 use std::alloc::{AllocError, Global};
 use tc_base::{Point, Put, Sink};
 use walk_rules::Verdict;
-use walk_texts::{push_count, push_end};
+use walk_texts::{push_count, push_end, push_text};
 
 #[tactic(auto, unfolding(crate::specs::PacketTexts::packet_name))]
 fn push_packet_name(out: &mut Vec<u8>, number: u64, worker: u32) -> Result<(), AllocError>

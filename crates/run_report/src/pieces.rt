@@ -1,15 +1,9 @@
-//! Texts and numbers at the end of a line.
+//! The line of a label and a number.
 ghost use Rattle.std.specs.Prelude.{◌≡◌, ◌++◌, OnOk};
 ghost use Rattle.run_report.specs.Reports.{numbered_line};
 
 use std::alloc::AllocError;
-use walk_texts::push_count;
-
-pub(crate) fn push_text(out: &mut Vec<u8>, text: &str) -> Result<(), AllocError>
-    ensures { OnOk result (out.new.items ≡ out.old.items ++ text.now) }
-{
-    out.extend_from_slice(text.as_bytes())
-}
+use walk_texts::{push_count, push_text};
 
 /// Puts the line of a label and a number.
 #[tactic(auto, unfolding(crate::specs::Reports::numbered_line))]

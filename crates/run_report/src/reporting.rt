@@ -10,7 +10,7 @@ use crate::counters::CounterLine;
 use crate::event_lines::write_events;
 use crate::packet_lines::write_packets;
 use crate::page::turn;
-use crate::pieces::{push_numbered_line, push_text};
+use crate::pieces::push_numbered_line;
 use crate::record::RunRecord;
 use crate::rounds::RoundRecord;
 use crate::summing::summary_of;
@@ -18,7 +18,7 @@ use batch_run::MadeAction;
 use std::alloc::Global;
 use tc_base::{Put, Sink};
 use walk_ends::Count;
-use walk_texts::{push_counter, push_summary};
+use walk_texts::{push_counter, push_summary, push_text};
 
 // Writes the lines of a round before which so many edits were accepted, and answers how many were accepted
 // then.

@@ -1,7 +1,8 @@
 //! Counters of actions and claims of packets, which many threads change at once without a lock.
 //!
-//! Workers count each execution of an action, and each worker draws the next packet that is its own. Both are
-//! single atomic additions on words that all threads share, so nobody waits and nothing is lost. What a
+//! Each worker draws the next packet that is its own (`Claims`), and threads may count each execution of an
+//! action (`Counters`; a run doesn't, as it counts those of its record behind the last round). Both are single
+//! atomic additions on words that all threads share, so nobody waits and nothing is lost. What a
 //! thread then knows of a shared word is only what it did itself. So each thread has a seat. A seat has no
 //! bytes: it exists for contracts alone, and says what its thread added or drew. Two rules, which every step
 //! keeps, tie the seats to the words: each counter is the sum of what all seats added to it, and the numbers
@@ -28,8 +29,6 @@ mod hand;
 mod laws;
 mod seats;
 mod tally;
-#[cfg(test)]
-mod tests;
 
 pub use claims::{Claims, make_claims};
 pub use counters::{Counters, make_counters};

@@ -36,8 +36,6 @@ mod outside;
 mod pieces;
 mod std_sink;
 mod tender;
-#[cfg(test)]
-mod tests;
 
 pub use ear::{Ear, EventName, NoEar};
 pub use file_shelf::FileShelf;

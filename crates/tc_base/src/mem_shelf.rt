@@ -45,7 +45,9 @@ impl MemShelf {
     }
 
     /// Holds these bytes under the name, in place of any others. It is no call that can fail by its
-    /// number. After an error every name holds what it held.
+    /// number.
+    ///
+    /// `NoMemory`: memory was refused, and every name holds what it held.
     pub fn insert(&mut self, name: &str, bytes: &[u8]) -> Result<(), NoMemory>
         ensures stands { OnOk result (held_of self.new name.now ≡ Some bytes.now) }
         ensures others { (other : List ℕ) → other ≢ name.now

@@ -54,6 +54,8 @@ impl<'a> Pieces<'a> {
 
     /// Puts a stretch of the lent bytes, from one offset up to another, behind what is there. Where it goes
     /// on from a stretch that was put last, the two are one piece.
+    ///
+    /// `NoMemory`: memory was refused.
     pub fn lend(&mut self, start: u32, end: u32) -> Result<(), NoMemory>
         requires order { start ≤ end }
         requires within { end ≤ length self.old.lent }
@@ -128,6 +130,8 @@ impl<'a> Pieces<'a> {
     }
 
     /// A copy of all pieces, joined.
+    ///
+    /// `NoMemory`: memory was refused.
     pub fn joined(&self) -> Result<Vec<u8>, NoMemory>
         ensures { IfOk result (λ bytes. bytes.items ≡ joined self.now.pieces) }
     {

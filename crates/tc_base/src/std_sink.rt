@@ -23,6 +23,8 @@ pub struct StdSink<'a, P: Print> {
 
 impl<'a, P: Print> StdSink<'a, P> {
     /// Takes the buffer. Nothing is written yet.
+    ///
+    /// `NoMemory`: memory was refused.
     pub fn new(rt: &'a P, alloc: Global) -> Result<Self, NoMemory>
         ensures { IfOk result (λ sink. ⟦<StdSink<'a, P> as Sink>⟧.faults sink ≡ 0) }
     {
@@ -33,6 +35,8 @@ impl<'a, P: Print> StdSink<'a, P> {
     }
 
     /// Hands on all that stands in the buffer.
+    ///
+    /// `Failed`: the output took less.
     pub fn flush(&mut self) -> Result<(), Put>
         ensures { PutCounts (⟦<StdSink<'a, P> as Sink>⟧.faults self.old)
             (⟦<StdSink<'a, P> as Sink>⟧.faults self.new) result }
@@ -54,41 +58,5 @@ impl<P: Print> Sink for StdSink<'_, P> {
             Ok(()) => Ok(()),
             Err(_) => Err(count_write_fault(&mut self.faults)),
         }
-    }
-}
-
-#[cfg(test)]
-mod tests {
-    use super::*;
-    use std::fmt::Display;
-    use std::test::Fail;
-
-    /// An output that takes nothing.
-    struct Closed;
-
-    impl Print for Closed {
-        fn print<D: Display + Drop>(&self, _value: D) -> io::Result<()> {
-            self.write_all(b"")
-        }
-
-        fn println<D: Display + Drop>(&self, _value: D) -> io::Result<()> {
-            self.write_all(b"")
-        }
-
-        fn write_all(&self, _bytes: &[u8]) -> io::Result<()> {
-            Err(io::Error::from(io::ErrorKind::BrokenPipe))
-        }
-    }
-
-    // No clause knows whether the output took the bytes.
-    #[test]
-    fn counts_what_the_output_refuses(rt: HostRuntime) -> Result<(), Fail> {
-        let long = vec![in rt.alloc(); b'x'; BUFFER + 1]?;
-        let mut sink = StdSink::new(&Closed, rt.alloc())?;
-        sink.write_all(b"short")?;
-        assert_eq!(rt; sink.flush(), Err(Put::Failed));
-        assert_eq!(rt; sink.write_all(&long), Err(Put::Failed));
-        assert_eq!(rt; sink.faults, 2);
-        Ok(())
     }
 }

@@ -4,22 +4,22 @@
 //! seven words that `specs/Promises.antt` says: each status has its cause, nothing is written where the input
 //! is at fault, and the bytes put and written are those that the definitions give.
 //!
-//! Each command has a module of its own, which reads its files in their order (`input_files`), where the first
-//! fault ends it; `run_show`, `run_walk` and `run_recheck` work out all that one command asks for, then put,
-//! then write; `text` writes line by line, so that a text of a million lines is never held, and `packet_line`
-//! makes each packet's line of the one before, whose number is counted up where it stands. What is put and
-//! written comes from `batch_show`, `batch_walk`, `report_check` and `gen_run`. A walk's output is put in
-//! pieces of its input, which therefore lives until then.
+//! Each command has a module of its own, which reads its files in their order (`input_files`), where the
+//! first fault ends it; `run_show`, `run_walk` and `run_recheck` work out all that one command asks for, then
+//! put, then write; `text` writes line by line, so that a text of a million lines is never held, and
+//! `packet_line` makes each packet's line of the one before, whose number is counted up where it stands. What
+//! is put and written comes from `batch_show`, `batch_walk`, `report_check` and `gen_run`. A walk's output is
+//! put in pieces of its input, which therefore lives until then.
 //!
 //! The run of a job needs threads, and so `run` and `gen` stand in the program, beside this: `obey` asks that
 //! the words are neither's. What they promise is said here all the same (`specs/Runs.antt`,
 //! `specs/Delivered.antt`), and so is the rest that needs no thread. Of a run that is over `put_outputs` puts
 //! the captures; `load_workload` has the job of `gen` in memory, and `deliver_workload` puts the files of a
-//! workload and writes its text. That this text is that of plain walks, whatever the threads did, is the law of
-//! `quiet_jobs`.
+//! workload and writes its text. That this text is that of plain walks, whatever the threads did, is the law
+//! of `quiet_jobs`.
 //!
-//! None of it is a part of the program since nothing here needs a process: tests call it with a shelf and a
-//! sink of their own.
+//! It stands apart from the program's crate, since nothing here needs a process: tests call it with a shelf
+//! and a sink of their own.
 //!
 //! One thread calls this. It starts none, waits for nobody, and keeps nothing between calls. Not promised:
 //! that memory suffices, and what a shelf or a sink holds that doesn't tell it.

@@ -2,12 +2,12 @@
 //!
 //! In its first round one control applies a batch that isn't forced, and no packet comes; in its second the
 //! packets of one capture come, and no control applies anything (`specs/OfQuietJobs/Jobs.antt`). Threads run
-//! each round as they like, and yet all lawful runs of such a job tell one thing. With one control there is one
-//! order of lines, which stops at the first that isn't accepted, as a batch does that is run alone
+//! each round as they like, and yet all lawful runs of such a job tell one thing. With one control there is
+//! one order of lines, which stops at the first that isn't accepted, as a batch does that is run alone
 //! (`batch_run`). And in a round that accepts no edit a walk finds one state at all its visits, whichever
-//! worker makes it: it is the plain walk. So the run leaves the same packets and the same counts as `walk` over
-//! the same batch and capture (`specs/OfQuietJobs/Ends.antt`), whose text ends with the same lines as the run's
-//! report. `gen` runs such a job.
+//! worker makes it: it is the plain walk. So the run leaves the same packets and the same counts as `walk`
+//! over the same batch and capture (`specs/OfQuietJobs/Ends.antt`), whose text ends with the same lines as
+//! the run's report. `gen` runs such a job.
 //!
 //! A law only: there is nothing here to call at run time, so any thread may call it.
 //!

@@ -16,8 +16,6 @@
 mod command;
 mod messages;
 mod status;
-#[cfg(test)]
-mod tests;
 
 pub use command::{Command, WalkNames, command_of};
 pub use status::{Break, InputKind, Status};

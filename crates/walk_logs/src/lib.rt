@@ -1,9 +1,9 @@
 //! What a round's workers keep of their walks, and how that becomes the outcomes of the round.
 //!
-//! A worker draws the numbers of packets, and so it doesn't know beforehand which packets it will walk. It puts
-//! a row into its `WalkLog` for each: the number of the packet, and what its walk came to. A log keeps all
-//! frames, points and executions in three buffers (`OutcomeList` of `run_report`), beside the numbers. These
-//! grow as a `Vec` does: one packet more takes no memory of its own.
+//! A worker draws the numbers of packets, and so it doesn't know beforehand which packets it will walk. It
+//! puts a row into its `WalkLog` for each: the number of the packet, and what its walk came to. A log keeps
+//! all frames, points and executions in three buffers (`OutcomeList` of `run_report`), beside the numbers.
+//! These grow as a `Vec` does: one packet more takes no memory of its own.
 //!
 //! When all workers are done, each number below the count of the packets stands in one row of one log.
 //! `put_together` reads the numbers once, writes down for each packet in which log and which row its outcome

@@ -52,8 +52,8 @@ fn lists_of(alloc: Global, logs: Vec<WalkLog>) -> Result<Vec<OutcomeList>, NoMem
     Ok(lists.collect(alloc)?)
 }
 
-/// The outcomes of a round, at the numbers of their packets, where all rows of all logs have the numbers below
-/// the count, each once. Each log's outcomes stay in the buffers that they lie in.
+/// The outcomes of a round, at the numbers of their packets, where all rows of all logs have the numbers
+/// below the count, each once. Each log's outcomes stay in the buffers that they lie in.
 ///
 /// `NoMemory`: memory was refused, and the logs are gone.
 pub fn put_together(alloc: Global, logs: Vec<WalkLog>, count: u32) -> Result<Outcomes, NoMemory>

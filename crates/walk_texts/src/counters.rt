@@ -27,6 +27,8 @@ fn push_counts(out: &mut Vec<u8>, count: &Count) -> Result<(), AllocError>
 }
 
 /// Puts the line of an action behind what is there: how often it ran, and on how many bytes.
+///
+/// `AllocError`: memory was refused.
 pub fn push_counter(out: &mut Vec<u8>, made: &MadeAction, count: &Count) -> Result<(), AllocError>
     ensures { OnOk result (out.new.items ≡ out.old.items ++ counter_line made.now count.now) }
 {

@@ -32,6 +32,8 @@ fn push_meta(out: &mut Vec<u8>, meta: Meta) -> Result<(), AllocError>
 
 /// Puts how a packet ended behind what is there: its verdict, its length in bytes, and its metadata unless
 /// all of them are 0.
+///
+/// `AllocError`: memory was refused.
 #[tactic(auto, unfolding(crate::specs::Texts::end_text))]
 pub fn push_end(
     out: &mut Vec<u8>,

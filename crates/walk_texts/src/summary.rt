@@ -38,6 +38,8 @@ fn push_verdicts(out: &mut Vec<u8>, summary: &Summary) -> Result<(), AllocError>
 
 /// Puts the line that tells what a run came to behind what is there. Its packets are those that passed and
 /// those that were dropped, together below 2^64.
+///
+/// `AllocError`: memory was refused.
 pub fn push_summary(out: &mut Vec<u8>, summary: &Summary) -> Result<(), AllocError>
     requires { summary.now.passed + summary.now.dropped < 2 ^ 64 }
     ensures { OnOk result (out.new.items ≡ out.old.items ++ summary_line summary.now) }

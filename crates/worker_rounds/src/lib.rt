@@ -3,16 +3,16 @@
 //! # One packet after the other
 //!
 //! The packets of a round are there for all its workers. Each worker draws a number, walks the packet of that
-//! number at its own reader of the hook (`worker_walk`), and keeps what came of it, until the numbers are past
-//! the packets (`work`). So a slow walk holds up nobody, and who walks which packet is left to chance.
+//! number at its own reader of the hook (`worker_walk`), and keeps what came of it, until the numbers are
+//! past the packets (`work`). So a slow walk holds up nobody, and who walks which packet is left to chance.
 //!
 //! # What is known of it
 //!
 //! A worker knows of itself alone. Its log has a row for each packet that it walked, in the order in which it
 //! drew them, and the walks go forward: each has a floor that is no lower than anything that the reader had
 //! seen (`IsWorked` in `specs/Worked.antt`). What the reader had seen at each walk begins what it has seen in
-//! the end. And all numbers that it drew are those of its rows, with a last one past the packets. What logs of
-//! several workers come to is said in `logs` of `lawful_runs`, and what their numbers come to by
+//! the end. And all numbers that it drew are those of its rows, with a last one past the packets. What logs
+//! of several workers come to is said in `logs` of `lawful_runs`, and what their numbers come to by
 //! `each_number_once` of `step_counts`. `put_together` of `walk_logs` makes the round's outcomes of them.
 //!
 //! # Who may call what

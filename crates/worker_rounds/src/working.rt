@@ -66,8 +66,8 @@ fn work_one<G: Gate>(
 
 /// Draws packets of a round, and walks them, until none is left.
 ///
-/// The log has a row for each packet that was drawn, and the walks are the reader's, one behind the other. The
-/// numbers that the seat drew are those of the rows and a last one, which is past the packets.
+/// The log has a row for each packet that was drawn, and the walks are the reader's, one behind the other.
+/// The numbers that the seat drew are those of the rows and a last one, which is past the packets.
 ///
 /// `NoMemory`: memory was refused for a row. Behind this call the reader is always outside, and of the seat
 /// nothing but its deeds has changed, so it can be given back.

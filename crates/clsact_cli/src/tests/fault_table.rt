@@ -1,5 +1,6 @@
 //! Commands, and what they ask of what lies outside.
 
+use crate::tests::gateway::{RULES, WALKED};
 use crate::tests::{DROP, HOOK, TWO, WALK};
 
 /// A call of the shelf.
@@ -16,6 +17,8 @@ pub(crate) enum Held<'a> {
     /// A capture without packets, and one of two, to 10.0.0.1 and 10.0.0.2.
     NoPackets,
     TwoPackets,
+    /// The packets of a small gateway.
+    Gateway,
 }
 
 /// How a text is written.
@@ -146,6 +149,17 @@ pub(crate) const CASES: &[Case] = &[
         ],
         status: "0 ",
         written: Written::ByLines(TWO),
+    },
+    Case {
+        words: &WALK,
+        files: &[("batch", Held::Text(RULES)), ("capture", Held::Gateway)],
+        calls: &[
+            Call::Fetch("batch"),
+            Call::Fetch("capture"),
+            Call::Put("output"),
+        ],
+        status: "0 ",
+        written: Written::ByLines(WALKED),
     },
     Case {
         words: &["walk", "egress", "batch", "capture", "output"],

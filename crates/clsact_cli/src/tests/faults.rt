@@ -4,7 +4,7 @@
 //! call and succeeds; and so does the sink.
 
 use crate::tests::fault_table::{CASES, Call, Case, Held, Written};
-use crate::tests::{EMPTY, numbers, run, two_packets};
+use crate::tests::{EMPTY, gateway, numbers, run, two_packets};
 use std::alloc::{AllocError, Global};
 use std::sync::Wait;
 use std::test::Fail;
@@ -54,6 +54,7 @@ impl Case<'_> {
                 Held::Text(text) => shelf.insert(name, text.as_bytes())?,
                 Held::NoPackets => shelf.insert(name, &EMPTY)?,
                 Held::TwoPackets => shelf.insert(name, &two_packets(alloc, false)?)?,
+                Held::Gateway => shelf.insert(name, &gateway::capture(alloc)?)?,
             }
         }
         for call in self.calls {
@@ -173,24 +174,25 @@ impl Case<'_> {
     }
 }
 
-// By commands: 1 + 1 of show, 3 + 3 of walk, 7 + 5 of run, 6 + 6 of recheck, and 4 of gen.
+// By commands: 1 + 1 of show, 3 + 3 + 3 of walk, 7 + 5 of run, 6 + 6 of recheck, and 4 of gen.
 #[test]
 fn each_call_of_the_shelf_fails(rt: HostRuntime) -> Result<(), Fail> {
     let mut failed = 0u32;
     for case in CASES {
         failed = failed.saturating_add(case.fail_at_shelf(&rt)?);
     }
-    assert_eq!(rt; failed, 36);
+    assert_eq!(rt; failed, 39);
     Ok(())
 }
 
-// Lines: 5 + 3 of show, 5 + 5 of walk, and 4 of gen. All others write by one call: two runs and two rechecks.
+// Lines: 5 + 3 of show, 5 + 20 + 5 of walk, and 4 of gen. All others write by one call: two runs and two
+// rechecks.
 #[test]
 fn each_call_of_the_sink_fails(rt: HostRuntime) -> Result<(), Fail> {
     let mut failed = 0u32;
     for case in CASES {
         failed = failed.saturating_add(case.fail_at_sink(&rt)?);
     }
-    assert_eq!(rt; failed, 26);
+    assert_eq!(rt; failed, 46);
     Ok(())
 }

@@ -9,7 +9,6 @@ use Rattle.filter_state.specs.States.{State, no_state}
 use Rattle.filter_state.specs.Steps.{Stepped, step}
 use Rattle.filter_state.specs.Journals.{state_from}
 use Rattle.tc_batch.specs.Grammar.{Gives}
-use Rattle.tc_batch.specs.FirstBad.{IsFirstBad}
 use Rattle.round_terms.specs.EventKind.TheVariants as kinds
 use Rattle.pin_store.specs.Calls.{seen_by}
 use Rattle.hook_store_law.specs.OfEdits.Premises.{now}
@@ -38,11 +37,5 @@ met_refused old new words edit refusal gives other is =
     let from : step (state_from no_state (journal old)) edit ≡ Err refusal = ap (λ (s : State). step s edit) (sym (now_is (seen_by old.place))) ∙ cause_of refusal (stepped old edit) other is.cause in
     (state_from no_state (journal old), [], (edit, gives, from, refl, refl), same_journal old new is.place ∙ sym (append-nil (journal old)))
 
-pub met_bad : (old : List Edit) (words : List (List ℕ)) (word : ℕ) → IsFirstBad words word → IsMet old old words (kinds.Syntax word)
-met_bad old words word bad = (state_from no_state old, [], (bad, refl, refl), sym (append-nil old))
-
 pub untouched : (old new : DeskView) (edit : Edit) (refusal : Refusal) → IsRefused old new edit refusal → IsUntouched old new
 untouched old new edit refusal is = record { place = is.place; lists = is.lists; free = is.free; left = is.left }
-
-pub untouched_still : (desk : DeskView) → IsUntouched desk desk
-untouched_still desk = record { place = refl; lists = refl; free = refl; left = refl }

@@ -1,5 +1,5 @@
 -- Workers that go into threads and come back (this project's own).
-use Rattle.block_codec.specs.declared.places.TheConstants.{ROOTS}
+use Rattle.block_codec.specs.declared.places.TheConstants.{READERS, ROOTS}
 use Rattle.walk_ends.specs.declared.limits.TheConstants.{PACKETS_MAX}
 use Rattle.std.specs.Prelude.{◌≡◌, ℕ, ◌+◌, ◌*◌, ◌<◌, ◌≤◌, ◌^◌, List, [], ◌∷◌, ◌++◌, length, map}
 use Rattle.std.specs.Prelude.{slice_get, Some, IfOk, Ok}
@@ -56,7 +56,7 @@ pub record CanWork (store : StoreName) (making : TableId) (count : ℕ) (hand : 
 -- the hands of a round's workers, numbered from 1 in order, who have all seats of a making
 pub record AreClaimed (store : StoreName) (making : TableId) (count : ℕ) (hands : List Hand) : Type 0 where
   pub some : 0 < length hands
-  pub few : length hands ≤ 8
+  pub few : length hands ≤ READERS
   pub seats : AllByRecursion (λ (hand : Hand). hand.seat ≡ fresh_seat making (length hands)) hands
   pub ready : AllByRecursion (λ (hand : Hand). IsReady store count hand.worker) hands
   pub numbered : (at : ℕ) (hand : Hand) → slice_get hands at ≡ Some hand → hand.worker.number ≡ at + 1

@@ -15,15 +15,12 @@ ghost use Rattle.round_terms.specs.Underway.{made_behind, IsMet};
 ghost use Rattle.job_rounds.specs.OfRoundState.Turns.{IsNotMet};
 
 use crate::round_state::turned::Turned;
-use filter_state::{Done, Edit, Refusal};
+use filter_state::{Done, Edit, LINE_ACTIONS_MAX, Refusal};
 use hook_store_law::HookStore;
 use round_terms::{EventKind, MadeAction, push_new_names};
 use shared_hook::{ApplyFault, Desk};
 use std::alloc::Global;
 use tc_batch::{LineFault, line};
-
-/// The actions that one edit makes at most.
-pub(crate) const NEW_ACTIONS_MAX: usize = 16;
 
 // Applies an edit, and puts the names of the actions that it made behind those that are there, in room that
 // was reserved: so nothing fails behind an edit that was accepted.
@@ -37,7 +34,7 @@ fn apply_named(
     requires line { IsLine edit.now }
     requires few { (sheet_of desk.old.place).epoch < 2 ^ 61 }
     requires short { length (journal desk.old) < COMMANDS_MAX }
-    requires room { vec_len made.old + NEW_ACTIONS_MAX ≤ vec_capacity made.old }
+    requires room { vec_len made.old + LINE_ACTIONS_MAX ≤ vec_capacity made.old }
     ensures store { IsSeatOf store.now desk.new.place }
     ensures applied { (done : ADone) → result ≡ Ok done → IsApplied desk.old desk.new edit.now done }
     ensures named { IfOk result (λ done. made.new.items
@@ -70,7 +67,7 @@ pub(crate) fn meet_line(
     requires store { IsSeatOf store.now desk.old.place }
     requires few { (sheet_of desk.old.place).epoch < 2 ^ 61 }
     requires short { length (journal desk.old) < COMMANDS_MAX }
-    requires room { vec_len made.old + NEW_ACTIONS_MAX ≤ vec_capacity made.old }
+    requires room { vec_len made.old + LINE_ACTIONS_MAX ≤ vec_capacity made.old }
     ensures store { IsSeatOf store.now desk.new.place }
     ensures met { IfOk result (λ kind. IsMet (journal desk.old) (journal desk.new) (words_of text.now) kind) }
     ensures named { IfOk result (λ kind. made.new.items

@@ -12,9 +12,10 @@ ghost use Rattle.job_rounds.specs.declared.round_state.turned.Turned.TheVariants
 ghost use Rattle.job_rounds.specs.OfRoundState.Rounds.{store_name, IsDeskOf, IsRoundOf};
 ghost use Rattle.job_rounds.specs.OfRoundState.Turns.{IsTurned};
 
-use crate::round_state::meeting::{NEW_ACTIONS_MAX, meet_line};
+use crate::round_state::meeting::meet_line;
 use crate::round_state::naming::RoundName;
 use crate::round_state::turned::Turned;
+use filter_state::LINE_ACTIONS_MAX;
 use hook_store_law::HookStore;
 use round_terms::{
     Event, Events, LoadedJob, MadeAction, Place, first_file, goes_on, next_line, tell,
@@ -99,8 +100,8 @@ impl<N: RoundName, E: Ear> RoundState<N, E> {
         &self.desk
     }
 
-    /// The number of the line that a control has to meet next, in its batch from 1. `None` exactly where it has
-    /// no line left.
+    /// The number of the line that a control has to meet next, in its batch from 1. `None` exactly where it
+    /// has no line left.
     pub fn next_line(&self, job: &LoadedJob, round: u32, control: u32) -> Option<u64>
         requires job { (job.now ≡ N.job) × IsLoaded job.now }
         requires round { (round ≡ N.number) × (1 ≤ round) × (round ≤ length job.now.job.rounds) }
@@ -204,10 +205,10 @@ impl<N: RoundName, E: Ear> RoundState<N, E> {
 fn reserve(events: &mut Vec<Event>, made: &mut Vec<MadeAction>) -> Result<(), NoMemory>
     ensures same { (events.new.items ≡ events.old.items) × (made.new.items ≡ made.old.items) }
     ensures room { OnOk result ((vec_len events.new < vec_capacity events.new)
-        × (vec_len made.new + NEW_ACTIONS_MAX ≤ vec_capacity made.new)) }
+        × (vec_len made.new + LINE_ACTIONS_MAX ≤ vec_capacity made.new)) }
 {
     events.reserve(1)?;
-    made.reserve(NEW_ACTIONS_MAX)?;
+    made.reserve(LINE_ACTIONS_MAX)?;
     Ok(())
 }
 

@@ -23,12 +23,12 @@ returns-in_err-deliver-clause-cause g c =
     c.args.out.now c.deliver.new.out (Run c.args.job.now) c.in_err-deliver.field-0.0 ends
     c.load_job.ensures.write_faults c.in_err-deliver.ensures.cause)
 
-pub ended-requires-clause-events : goal.ended-requires-clause-events
-ended-requires-clause-events g c =
+pub status_of-requires-clause-events : goal.status_of-requires-clause-events
+status_of-requires-clause-events g c =
     let few = events_few c.in_ok-loaded.loaded c.in_ok-run.run' c.in_ok-loaded.ensures.loaded c.in_ok-run.ensures in
     omega (arith, few)
 
-pub ended-requires-clause-packets : goal.ended-requires-clause-packets
-ended-requires-clause-packets g c =
+pub status_of-requires-clause-packets : goal.status_of-requires-clause-packets
+status_of-requires-clause-packets g c =
     let few = packets_few c.in_ok-loaded.loaded c.in_ok-run.run' c.in_ok-loaded.ensures.loaded c.in_ok-run.ensures in
     omega (arith, few)

@@ -1,5 +1,6 @@
 use Rattle.std.proofs.Common.{◌∙◌, ◌++◌, List, [], length, map, Vec, Global, sym, ap, subst}
-use Rattle.std.specs.Prelude.{option_map}
+use Rattle.std.specs.Prelude.{All, option_map}
+use Rattle.pin_store.specs.Calls.{IsSeatAt, IsOutside}
 use Rattle.batch_run.specs.declared.made_action.MadeAction.{MadeAction}
 use Rattle.run_report.specs.declared.rounds.RoundRecord.{RoundRecord}
 use Rattle.lawful_runs.specs.Given.{GivenRound, given_rounds}
@@ -7,12 +8,14 @@ use Rattle.lawful_runs.specs.Lawful.{AreRounds, outcomes_in, counters_of}
 use Rattle.hook_reader.specs.Seats.{HookSeat}
 use Rattle.worker_rounds.specs.declared.worker.Worker.{Worker}
 use Rattle.job_rounds.specs.OfRoundState.Views.{journal}
+use Rattle.job_rounds.specs.OfRoundState.Rounds.{store_name}
+use Rattle.job_rounds.specs.Left.{packets_left}
 use Rattle.job_rounds.specs.Names.{names_in}
 use Rattle.job_rounds.specs.SoFar.{all_made}
 use Rattle.job_rounds.specs.Counted.{AreCounted}
 use Rattle.job_rounds.proofs.Beginning.{many_mapped}
 use Rattle.job_rounds.specs.Visited.{HaveVisited}
-use Rattle.job_rounds.proofs.Whole.{all_rounds, counters_are, have_visited}
+use Rattle.job_rounds.proofs.Whole.{all_rounds, counters_are, have_visited, readers_stay}
 use Rattle.job_rounds.proofs.running.end_of.Goals as goal
 
 pub returns : goal.returns
@@ -33,6 +36,8 @@ returns g c = λ first far.
       };
       desk = far.desk;
       many = ap length c.in_ok-readers.ensures ∙ many_mapped (λ (worker : Worker). worker.reader) c.args.course.workers.items ∙ far.many;
+      readers = subst (All (λ (reader : HookSeat). IsSeatAt c.args.store.now.words.shared.table_id c.args.store.now.shape reader.place × IsOutside reader.place)) (sym c.in_ok-readers.ensures)
+          (readers_stay (store_name c.args.store.now) (packets_left job (length job.job.rounds)) (outcomes_in rounds) c.args.course.workers.items far.workers);
       visited = subst (λ (rs : List HookSeat). HaveVisited c.from_vec.result rs) (sym c.in_ok-readers.ensures)
           (subst (λ (rs : List RoundRecord). HaveVisited rs (map (λ (worker : Worker). worker.reader) c.args.course.workers.items)) same
           (have_visited rounds c.args.course.workers.items (λ at worker there. (far.workers at worker there).visited)));

@@ -1,8 +1,8 @@
 //! The texts of statuses, of which no clause speaks.
-use crate::{InputKind, Status};
 use std::alloc::{AllocError, Global};
 use std::test::Fail;
 use tc_base::Bytes;
+use tool_words::{InputKind, Status};
 
 fn bytes(alloc: Global, name: &[u8]) -> Result<Bytes, AllocError> {
     Ok(Bytes::from_vec(name.to_vec(alloc)?))

@@ -1,8 +1,9 @@
+//! Numbers that threads draw, and totals of what they count.
 ghost use Rattle.std.specs.Prelude.{◌≡◌, ◌<◌, ◌≤◌, [], length};
 
-use crate::{ClaimSeat, Claims, CounterSeat, Counters, make_claims, make_counters};
 use std::test::Fail;
 use std::thread::{Threads, join};
+use step_counts::{ClaimSeat, Claims, CounterSeat, Counters, make_claims, make_counters};
 
 // As many numbers as each thread draws.
 const DRAWN: usize = 50;

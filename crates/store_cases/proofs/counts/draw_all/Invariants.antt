@@ -1,5 +1,5 @@
 use Rattle.std.proofs.Common.{◌≡◌, length}
-use Rattle.step_counts.proofs.tests.draw_all.Given as goal
+use Rattle.store_cases.proofs.counts.draw_all.Given as goal
 
 abbrev pub invariant-loop-at : goal.invariant-loop-at
 invariant-loop-at l = record { making : l.seat.making ≡ l.fn.claims; drawn : length l.seat.deeds ≡ l.at }

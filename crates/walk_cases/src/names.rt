@@ -1,4 +1,5 @@
-use crate::{field, field_of};
+//! The names of fields.
+use flow_fields::{field, field_of};
 
 #[test]
 fn names_and_numbers(rt: HostRuntime) {

@@ -2,24 +2,17 @@
 ghost use Rattle.std.specs.Prelude.{◌≡◌, ◌<◌, ◌^◌};
 ghost use Rattle.pin_store.specs.Calls.{pin_of, IsInside, IsOutside, IsSeatOf};
 
-use crate::law::HookLaw;
-use block_codec::places::{BLOCK_WORDS, BLOCKS, READERS, ROOTS};
+use crate::readers::SHAPE;
 use flow_fields::Key;
+use hook_store_law::HookLaw;
 use mask_table::lookup;
 use miniq_pair::head;
-use pin_store::{Reader, Shape, Steps, Store, make_store};
+use pin_store::{Reader, Steps, Store, make_store};
 use std::marker::Brand;
 use std::sync::ledger::{Blank, Ledger};
 use std::test::Fail;
 use tc_base::{Hook, Point};
 use visit_room::{HeadRoom, Hit};
-
-const SHAPE: Shape = Shape {
-    blocks: BLOCKS,
-    words: BLOCK_WORDS,
-    roots: ROOTS,
-    readers: READERS,
-};
 
 fn visit_as<M: Ledger>(
     store: &Store<HookLaw>,

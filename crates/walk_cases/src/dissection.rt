@@ -1,4 +1,5 @@
-use crate::key_of;
+//! The fields of frames by hand.
+use flow_dissect::key_of;
 use std::alloc::AllocError;
 
 // Two addresses.

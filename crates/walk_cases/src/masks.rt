@@ -1,5 +1,6 @@
-use crate::{hash, size_for};
+//! Hashes of keys, and sizes of tables.
 use flow_fields::Key;
+use flow_mask::{hash, size_for};
 
 // The hashes were computed by hand in Python's numbers, which have no greatest one: h = 0x9E3779B97F4A7C15,
 // and for each word w in order h = (h ^ w) * 0xFF51AFD7ED558CCD % 2**64; h ^= h >> 32.

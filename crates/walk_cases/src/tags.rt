@@ -1,4 +1,5 @@
-use crate::{Frame, NoRoom};
+//! Tags that are put on, changed and taken off.
+use frame_edit::{Frame, NoRoom};
 use std::alloc::AllocError;
 use std::test::Fail;
 

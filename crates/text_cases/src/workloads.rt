@@ -1,5 +1,5 @@
 //! What is generated for four filters, written down by hand.
-use crate::{gen_batch, gen_job, gen_packets};
+use gen_files::{gen_batch, gen_job, gen_packets};
 use std::test::Fail;
 
 const BATCH: &str = "\

@@ -1,13 +1,14 @@
+//! A report.
 ghost use Rattle.std.specs.Prelude.{◌≡◌, ◌<◌, ◌^◌, length, IfOk};
 ghost use Rattle.run_report.specs.Counts.{events_in, packets_in};
 
-use crate::{
-    CounterLine, CounterLines, Event, EventKind, Events, OutcomeList, OutcomePlace, OutcomeView,
-    Outcomes, RoundRecord, RoundRecords, RunRecord, write_report,
-};
 use act_kinds::Kind;
 use filter_state::Done;
 use frame_edit::Meta;
+use run_report::{
+    CounterLine, CounterLines, Event, EventKind, Events, OutcomeList, OutcomePlace, OutcomeView,
+    Outcomes, RoundRecord, RoundRecords, RunRecord, write_report,
+};
 use std::alloc::{AllocError, Global};
 use std::test::Fail;
 use tc_base::{MemSink, NoMemory, Numbers};
