@@ -10,6 +10,7 @@ impl Parts {
     ghost use Rattle.store_history.specs.History.{edits_of};
     ghost use Rattle.pin_store.specs.declared.scan.Scan.TheVariants.{Quiet};
     ghost use Rattle.pin_store.specs.Calls.{sheet_of, IsSeatOf};
+    ghost use Rattle.pin_store.specs.Found.{FoundIn};
     ghost use Rattle.desk_pools.specs.Pools.{IsNothingLeft};
     ghost use Rattle.desk_tidy.specs.Tidied.{IsTwiceIn, Empties, AreTidied};
     ghost use Rattle.desk_actions.specs.OfLedgers.Kept.{commits};
@@ -17,7 +18,8 @@ impl Parts {
 
     /// Begins an epoch and scans the readers twice. Where the second scan is quiet, it empties the roots of
     /// all that left, begins a second epoch and scans twice again. Where that is quiet too, all that left is
-    /// free. The answer is that of the last scan.
+    /// free. The answer is that of the last scan: where it isn't `Quiet`, it names the first reader that is
+    /// in the way.
     pub fn tidy(&mut self, store: &HookStore) -> Scan
         requires store { IsSeatOf store.now self.old.ledger.writer.place }
         requires desk { IsDesk self.old }
@@ -32,6 +34,7 @@ impl Parts {
         ensures tidied { AreTidied self.old.pools self.new.pools }
         ensures quiet { result ≡ Quiet → IsNothingLeft self.new.pools }
         ensures twice { IsTwiceIn (sheet_of self.new.ledger.writer.place).notes result }
+        ensures found { FoundIn (sheet_of self.new.ledger.writer.place).notes result }
         ensures epochs { ((sheet_of self.new.ledger.writer.place).epoch
             ≡ (sheet_of self.old.ledger.writer.place).epoch + 1)
             ⊎ ((sheet_of self.new.ledger.writer.place).epoch

@@ -10,8 +10,8 @@
 //! had left by then. The roots of it still name chains, though, and so their blocks aren't free. So `tidy`
 //! commits these roots empty, without a number; that changes nothing for any walk, since nothing stands at
 //! them. Then it begins a second epoch and looks again. Where that is quiet too, no chain since the base has
-//! these blocks, and all is free. A reader in the way is named with its pin: it was loaded twice in the last
-//! epoch and was the same.
+//! these blocks, and all is free. Else it names the first reader that is in the way, with its pin: that was
+//! loaded twice in the last epoch and was the same.
 //!
 //! `Pools` are kept by the thread that has the store's writer. No call takes memory, and none waits: where a
 //! reader stays inside, `tidy` says so and leaves what it can't free.

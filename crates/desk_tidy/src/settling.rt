@@ -3,6 +3,7 @@ ghost use Rattle.std.specs.Prelude.{◌≡◌, ◌<◌, ◌≤◌, ◌+◌, ◌^
 ghost use Rattle.pin_store.specs.declared.scan.Scan.TheVariants.{Quiet};
 ghost use Rattle.pin_store.specs.Sheets.{base_of};
 ghost use Rattle.pin_store.specs.Calls.{seen_by, sheet_of, IsSeatOf};
+ghost use Rattle.pin_store.specs.Found.{FoundIn};
 ghost use Rattle.desk_tidy.specs.Tidied.{IsTwiceIn};
 
 use pin_store::{Scan, Store, Writer};
@@ -21,7 +22,8 @@ fn pause() {
 
 /// Begins an epoch, and scans the readers. Where a reader was inside it scans them once more a moment later, as
 /// else readers that walk without a pause would hardly ever be found outside, all of them. Where it is quiet
-/// the base is the number of all commits. A reader that is named was seen twice inside with the same pin.
+/// the base is the number of all commits. Else it names the first reader that is in the way, which was seen
+/// twice inside with the same pin.
 pub fn settle<L: Law>(writer: &mut Writer<L>, store: &Store<L>) -> Scan
     requires store { IsSeatOf store.now writer.old.place }
     requires few { (sheet_of writer.old.place).epoch < 2 ^ 62 }
@@ -34,6 +36,7 @@ pub fn settle<L: Law>(writer: &mut Writer<L>, store: &Store<L>) -> Scan
     ensures risen { base_of (sheet_of writer.old.place) ≤ base_of (sheet_of writer.new.place) }
     ensures low { base_of (sheet_of writer.new.place) ≤ length (seen_by writer.new.place) }
     ensures twice { IsTwiceIn (sheet_of writer.new.place).notes result }
+    ensures found { FoundIn (sheet_of writer.new.place).notes result }
 {
     writer.bump(store);
     match writer.scan(store) {

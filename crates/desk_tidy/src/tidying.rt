@@ -4,6 +4,7 @@ ghost use Rattle.block_codec.specs.declared.places.TheConstants.{ROOTS};
 ghost use Rattle.pin_store.specs.declared.scan.Scan.TheVariants.{Quiet};
 ghost use Rattle.pin_store.specs.Sheets.{base_of};
 ghost use Rattle.pin_store.specs.Calls.{seen_by, sheet_of, IsSeatOf};
+ghost use Rattle.pin_store.specs.Found.{FoundIn};
 ghost use Rattle.hook_store_law.specs.Kept.{IsKeptAt};
 ghost use Rattle.desk_pools.specs.Pools.{gone_roots, ArePools, IsNothingLeft};
 ghost use Rattle.desk_tidy.specs.Tidied.{emptying, IsTwiceIn, Empties, AreTidied};
@@ -74,7 +75,7 @@ fn free_blocks(pools: &mut Pools)
 /// that left, begins a second epoch and scans twice again. Where that is quiet too, all that left is free.
 ///
 /// `point` is the number of edits that the commits carry; what is emptied has it as its stamp. The answer is
-/// that of the last scan.
+/// that of the last scan: where it isn't `Quiet`, it names the first reader that is in the way.
 pub fn tidy(
     writer: &mut Writer<HookLaw>,
     store: &Store<HookLaw>,
@@ -93,6 +94,7 @@ pub fn tidy(
     ensures tidied { AreTidied pools.old pools.new }
     ensures quiet { result ≡ Quiet → IsNothingLeft pools.new }
     ensures twice { IsTwiceIn (sheet_of writer.new.place).notes result }
+    ensures found { FoundIn (sheet_of writer.new.place).notes result }
     ensures cells { (sheet_of writer.new.place).cells ≡ (sheet_of writer.old.place).cells }
     ensures epochs { ((sheet_of writer.new.place).epoch ≡ (sheet_of writer.old.place).epoch + 1)
         ⊎ ((sheet_of writer.new.place).epoch ≡ (sheet_of writer.old.place).epoch + 2) }

@@ -106,6 +106,7 @@ module _ (was b : Parts) (rest : b ≡ record was { ledger = record was.ledger {
       counted = h.short.counted;
       few = h.short.few;
       first = λ other low. let a = h.short.first other low in let n = needed_is (now (commits b.ledger)) begun.needs y it.needs other in let s = need other in omega (arith, a, n, s);
+      named = h.named;
       seen_twice = h.seen_twice;
       odd = h.odd;
       epochs = epochs (λ has. h.lacked (has_all has));

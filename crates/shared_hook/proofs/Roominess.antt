@@ -1,5 +1,5 @@
 -- Room is made for an edit.
-use Rattle.std.proofs.Common.{◌≡◌, ℕ, ◌-◌, ◌%◌, List, [], length, refl, sym, ap, subst, arith, le_refl, append-nil}
+use Rattle.std.proofs.Common.{◌≡◌, ℕ, ◌-◌, ◌%◌, ◌≤◌, List, [], length, refl, sym, ap, subst, arith, le_refl, append-nil}
 use Rattle.std.specs.Prelude.{slice_index_or}
 use Rattle.store_history.specs.declared.history.Commit.{Commit}
 use Rattle.pin_store.specs.declared.note.Note.{Note}
@@ -59,5 +59,5 @@ cleared_tidied was after needs desk journal e tidied epochs rest counted lacks =
 }
 
 -- the reader that is in the way
-pub twice_seen : (notes : List Note) (reader pin : ℕ) → IsTwiceIn notes (Pinned reader pin) → (slice_index_or notes (reader - 1) Unknown ≡ Seen pin 2) × (pin % 2 ≡ 1)
-twice_seen notes reader pin (i, at, seen, odd) = let same : i ≡ reader - 1 = omega (arith, at) in (subst (λ (n : ℕ). slice_index_or notes n Unknown ≡ Seen pin 2) same seen, odd)
+pub twice_seen : (notes : List Note) (reader pin : ℕ) → IsTwiceIn notes (Pinned reader pin) → (1 ≤ reader) × (slice_index_or notes (reader - 1) Unknown ≡ Seen pin 2) × (pin % 2 ≡ 1)
+twice_seen notes reader pin (i, at, seen, odd) = let same : i ≡ reader - 1 = omega (arith, at) in (omega (arith, at), subst (λ (n : ℕ). slice_index_or notes n Unknown ≡ Seen pin 2) same seen, odd)

@@ -68,6 +68,7 @@ pub record IsHeld (old new : DeskView) (y : Edit) (pool : Pool) (reader pin need
   pub few : free < needed
   pub first : (other : Pool) → place_of other < place_of pool
       → needed_of (now (seen_by old.place)) y other ≤ count_of new.free other
+  pub named : 1 ≤ reader
   pub seen_twice : slice_index_or (sheet_of new.place).notes (reader - 1) Unknown ≡ Seen pin 2
   pub odd : pin % 2 ≡ 1
   pub epochs : TidiesOnce old new

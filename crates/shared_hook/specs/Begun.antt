@@ -70,6 +70,7 @@ pub record IsCleared (old new : Parts) (needs : Needs) : Type 0 where
 -- a pool is short still, and this reader is in the way
 pub record IsHindered (old new : Parts) (needs : Needs) (hindrance : Hindrance) : Type 0 where
   pub short : IsShort (free_in new.pools) needs hindrance.short
+  pub named : 1 ≤ hindrance.reader
   pub seen_twice : slice_index_or (sheet_of new.ledger.writer.place).notes (hindrance.reader - 1) Unknown
       ≡ Seen hindrance.pin 2
   pub odd : hindrance.pin % 2 ≡ 1

@@ -40,6 +40,7 @@ impl Desk {
     ghost use Rattle.pin_store.specs.declared.scan.Scan.TheVariants.{Quiet};
     ghost use Rattle.pin_store.specs.Sheets.{base_of};
     ghost use Rattle.pin_store.specs.Calls.{seen_by, sheet_of, IsSeatOf};
+    ghost use Rattle.pin_store.specs.Found.{FoundIn};
     ghost use Rattle.filter_state.specs.declared.edit.Edit.{Edit};
     ghost use Rattle.filter_lists.specs.Spells.{Spells};
     ghost use Rattle.hook_meaning.specs.Stated.{hook_meaning};
@@ -141,8 +142,8 @@ impl Desk {
 
     /// Begins an epoch and looks at each reader twice. Where all that were inside before have left, it
     /// empties the roots of what left by commits without a number, begins a second epoch and looks again.
-    /// Where it answers `Quiet` all that left is free. Else it names a reader that is in the way, with its
-    /// pin, which was loaded twice in this call and was the same.
+    /// Where it answers `Quiet` all that left is free. Else it names the first reader that is in the way,
+    /// with its pin, which was loaded twice in this call and was the same.
     pub fn tidy(&mut self, store: &HookStore) -> Scan
         requires store { IsSeatOf store.now self.old.place }
         requires few { (sheet_of self.old.place).epoch < 2 ^ 61 }
@@ -154,6 +155,7 @@ impl Desk {
         ensures free { (pool : Pool) → count_of self.old.free pool ≤ count_of self.new.free pool }
         ensures quiet { result ≡ Quiet → (pool : Pool) → count_of self.new.left pool ≡ 0 }
         ensures twice { IsTwiceIn (sheet_of self.new.place).notes result }
+        ensures found { FoundIn (sheet_of self.new.place).notes result }
         ensures epochs { ((sheet_of self.new.place).epoch ≡ (sheet_of self.old.place).epoch + 1)
             ⊎ ((sheet_of self.new.place).epoch ≡ (sheet_of self.old.place).epoch + 2) }
     {

@@ -30,8 +30,9 @@ pub returns-clause-room : goal.returns-clause-room
 returns-clause-room c = let was = c.args.parts.now in let after = c.tidy-scan.new.self in let told = c.tidy-scan.ensures in
     let seen = twice_seen _ c.in-Pinned.reader c.in-Pinned.pin (subst (λ (s : Scan). IsTwiceIn (sheet_of after.ledger.writer.place).notes s) c.in-Pinned.is told.twice) in record {
       short = subst (λ (f : PoolCounts). IsShort f c.args.needs.now c.in_ok-short.short) c.free_in.ensures c.in_ok-short.ensures.short;
-      seen_twice = seen.0;
-      odd = seen.1;
+      named = seen.0;
+      seen_twice = seen.1;
+      odd = seen.2;
       lacked = c.requires.lacks;
       left = λ none. c.requires.lacks (none_left_enough was.pools (now (commits was.ledger)) c.args.needs.now c.requires.can.counted c.requires.can.suffice none);
     }
