@@ -2,7 +2,7 @@ use Rattle.std.proofs.Common.{◌≡◌, arith, subst}
 use Rattle.std.specs.Prelude.{All}
 use Rattle.std.proofs.lemmas.List.Elements.{All-head}
 use Rattle.pin_store.specs.Calls.{IsNewReader, pin_of}
-use Rattle.hook_store_law.proofs.tests.a_new_hook_has_nothing.Goals as goal
+use Rattle.store_cases.proofs.laws.a_new_hook_has_nothing.Goals as goal
 
 pub visit-told-requires-clause-store : goal.visit-told-requires-clause-store
 visit-told-requires-clause-store g c = let made = c.in_ok-store.ensures in let store = c.in_ok-store.store in let reader = c.in-Some.reader in
