@@ -1,5 +1,5 @@
 -- A packet is walked again.
-use Rattle.std.proofs.Common.{◌≡◌, ◌∙◌, ℕ, ◌<◌, ◌≤◌, List, [], ◌∷◌, length, drop, get_or, None, refl, sym, ap, subst, arith}
+use Rattle.std.proofs.Common.{◌≡◌, ◌∙◌, ℕ, ◌<◌, ◌≤◌, List, [], ◌∷◌, length, get_or, refl, sym, ap, subst, arith}
 use Rattle.tc_base.specs.declared.hook.Hook.{Hook}
 use Rattle.filter_state.specs.declared.edit.Edit.{Edit}
 use Rattle.filter_state.specs.Journals.{state_at}
@@ -7,7 +7,7 @@ use Rattle.hook_lists.specs.declared.kept.Kept.{Kept}
 use Rattle.hook_lists.specs.States.{AreKept}
 use Rattle.filter_lists.specs.Spells.{Spells}
 use Rattle.walk_rules.specs.Questions.{heads_of}
-use Rattle.walk_rules.specs.Steps.{Standing, begun, question_of}
+use Rattle.walk_rules.specs.Steps.{Standing}
 use Rattle.walk_points.specs.Points.{Visit, AreLawfulPoints}
 use Rattle.point_walks.specs.declared.bounds.Bounds.{Bounds}
 use Rattle.point_walks.specs.Over.{Answering}
@@ -54,12 +54,6 @@ walks_back journal lists hook frame bounds first more end at it =
     }
 
 -- ---- the first point
-pub never_empty : (answers : Answering) (hook : Hook) (frame : List ℕ) (bounds : Bounds) (end : Standing) → IsWalkAt answers hook frame bounds [] end → ⊥
-never_empty answers hook frame bounds end it =
-    let same : begun hook frame ≡ end = cc it.stands in
-    let none : question_of (begun hook frame) ≡ None = ap question_of same ∙ it.over in
-    cc none
-
 pub first_within : (journal : List Edit) (hook : Hook) (frame : List ℕ) (bounds : Bounds) (first : ℕ) (more : List ℕ) (end : Standing) → IsWalkAt (answers_of journal) hook frame bounds (first ∷ more) end
     → (bounds.floor ≤ first) × (first ≤ bounds.ceiling)
 first_within journal hook frame bounds first more end it =
@@ -67,18 +61,15 @@ first_within journal hook frame bounds first more end it =
     (it.lawful.head visit refl, it.lawful.below 0 visit refl)
 
 -- ---- a walk at points that begin somewhere
-at_front : (points : List ℕ) → 0 < length points → points ≡ get_or points 0 0 ∷ drop 1 points
-at_front [] some = absurd (omega (arith, some))
-at_front (first ∷ points) some = refl
-
-pub never_none : (journal : List Edit) (hook : Hook) (frame : List ℕ) (floor : ℕ) (points : List ℕ) (end : Standing) → length points ≡ 0 → WalksTo journal hook frame floor points end → ⊥
-never_none journal hook frame floor [] end none it = never_empty (answers_of journal) hook frame (record { floor = floor; ceiling = length journal }) end it
-never_none journal hook frame floor (first ∷ points) end none it = omega (arith, none)
-
 pub bounds_met : (journal : List Edit) (hook : Hook) (frame : List ℕ) (floor : ℕ) (points : List ℕ) (end : Standing) → 0 < length points → WalksTo journal hook frame floor points end
     → (floor ≤ get_or points 0 0) × (get_or points 0 0 ≤ length journal)
 bounds_met journal hook frame floor [] end some it = absurd (omega (arith, some))
 bounds_met journal hook frame floor (first ∷ points) end some it = first_within journal hook frame (record { floor = floor; ceiling = length journal }) first points end it
+
+-- the same walk over a list that equals the journal, at one that equals the points
+pub walks_by : (journal other : List Edit) (hook : Hook) (frame : List ℕ) (floor : ℕ) (points others : List ℕ) (end : Standing) → journal ≡ other → points ≡ others → WalksTo journal hook frame floor points end → WalksTo other hook frame floor others end
+walks_by journal other hook frame floor points others end one two walks =
+    subst (λ (js : List Edit). WalksTo js hook frame floor others end) one (subst (λ (ps : List ℕ). WalksTo journal hook frame floor ps end) two walks)
 
 -- how the answers and the bounds are named in a call
 pub record IsCall (journal : List Edit) (lists : Kept) (floor : ℕ) (points : List ℕ) (by : Answerer) (bounds : Bounds) : Type 0 where

@@ -1,11 +1,9 @@
 -- The packets of a round, one after the other.
-use Rattle.std.proofs.Common.{◌≡◌, ◌∙◌, ℕ, zero, suc, ◌+◌, List, [], ◌∷◌, map, Some, refl, ap, arith}
+use Rattle.std.proofs.Common.{◌≡◌, ◌∙◌, ℕ, zero, suc, List, [], ◌∷◌, map, Some, refl, ap}
 use Rattle.std.specs.Prelude.{slice_get}
-use Rattle.std.proofs.lemmas.List.{length-append}
 use Rattle.tc_base.specs.declared.hook.Hook.{Hook}
 use Rattle.pcap_io.specs.declared.capture.Packet.{Packet}
 use Rattle.lawful_runs.specs.Given.{Arrival}
-use Rattle.lawful_runs.specs.Lawful.{outcomes_in}
 use Rattle.report_check.specs.declared.events.cursor.Cursor.{Cursor}
 use Rattle.report_check.specs.declared.events.replay.Replay.{Replay}
 use Rattle.report_check.specs.declared.walkers.Walkers.{Walkers}
@@ -32,15 +30,3 @@ next_packet told bytes first cursor replay before walkers least place hook packe
   };
   before_is = it.before_is;
 }
-
--- so many packets are counted as were walked
-pub counted_on : (told : ToldRound) (bytes : List ℕ) (first cursor : Cursor) (before walkers : Walkers) (place : ℕ) → AreWalked told bytes first before 0 → AreWalked told bytes cursor walkers place
-    → walkers.passed + walkers.dropped ≡ before.passed + before.dropped + place
-counted_on told bytes first cursor before walkers place start now =
-    let a = start.are.all in
-    let b = now.are.all in
-    let c = length-append (outcomes_in told.its) start.outcomes in
-    let d = length-append (outcomes_in told.its) now.outcomes in
-    let e = start.place_is in
-    let f = now.place_is in
-    omega (arith, a, b, c, d, e, f)

@@ -199,9 +199,6 @@ module _ (told : ToldRound) (bytes : List ℕ) (cursor : Cursor) (replay : Repla
   pub worker_most : (worker : ℕ) → 1 ≤ worker → worker - 1 < length walkers.each.items → worker ≤ told.loaded.job.workers
   worker_most worker low less = let many = it.walked.are.many in omega (arith, low, less, many)
 
-  pub at_journal : (journal : List Edit) → journal ≡ replay.journal.items → journal ≡ journal_of told
-  at_journal journal is = is ∙ it.of.journal_is
-
 pub some_holds : {X : Type 0} (P : X → Type 0) (o : Option X) (x : X) → o ≡ Some x → IfSome o P → P x
 some_holds P None x is holds = absurd (cc is)
 some_holds P (Some y) x is holds = let same : y ≡ x = cc is in subst P same holds

@@ -17,13 +17,13 @@
 //! # Who may call what
 //!
 //! Plain data, one thread at a time. All memory is taken by `Replay::meet`, for the edit and for what is
-//! remembered of it, and for one line's text. Behind `NoMemory` nothing is promised of a `Replay`.
+//! remembered of it, and by `check_events`, for one line's text and, for each round, for the places of its
+//! controls. Behind `NoMemory` nothing is promised of a `Replay`.
 mod control;
 mod cursor;
 mod events;
 mod replay;
 
-pub use control::control_of;
 pub use cursor::Cursor;
 pub use events::check_events;
 pub use replay::Replay;

@@ -21,18 +21,15 @@ ghost use Rattle.report_check.specs.Rounds.{ToldRound, IsNextPacket, IsAtPackets
 use crate::events::{Cursor, Replay};
 use crate::walker::Walker;
 use crate::walkers::{Room, Walkers};
-use filter_lists::Edit;
 use journal_answers::JournalAnswers;
 use pcap_io::Packets;
-use point_walks::{Bounds, LatestPoints, walk_at};
+use point_walks::{Bounds, walk_at};
 use report_reading::read_packet_line;
 use run_counts::RunCounts;
 use run_report::push_packet_line;
-use state_past::StatePast;
 use std::alloc::AllocError;
 use tc_base::{Hook, NoMemory, Point};
 use walk_rules::Verdict;
-use walk_steps::Walk;
 
 // The worker and the points that the next line shows.
 fn read_next(
@@ -60,100 +57,82 @@ fn greatest(points: &[Point]) -> Point
     most
 }
 
-// Walks a frame again at these points, within what the worker has seen and the journal's end. The worker's
-// lists follow to the first point.
+// Walks a frame again at the room's points, within what the worker has seen and the journal's end. The
+// worker's lists follow to the first point.
 fn walk_again(
-    walk: &mut Walk,
-    latest: &mut LatestPoints,
+    room: &mut Room,
     walker: &mut Walker,
-    journal: &[Edit],
-    past: &StatePast,
+    replay: &Replay,
     least: Point,
     hook: Hook,
     frame: &[u8],
-    points: &[Point],
 ) -> Result<bool, NoMemory>
     requires short { length frame.now ≤ FRAME_MAX }
-    requires past { Remembers past.now journal.now }
-    requires few { length journal.now ≤ COMMANDS_MAX }
-    requires walker { StandsIn journal.now walker.old }
+    requires past { Remembers replay.now.past replay.now.journal.items }
+    requires few { length replay.now.journal.items ≤ COMMANDS_MAX }
+    requires walker { StandsIn replay.now.journal.items walker.old }
     requires seen { walker.old.at ≤ walker.old.seen }
-    ensures yes { result ≡ Ok true → WalksTo journal.now hook frame.now (max least walker.old.seen) points.now
-        walk.new.standing }
-    ensures walker { result ≡ Ok true
-        → StandsIn journal.now walker.new × StandsAtFirst points.now walker.new }
+    ensures yes { result ≡ Ok true → WalksTo replay.now.journal.items hook frame.now
+        (max least walker.old.seen) room.old.points.items room.new.walk.standing }
+    ensures walker { result ≡ Ok true → StandsIn replay.now.journal.items walker.new
+        × StandsAtFirst room.old.points.items walker.new }
     ensures seen { result ≡ Ok true → walker.new.seen ≡ walker.old.seen }
-    ensures no { result ≡ Ok false → (end : Standing)
-        → WalksTo journal.now hook frame.now (max least walker.old.seen) points.now end → ⊥ }
+    ensures points { room.new.points.items ≡ room.old.points.items }
+    ensures no { result ≡ Ok false → (end : Standing) → WalksTo replay.now.journal.items hook frame.now
+        (max least walker.old.seen) room.old.points.items end → ⊥ }
 {
+    let points = room.points.as_slice();
+    let journal = replay.journal.as_slice();
     let floor = least.max(walker.seen);
-    let ceiling = past.point();
+    let ceiling = replay.past.point();
     if points.is_empty() {
         return Ok(false);
     }
     let first = points[0];
-    if first < floor {
-        return Ok(false);
-    }
-    if ceiling < first {
+    if first < floor || ceiling < first {
         return Ok(false);
     }
     walker.follow(journal, first)?;
     // For the proof: what lists always keep.
     let _actions = walker.lists.actions();
-    let answers = JournalAnswers::new(journal, past, &walker.lists);
-    walk_at(
-        walk,
-        latest,
-        &answers,
-        hook,
-        frame,
-        Bounds { floor, ceiling },
-        points,
-    )
+    let answers = JournalAnswers::new(journal, &replay.past, &walker.lists);
+    let bounds = Bounds { floor, ceiling };
+    let Room { walk, latest, .. } = room;
+    walk_at(walk, latest, &answers, hook, frame, bounds, points)
 }
 
-// Puts the line of a walk that has ended in place of what is there.
-fn put_line(
-    text: &mut Vec<u8>,
-    number: u64,
-    worker: u32,
-    walk: &Walk,
-    points: &[Point],
-) -> Result<(), AllocError>
-    ensures { (ended : WalkOutcome) → outcome_of walk.now.standing ≡ Some ended
-        → OnOk result (text.new.items ≡ packet_line number (recorded_by worker points.now ended)) }
+// Puts the line of a walk that has ended in place of the text that is there.
+fn put_line(room: &mut Room, number: u64, worker: u32) -> Result<(), AllocError>
+    ensures line { (ended : WalkOutcome) → outcome_of room.old.walk.standing ≡ Some ended → OnOk result
+        (room.new.text.items ≡ packet_line number (recorded_by worker room.old.points.items ended)) }
+    ensures rest { room.new ≡ record room.old { text = room.new.text } }
 {
-    text.clear();
-    let frame = walk.frame();
+    room.text.clear();
+    let frame = room.walk.frame();
     push_packet_line(
-        text,
+        &mut room.text,
         number,
         worker,
-        walk.verdict(),
+        room.walk.verdict(),
         frame.bytes().len() as u64,
         frame.meta(),
-        points,
+        room.points.as_slice(),
     )
 }
 
 // Adds a walk that has ended to what its worker saw and to the counts.
-fn note_walk(
-    walker: &mut Walker,
-    counts: &mut RunCounts,
-    walk: &Walk,
-    points: &[Point],
-) -> Result<(), NoMemory>
+fn note_walk(walker: &mut Walker, counts: &mut RunCounts, room: &Room) -> Result<(), NoMemory>
     requires few { AreAtMost (2 ^ 62) counts.old }
-    ensures seen { walker.new ≡ record walker.old { seen = max walker.old.seen (greatest points.now) } }
-    ensures counts { (ended : WalkOutcome) → outcome_of walk.now.standing ≡ Some ended → OnOk result
+    ensures seen { walker.new
+        ≡ record walker.old { seen = max walker.old.seen (greatest room.now.points.items) } }
+    ensures counts { (ended : WalkOutcome) → outcome_of room.now.walk.standing ≡ Some ended → OnOk result
         ((serial : ℕ) → count_of counts.new serial ≡ both (count_of counts.old serial)
-        (counted_in (recorded_by 1 points.now ended).executed serial)) }
-    ensures short { (ended : WalkOutcome) → outcome_of walk.now.standing ≡ Some ended
-        → IsShortRun (recorded_by 1 points.now ended).executed }
+        (counted_in (recorded_by 1 room.now.points.items ended).executed serial)) }
+    ensures short { (ended : WalkOutcome) → outcome_of room.now.walk.standing ≡ Some ended
+        → IsShortRun (recorded_by 1 room.now.points.items ended).executed }
 {
-    walker.seen = walker.seen.max(greatest(points));
-    counts.add(walk.executed())
+    walker.seen = walker.seen.max(greatest(room.points.as_slice()));
+    counts.add(room.walk.executed())
 }
 
 // How many packets passed by this verdict.
@@ -190,53 +169,24 @@ pub(crate) fn check_packet(
         → IsNextPacket told report.now cursor.old replay.now walkers.old least place hook frame.now
         → IsStuck told.loaded report.now cursor.new }
 {
-    let Walkers {
-        each,
-        counts,
-        passed,
-        dropped,
-        room,
-    } = walkers;
-    let Room {
-        walk,
-        latest,
-        points,
-        text,
-    } = room;
-    let Some(worker) = read_next(report, *cursor, points)? else {
+    let Some(worker) = read_next(report, *cursor, &mut walkers.room.points)? else {
         return Ok(false);
     };
-    if worker == 0 {
+    if worker == 0 || worker as usize > walkers.each.len() {
         return Ok(false);
     }
-    let place_of_worker = worker as usize - 1;
-    if place_of_worker >= each.len() {
+    let walker = &mut walkers.each[worker as usize - 1];
+    if !walk_again(&mut walkers.room, walker, replay, least, hook, frame)? {
         return Ok(false);
     }
-    let walker = &mut each[place_of_worker];
-    let points = points.as_slice();
-    let journal = replay.journal.as_slice();
-    if !walk_again(
-        walk,
-        latest,
-        walker,
-        journal,
-        &replay.past,
-        least,
-        hook,
-        frame,
-        points,
-    )? {
+    put_line(&mut walkers.room, place + 1, worker)?;
+    if !cursor.take(report, walkers.room.text.as_slice()) {
         return Ok(false);
     }
-    put_line(text, place + 1, worker, walk, points)?;
-    if !cursor.take(report, text.as_slice()) {
-        return Ok(false);
-    }
-    let passes = passes(walk.verdict());
-    *passed += passes;
-    *dropped += 1 - passes;
-    note_walk(walker, counts, walk, points)?;
+    let passes = passes(walkers.room.walk.verdict());
+    walkers.passed += passes;
+    walkers.dropped += 1 - passes;
+    note_walk(walker, &mut walkers.counts, &walkers.room)?;
     Ok(true)
 }
 

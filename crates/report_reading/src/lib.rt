@@ -6,8 +6,8 @@
 //! by a search of many bytes at once.
 //!
 //! Of a line hardly anything is read, since the line that has to stand there can mostly be made without it.
-//! Of a packet's line it is the worker and the points (`read_packet_line`): the walk at these points gives all
-//! else.
+//! Of a packet's line it is the worker and the points (`read_packet_line`): the walk at these points gives
+//! all else.
 //!
 //! Plain functions of bytes, which any thread may call. Only the points of a packet take memory.
 #![tactic(auto)]

@@ -46,8 +46,10 @@ pub(crate) fn cut_number(text: &[u8]) -> (&[u8], &[u8])
 
 /// The number at the front, and what follows it.
 pub(crate) fn read_number(text: &[u8]) -> Option<(u32, &[u8])>
-    ensures read { (number : ℕ) (rest : List ℕ) → number < 2 ^ 32 → Low rest → text.now ≡ decimal number ++ rest
-        → option_map {U = ℕ × List ℕ} (λ (parts : ℕ × Bor (List ℕ)). (parts.0, parts.1.now)) result ≡ Some (number, rest) }
+    ensures read { (number : ℕ) (rest : List ℕ) → number < 2 ^ 32 → Low rest
+        → text.now ≡ decimal number ++ rest
+        → option_map {U = ℕ × List ℕ} (λ (parts : ℕ × Bor (List ℕ)). (parts.0, parts.1.now)) result
+        ≡ Some (number, rest) }
     ensures shorter { IfSome result (λ parts. length parts.1.now ≤ length text.now) }
 {
     let (digits, rest) = cut_number(text);

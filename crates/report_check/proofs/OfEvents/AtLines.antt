@@ -10,7 +10,7 @@ use Rattle.report_laws.specs.OfWholePaths.FirstBadLines.{TakesNone, IsOpen}
 use Rattle.report_laws.proofs.Paths.{path_append}
 use Rattle.report_laws.proofs.OfWholePaths.Cutting.{joined_cut}
 use Rattle.report_check.specs.declared.events.cursor.Cursor.{Cursor}
-use Rattle.report_check.specs.OfEvents.Cursors.{IsWithin, IsNextLine, lines_left, IsAt, GetsStuck, IsStuck, MustBe}
+use Rattle.report_check.specs.OfEvents.Cursors.{IsWithin, IsNextLine, lines_left, IsAt, GetsStuck, IsStuck}
 
 -- ---- a line of bytes has a byte
 first_some : (byte : ℕ) (b : Bool) (first : List ℕ) (lines : List (List ℕ)) (line : List ℕ) (rest : List (List ℕ)) → (if b then (byte ∷ []) ∷ first ∷ lines else (byte ∷ first) ∷ lines) ≡ line ∷ rest → 1 ≤ length line
@@ -53,12 +53,6 @@ next_is bytes text line rest cursor in_bytes is cut_is =
 abbrev pub behind_line : Cursor → List ℕ → Cursor
 behind_line cursor line = record { at = cursor.at + length line; line = cursor.line + 1 }
 
-pub still_within : (bytes line : List ℕ) (cursor : Cursor) → IsWithin bytes cursor → IsNextLine bytes cursor line → IsWithin bytes (behind_line cursor line)
-still_within bytes line cursor in_bytes next =
-    let few = in_bytes.1 in
-    let some = next.some in
-    (next.within, omega (arith, few, some))
-
 -- the path goes on with a line that may come
 pub at_next : (bytes line : List ℕ) (cursor : Cursor) → IsNextLine bytes cursor line → (loaded : LoadedJob) (stand next : Stand) → IsAt loaded bytes cursor stand → Takes loaded stand line next
     → IsAt loaded bytes (behind_line cursor line) next
@@ -83,8 +77,3 @@ stuck_at_line bytes line cursor next loaded stand at none = record {
   is_at = at;
   stuck = subst (GetsStuck loaded stand) (sym next.first) none;
 }
-
-pub stuck_at_other : (bytes line text : List ℕ) (cursor : Cursor) → IsNextLine bytes cursor line → (line ≡ text → ⊥) → (loaded : LoadedJob) (stand : Stand) → IsAt loaded bytes cursor stand → MustBe loaded bytes cursor stand text
-    → IsStuck loaded bytes cursor
-stuck_at_other bytes line text cursor is other loaded stand at must =
-    stuck_at_line bytes line cursor is loaded stand at (λ next takes. other (must line next is takes))

@@ -1,5 +1,5 @@
 -- A line that is met behind a journal.
-use Rattle.std.proofs.Common.{◌≡◌, ◌≢◌, ◌∙◌, ℕ, ◌≤◌, List, [], ◌∷◌, ◌++◌, length, Ok, Err, refl, sym, ap, subst, arith, append-nil, inl, inr}
+use Rattle.std.proofs.Common.{◌≡◌, ◌≢◌, ◌∙◌, ℕ, ◌≤◌, List, [], ◌∷◌, ◌++◌, length, Ok, Err, refl, sym, ap, subst, arith, inl, inr}
 use Rattle.filter_state.specs.declared.edit.Edit.{Edit}
 use Rattle.filter_state.specs.declared.refusal.Done.{Done}
 use Rattle.filter_state.specs.declared.refusal.Refusal.{Refusal}
@@ -12,16 +12,12 @@ use Rattle.hook_lists.specs.States.{state_of}
 use Rattle.filter_lists.specs.Spells.{Spells}
 use Rattle.filter_lists.specs.Edits.{Stays, MayStep}
 use Rattle.filter_state.specs.Order.{SameState}
-use Rattle.tc_batch.specs.Grammar.{Gives}
-use Rattle.tc_batch.specs.FirstBad.{IsFirstBad}
 use Rattle.batch_run.specs.declared.made_action.MadeAction.{MadeAction}
 use Rattle.batch_run.specs.Made.{later_names, made_since}
-use Rattle.run_report.specs.declared.events.EventKind.TheVariants as kinds
 use Rattle.lawful_runs.specs.Lawful.{made_by}
-use Rattle.round_terms.specs.Underway.{made_behind, IsMet}
+use Rattle.round_terms.specs.Underway.{made_behind}
 use Rattle.round_terms.proofs.Making.{few_from, one_behind, made_further}
 use Rattle.state_past.specs.Remembering.{IsFollowed}
-use Rattle.report_check.specs.OfEvents.Replays.{IsAccepted}
 
 -- ---- before the step
 pub may_step : (journal : List Edit) (lists : Kept) → Spells lists (state_from no_state journal) → length journal ≤ 262144 → MayStep lists
@@ -71,13 +67,3 @@ made_more journal edit done old new before names made now_made spells stepped na
     let own : made_since s stepped.next ≡ made_behind journal later =
     ap (made_since s) (sym (ap (state_after s) stepped.steps)) ∙ sym (one_behind journal later edit refl) in
     made_further [] journal (edit ∷ []) journal later made now_made refl refl is (more ∙ ap (λ (ns : List MadeAction). made ++ ns) (since ∙ own))
-
--- ---- what the line comes to
-pub met_accepted : (old new : List Edit) (words : List (List ℕ)) (edit : Edit) (done : Done) → Gives words edit → IsAccepted old new edit done → IsMet old new words (kinds.Accepted done)
-met_accepted old new words edit done gives is = (is.0, edit ∷ [], (edit, gives, is.1, refl), is.2)
-
-pub met_refused : (old new : List Edit) (words : List (List ℕ)) (edit : Edit) (refusal : Refusal) → Gives words edit → step (state_from no_state old) edit ≡ Err refusal → new ≡ old → IsMet old new words (kinds.Refused refusal)
-met_refused old new words edit refusal gives steps same = (state_from no_state old, [], (edit, gives, steps, refl, refl), same ∙ sym (append-nil old))
-
-pub met_bad : (old : List Edit) (words : List (List ℕ)) (word : ℕ) → IsFirstBad words word → IsMet old old words (kinds.Syntax word)
-met_bad old words word bad = (state_from no_state old, [], (bad, refl, refl), sym (append-nil old))

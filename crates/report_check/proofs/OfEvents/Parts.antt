@@ -1,6 +1,6 @@
 -- What stands behind the first blank, and the control that an event's line names.
-use Rattle.std.proofs.Common.{◌≡◌, ◌∙◌, ℕ, zero, suc, ◌+◌, ◌-◌, ◌<◌, ◌==◌, Bool, true, false, List, [], ◌∷◌, ◌++◌, length, take, drop, get_or, Some, None, refl, sym, ap, subst, arith, append_assoc}
-use Rattle.std.specs.Prelude.{codes, not, ◌&&◌}
+use Rattle.std.proofs.Common.{◌≡◌, ◌∙◌, ℕ, zero, suc, ◌+◌, ◌-◌, ◌<◌, ◌==◌, true, false, List, [], ◌∷◌, ◌++◌, length, take, drop, get_or, Some, None, refl, sym, ap, subst, arith, append_assoc}
+use Rattle.std.specs.Prelude.{codes}
 use Rattle.std.specs.Fmt.{decimal}
 use Rattle.std.specs.List.{join_with_byte}
 use Rattle.std.proofs.Math.Seq.{drop-append-add}
@@ -54,10 +54,6 @@ none_behind text front back is nowhere =
     absurd (here (length front) (omega arith) (longer 32 front back) (seam_passes 32 front back))
 
 -- ---- bytes without a blank
-is_free : List ℕ → Bool
-is_free [] = true
-is_free (byte ∷ bytes) = not (byte == 32) && is_free bytes
-
 high_free : (bytes : List ℕ) → High bytes → HasNo 32 bytes
 high_free [] high = tt
 high_free (byte ∷ bytes) high = ((λ same. let above = high.0 in omega (arith, above, same)), high_free bytes high.1)

@@ -201,9 +201,6 @@ module _ (loaded : LoadedJob) (bytes : List ℕ) (number : ℕ) (its : List Roun
       let long = ap length told.journal_is in
       omega (arith, few, long)
 
-  pub refused_fits : GoOn loaded bytes number its round first cursor replay places → replay.refused ≤ cursor.line
-  refused_fits goes = goes.told.fewer
-
   pub places_within : GoOn loaded bytes number its round first cursor replay places → AreWithin (files_of loaded number) places
   places_within goes = all_within goes.under
 
@@ -222,9 +219,6 @@ module _ (loaded : LoadedJob) (bytes : List ℕ) (number : ℕ) (its : List Roun
 
   -- the next event, with what it comes to
   module _ (named : NamedLine) (turn : IsTurn loaded bytes number its round first cursor replay places named) (later : List Edit) (kind : EventKind) (met : IsMet replay.journal.items later (words_of named.next.text.now) kind) where
-    told_here : AreTold loaded bytes its first cursor replay
-    told_here = turn.goes.told
-
     own_here : IsOwn (files_of loaded number) turn.goes.told.it.events named.control named.next.text.now named.next.line
     own_here = own_next turn.goes.under named.control named.next.text.now named.next.line named.next.next named.next.force turn.names.own
 

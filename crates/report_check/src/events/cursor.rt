@@ -17,7 +17,8 @@ impl Cursor {
     ghost use Rattle.lawful_runs.specs.declared.loaded.LoadedJob.{LoadedJob};
     ghost use Rattle.report_laws.specs.Stands.{Stand, Takes};
     ghost use Rattle.report_laws.specs.OfWholePaths.FirstBadLines.{IsOpen};
-    ghost use Rattle.report_check.specs.OfEvents.Cursors.{IsWithin, IsNextLine, lines_left, IsAt, IsStuck, MustBe};
+    ghost use Rattle.report_check.specs.OfEvents.Cursors.{IsWithin, IsNextLine, lines_left};
+    ghost use Rattle.report_check.specs.OfEvents.Cursors.{IsAt, IsStuck, MustBe};
 
     /// Before the first line.
     pub fn start() -> Cursor

@@ -6,11 +6,13 @@ use Rattle.walk_ends.specs.Passing.{is_pass}
 use Rattle.filter_state.specs.declared.edit.Edit.{Edit}
 use Rattle.walk_rules.specs.Walks.{Outcome as WalkOutcome, outcome_of}
 use Rattle.run_report.specs.declared.outcomes.Outcome.{Outcome}
+use Rattle.run_report.specs.PacketTexts.{packet_line}
 use Rattle.lawful_runs.specs.Points.{greatest}
 use Rattle.lawful_runs.specs.Lawful.{outcomes_in}
 use Rattle.round_terms.proofs.JobFiles.{there_at}
 use Rattle.report_laws.specs.OfNextLines.Walks.{recorded_by}
 use Rattle.report_check.specs.declared.walker.Walker.{Walker}
+use Rattle.report_check.specs.declared.walkers.Room.{Room}
 use Rattle.report_check.specs.declared.walkers.Walkers.{Walkers}
 use Rattle.report_check.specs.Walks.{ShowsWalk, WalksTo, StandsIn, StandsAtFirst}
 use Rattle.report_check.specs.Walked.{AreWalkers}
@@ -18,8 +20,9 @@ use Rattle.report_check.specs.Rounds.{journal_of, stand_with}
 use Rattle.report_check.proofs.Stuck.{stuck_unless}
 use Rattle.run_counts.proofs.Tallies.{are_at_most, one_most}
 use Rattle.report_check.proofs.Seen.{IsWalkMore, walked_more}
-use Rattle.report_check.proofs.Walking.{is_open, few_edits, none_shown, no_worker, no_walk, has_ended, at_walk, must_be, walker_of, floor_of, worker_most, at_journal, some_holds}
+use Rattle.report_check.proofs.Walking.{is_open, few_edits, none_shown, no_worker, no_walk, has_ended, at_walk, must_be, walker_of, floor_of, worker_most, some_holds}
 use Rattle.report_check.proofs.packets.check_packet.Goals as goal
+use Rattle.report_check.proofs.packets.check_packet.Goals.{then-worker-eq0-via-then-worker-eq0, then-worker-eq0-via-else-worker-eq0+then-worker-len}
 
 pub returns-in_default-clause-stuck : goal.returns-in_default-clause-stuck
 returns-in_default-clause-stuck c = λ is told it.
@@ -35,39 +38,30 @@ returns-then-worker-eq0-clause-stuck c = λ is told it.
     let r = c.args.report.now in
     let cursor = c.args.cursor.now in
     let points = c.read_next.new.points.items in
-    let zero = c.if-worker-eq0.true in
-    stuck_unless told.loaded r cursor (stand_with told it.walked.outcomes) c.requires.cursor it.walked.is_at (is_open told r cursor c.args.replay.now c.args.walkers.now c.args.least c.args.place c.args.hook c.args.frame.now it)
-    (no_worker told r cursor c.args.replay.now c.args.walkers.now c.args.least c.args.place c.args.hook c.args.frame.now it c.in-Some.worker points (subst (λ (o : Option ℕ). ShowsWalk r cursor o points) c.in-Some.is c.in_ok-worker.ensures)
-    (λ low high. omega (arith, low, zero)))
-
-pub returns-then-place_of_worker-len-clause-stuck : goal.returns-then-place_of_worker-len-clause-stuck
-returns-then-place_of_worker-len-clause-stuck c = λ is told it.
-    let r = c.args.report.now in
-    let cursor = c.args.cursor.now in
-    let points = c.read_next.new.points.items in
-    let past = c.if-place_of_worker-len.true in
-    let len = c.len.ensures in
     let ok = c.args.walkers.now.each.ok.0 in
     let many = it.walked.are.many in
+    let never : 1 ≤ c.in-Some.worker → c.in-Some.worker ≤ told.loaded.job.workers → ⊥ = λ low high. elim c.then-worker-eq0.branch [
+      | then-worker-eq0-via-then-worker-eq0 w ↦ (let zero = w.if-worker-eq0.true in omega (arith, low, zero))
+      | then-worker-eq0-via-else-worker-eq0+then-worker-len w ↦ (let past = w.if-worker-len.true in let len = w.len.ensures in omega (arith, high, past, len, ok, many))
+    ] in
     stuck_unless told.loaded r cursor (stand_with told it.walked.outcomes) c.requires.cursor it.walked.is_at (is_open told r cursor c.args.replay.now c.args.walkers.now c.args.least c.args.place c.args.hook c.args.frame.now it)
-    (no_worker told r cursor c.args.replay.now c.args.walkers.now c.args.least c.args.place c.args.hook c.args.frame.now it c.in-Some.worker points (subst (λ (o : Option ℕ). ShowsWalk r cursor o points) c.in-Some.is c.in_ok-worker.ensures)
-    (λ low high. omega (arith, low, high, past, len, ok, many)))
+    (no_worker told r cursor c.args.replay.now c.args.walkers.now c.args.least c.args.place c.args.hook c.args.frame.now it c.in-Some.worker points (subst (λ (o : Option ℕ). ShowsWalk r cursor o points) c.in-Some.is c.in_ok-worker.ensures) never)
 
 pub walk_again-requires-clause-few : goal.walk_again-requires-clause-few
 walk_again-requires-clause-few c =
     let p = c.requires.packet in
     let few = few_edits p.0 c.args.report.now c.args.cursor.now c.args.replay.now c.args.walkers.now c.args.least c.args.place c.args.hook c.args.frame.now p.1 in
-    let same = ap length (at_journal p.0 c.args.report.now c.args.cursor.now c.args.replay.now c.args.walkers.now c.args.least c.args.place c.args.hook c.args.frame.now p.1 c.as_slice-journal.result.now c.as_slice-journal.ensures.value) in
+    let same = ap length p.1.of.journal_is in
     omega (arith, few, same)
 
 pub walk_again-requires-clause-walker : goal.walk_again-requires-clause-walker
 walk_again-requires-clause-walker c =
     let p = c.requires.packet in
     let low : 1 ≤ c.in-Some.worker = (let nonzero = c.if-worker-eq0.false in omega (arith, nonzero)) in
-    let less : c.in-Some.worker - 1 < length c.args.walkers.now.each.items = (let test = c.if-place_of_worker-len.false in let len = c.len.ensures in let ok = c.args.walkers.now.each.ok.0 in omega (arith, test, len, ok)) in
+    let less : c.in-Some.worker - 1 < length c.args.walkers.now.each.items = (let test = c.if-worker-len.false in let len = c.len.ensures in let ok = c.args.walkers.now.each.ok.0 in omega (arith, low, test, len, ok)) in
     let there = there_at c.args.walkers.now.each.items c.args.walkers.now.each.items (c.in-Some.worker - 1) c.index_mut-walker.result.now refl less ∙ ap (λ w. Some w) (sym c.index_mut-walker.ensures.value) in
     let is = walker_of p.0 c.args.report.now c.args.cursor.now c.args.replay.now c.args.walkers.now c.args.least c.args.place c.args.hook c.args.frame.now p.1 c.in-Some.worker c.index_mut-walker.result.now low there in
-    let same = at_journal p.0 c.args.report.now c.args.cursor.now c.args.replay.now c.args.walkers.now c.args.least c.args.place c.args.hook c.args.frame.now p.1 c.as_slice-journal.result.now c.as_slice-journal.ensures.value in
+    let same = p.1.of.journal_is in
     let stands : StandsIn (journal_of p.0) c.index_mut-walker.result.now = record { within = is.within; spells = is.spells } in
     subst (λ (js : List Edit). StandsIn js c.index_mut-walker.result.now) (sym same) stands
 
@@ -75,7 +69,7 @@ pub walk_again-requires-clause-seen : goal.walk_again-requires-clause-seen
 walk_again-requires-clause-seen c =
     let p = c.requires.packet in
     let low : 1 ≤ c.in-Some.worker = (let nonzero = c.if-worker-eq0.false in omega (arith, nonzero)) in
-    let less : c.in-Some.worker - 1 < length c.args.walkers.now.each.items = (let test = c.if-place_of_worker-len.false in let len = c.len.ensures in let ok = c.args.walkers.now.each.ok.0 in omega (arith, test, len, ok)) in
+    let less : c.in-Some.worker - 1 < length c.args.walkers.now.each.items = (let test = c.if-worker-len.false in let len = c.len.ensures in let ok = c.args.walkers.now.each.ok.0 in omega (arith, low, test, len, ok)) in
     let there = there_at c.args.walkers.now.each.items c.args.walkers.now.each.items (c.in-Some.worker - 1) c.index_mut-walker.result.now refl less ∙ ap (λ w. Some w) (sym c.index_mut-walker.ensures.value) in
     (walker_of p.0 c.args.report.now c.args.cursor.now c.args.replay.now c.args.walkers.now c.args.least c.args.place c.args.hook c.args.frame.now p.1 c.in-Some.worker c.index_mut-walker.result.now low there).early
 
@@ -83,15 +77,15 @@ pub returns-then-not-branch-clause-stuck : goal.returns-then-not-branch-clause-s
 returns-then-not-branch-clause-stuck c = λ is told it.
     let r = c.args.report.now in
     let cursor = c.args.cursor.now in
-    let points = c.as_slice-points.result.now in
+    let points = c.read_next.new.points.items in
     let worker = c.in-Some.worker in
     let walker = c.index_mut-walker.result.now in
     let floor = max c.args.least walker.seen in
     let low : 1 ≤ worker = (let nonzero = c.if-worker-eq0.false in omega (arith, nonzero)) in
-    let less : worker - 1 < length c.args.walkers.now.each.items = (let test = c.if-place_of_worker-len.false in let len = c.len.ensures in let ok = c.args.walkers.now.each.ok.0 in omega (arith, test, len, ok)) in
+    let less : worker - 1 < length c.args.walkers.now.each.items = (let test = c.if-worker-len.false in let len = c.len.ensures in let ok = c.args.walkers.now.each.ok.0 in omega (arith, low, test, len, ok)) in
     let there = there_at c.args.walkers.now.each.items c.args.walkers.now.each.items (worker - 1) walker refl less ∙ ap (λ w. Some w) (sym c.index_mut-walker.ensures.value) in
-    let shows : ShowsWalk r cursor (Some worker) points = subst (λ (ps : List ℕ). ShowsWalk r cursor (Some worker) ps) (sym c.as_slice-points.ensures.value) (subst (λ (o : Option ℕ). ShowsWalk r cursor o c.read_next.new.points.items) c.in-Some.is c.in_ok-worker.ensures) in
-    let same = at_journal told r cursor c.args.replay.now c.args.walkers.now c.args.least c.args.place c.args.hook c.args.frame.now it c.as_slice-journal.result.now c.as_slice-journal.ensures.value in
+    let shows : ShowsWalk r cursor (Some worker) points = subst (λ (o : Option ℕ). ShowsWalk r cursor o points) c.in-Some.is c.in_ok-worker.ensures in
+    let same = it.of.journal_is in
     let no : c.in_ok-walk_again.field-0 ≡ false = search rules in
     stuck_unless told.loaded r cursor (stand_with told it.walked.outcomes) c.requires.cursor it.walked.is_at (is_open told r cursor c.args.replay.now c.args.walkers.now c.args.least c.args.place c.args.hook c.args.frame.now it)
     (no_walk told r cursor c.args.replay.now c.args.walkers.now c.args.least c.args.place c.args.hook c.args.frame.now it worker floor points shows
@@ -102,21 +96,22 @@ pub returns-then-not-take-clause-stuck : goal.returns-then-not-take-clause-stuck
 returns-then-not-take-clause-stuck c = λ is told it.
     let r = c.args.report.now in
     let cursor = c.args.cursor.now in
-    let points = c.as_slice-points.result.now in
+    let points = c.read_next.new.points.items in
     let worker = c.in-Some.worker in
     let walker = c.index_mut-walker.result.now in
     let floor = max c.args.least walker.seen in
-    let end = c.walk_again.new.walk.standing in
+    let end = c.walk_again.new.room.walk.standing in
     let low : 1 ≤ worker = (let nonzero = c.if-worker-eq0.false in omega (arith, nonzero)) in
-    let less : worker - 1 < length c.args.walkers.now.each.items = (let test = c.if-place_of_worker-len.false in let len = c.len.ensures in let ok = c.args.walkers.now.each.ok.0 in omega (arith, test, len, ok)) in
+    let less : worker - 1 < length c.args.walkers.now.each.items = (let test = c.if-worker-len.false in let len = c.len.ensures in let ok = c.args.walkers.now.each.ok.0 in omega (arith, low, test, len, ok)) in
     let there = there_at c.args.walkers.now.each.items c.args.walkers.now.each.items (worker - 1) walker refl less ∙ ap (λ w. Some w) (sym c.index_mut-walker.ensures.value) in
-    let shows : ShowsWalk r cursor (Some worker) points = subst (λ (ps : List ℕ). ShowsWalk r cursor (Some worker) ps) (sym c.as_slice-points.ensures.value) (subst (λ (o : Option ℕ). ShowsWalk r cursor o c.read_next.new.points.items) c.in-Some.is c.in_ok-worker.ensures) in
-    let same = at_journal told r cursor c.args.replay.now c.args.walkers.now c.args.least c.args.place c.args.hook c.args.frame.now it c.as_slice-journal.result.now c.as_slice-journal.ensures.value in
+    let shows : ShowsWalk r cursor (Some worker) points = subst (λ (o : Option ℕ). ShowsWalk r cursor o points) c.in-Some.is c.in_ok-worker.ensures in
+    let same = it.of.journal_is in
     let yes : c.in_ok-walk_again.field-0 ≡ true = search rules in
     let no : c.take.result ≡ false = search rules in
     let walks : WalksTo (journal_of told) c.args.hook c.args.frame.now floor points end = subst (λ (js : List Edit). WalksTo js c.args.hook c.args.frame.now floor points end) same (c.in_ok-walk_again.ensures.yes (ap (λ (b : Bool). Ok b) yes)) in
     let ended = has_ended told r cursor c.args.replay.now c.args.walkers.now c.args.least c.args.place c.args.hook c.args.frame.now it floor points end walks in
-    let text = c.as_slice.ensures.value ∙ c.in_ok-put_line.ensures ended.ended ended.is in
+    let read = c.in_ok-walk_again.ensures.points in
+    let text = c.as_slice.ensures.value ∙ c.in_ok-put_line.ensures.line ended.ended ended.is ∙ ap (λ (ps : List ℕ). packet_line (c.args.place + 1) (recorded_by worker ps ended.ended)) read in
     c.take.ensures.stuck no told.loaded (stand_with told it.walked.outcomes) it.walked.is_at (is_open told r cursor c.args.replay.now c.args.walkers.now c.args.least c.args.place c.args.hook c.args.frame.now it)
     (must_be told r cursor c.args.replay.now c.args.walkers.now c.args.least c.args.place c.args.hook c.args.frame.now it worker floor points end ended.ended shows
     (floor_of told r cursor c.args.replay.now c.args.walkers.now c.args.least c.args.place c.args.hook c.args.frame.now it worker walker low there) walks ended.is c.as_slice.result.now text)
@@ -133,21 +128,25 @@ pub returns-clause-taken : goal.returns-clause-taken
 returns-clause-taken c = λ is told it.
     let r = c.args.report.now in
     let cursor = c.args.cursor.now in
-    let points = c.as_slice-points.result.now in
+    let points = c.read_next.new.points.items in
     let worker = c.in-Some.worker in
     let walker = c.index_mut-walker.result.now in
     let floor = max c.args.least walker.seen in
-    let end = c.walk_again.new.walk.standing in
+    let end = c.walk_again.new.room.walk.standing in
     let old = c.args.walkers.now in
     let low : 1 ≤ worker = (let nonzero = c.if-worker-eq0.false in omega (arith, nonzero)) in
-    let less : worker - 1 < length old.each.items = (let test = c.if-place_of_worker-len.false in let len = c.len.ensures in let ok = old.each.ok.0 in omega (arith, test, len, ok)) in
+    let less : worker - 1 < length old.each.items = (let test = c.if-worker-len.false in let len = c.len.ensures in let ok = old.each.ok.0 in omega (arith, low, test, len, ok)) in
     let there = there_at old.each.items old.each.items (worker - 1) walker refl less ∙ ap (λ w. Some w) (sym c.index_mut-walker.ensures.value) in
-    let same = at_journal told r cursor c.args.replay.now old c.args.least c.args.place c.args.hook c.args.frame.now it c.as_slice-journal.result.now c.as_slice-journal.ensures.value in
+    let same = it.of.journal_is in
     let yes : c.in_ok-walk_again.field-0 ≡ true = search rules in
     let took : c.take.result ≡ true = search rules in
     let walks : WalksTo (journal_of told) c.args.hook c.args.frame.now floor points end = subst (λ (js : List Edit). WalksTo js c.args.hook c.args.frame.now floor points end) same (c.in_ok-walk_again.ensures.yes (ap (λ (b : Bool). Ok b) yes)) in
     let ended = has_ended told r cursor c.args.replay.now old c.args.least c.args.place c.args.hook c.args.frame.now it floor points end walks in
-    let text = c.as_slice.ensures.value ∙ c.in_ok-put_line.ensures ended.ended ended.is in
+    let read = c.in_ok-walk_again.ensures.points in
+    let text = c.as_slice.ensures.value ∙ c.in_ok-put_line.ensures.line ended.ended ended.is ∙ ap (λ (ps : List ℕ). packet_line (c.args.place + 1) (recorded_by worker ps ended.ended)) read in
+    let rest = c.in_ok-put_line.ensures.rest in
+    let shown : c.put_line.new.room.points.items ≡ points = ap (λ (m : Room). m.points.items) rest ∙ read in
+    let stands : outcome_of c.put_line.new.room.walk.standing ≡ Some ended.ended = ap (λ (m : Room). outcome_of m.walk.standing) rest ∙ ended.is in
     let stood = c.in_ok-walk_again.ensures.walker (ap (λ (b : Bool). Ok b) yes) in
     let later = c.note_walk.new.walker in
     let noted = c.in_ok-note_walk.ensures.seen in
@@ -157,9 +156,9 @@ returns-clause-taken c = λ is told it.
       counts = c.note_walk.new.counts;
       passed = old.passed + c.passes-passes.result;
       dropped = old.dropped + (1 - c.passes-passes.result);
-      room = record { walk = c.walk_again.new.walk; latest = c.walk_again.new.latest; points = c.read_next.new.points; text = c.put_line.new.text };
+      room = c.put_line.new.room;
     } in
-    let verdict = some_holds (λ (o : WalkOutcome). c.verdict.result ≡ o.verdict) (outcome_of end) ended.ended ended.is c.verdict.ensures in
+    let verdict = some_holds (λ (o : WalkOutcome). c.verdict.result ≡ o.verdict) (outcome_of c.put_line.new.room.walk.standing) ended.ended stands c.verdict.ensures in
     let passes = c.passes-passes.ensures ∙ ap (λ v. if is_pass v then 1 else 0) verdict in
     let at_most = one_most (is_pass ended.ended.verdict) in
     let more : IsWalkMore (journal_of told) outcome (worker - 1) walker later old new = record {
@@ -167,11 +166,11 @@ returns-clause-taken c = λ is told it.
       within = less;
       number = omega (arith, low);
       set = refl;
-      seen = ap (λ (w : Walker). w.seen) noted ∙ ap (λ (n : ℕ). max n (greatest points)) (c.in_ok-walk_again.ensures.seen (ap (λ (b : Bool). Ok b) yes));
-      stands = subst (StandsIn (journal_of told)) (sym noted) (subst (λ (js : List Edit). StandsIn js (record c.walk_again.new.walker { seen = max c.walk_again.new.walker.seen (greatest points) })) same (record { within = stood.0.within; spells = stood.0.spells }));
+      seen = ap (λ (w : Walker). w.seen) noted ∙ ap (λ (n : ℕ). max n (greatest c.put_line.new.room.points.items)) (c.in_ok-walk_again.ensures.seen (ap (λ (b : Bool). Ok b) yes)) ∙ ap (λ (ps : List ℕ). max walker.seen (greatest ps)) shown;
+      stands = subst (StandsIn (journal_of told)) (sym noted) (subst (λ (js : List Edit). StandsIn js (record c.walk_again.new.walker { seen = max c.walk_again.new.walker.seen (greatest c.put_line.new.room.points.items) })) same (record { within = stood.0.within; spells = stood.0.spells }));
       first = subst (StandsAtFirst points) (sym noted) (record { first = stood.1.first; more = stood.1.more; points_are = stood.1.points_are; at_first = stood.1.at_first });
-      counts = c.in_ok-note_walk.ensures.counts ended.ended ended.is;
-      short = c.in_ok-note_walk.ensures.short ended.ended ended.is;
+      counts = c.in_ok-note_walk.ensures.counts ended.ended stands;
+      short = c.in_ok-note_walk.ensures.short ended.ended stands;
       passed = ap (λ (n : ℕ). old.passed + n) passes;
       all = omega (arith, passes, at_most);
     } in

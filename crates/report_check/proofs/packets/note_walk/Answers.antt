@@ -5,4 +5,4 @@ use Rattle.report_check.proofs.packets.note_walk.Goals as goal
 
 pub returns-clause-short : goal.returns-clause-short
 returns-clause-short c = λ ended is.
-    subst IsShortRun (executed_are c.executed.result.now c.args.walk.now.standing ended c.executed.ensures.same is) c.executed.ensures.short
+    subst IsShortRun (executed_are c.executed.result.now c.args.room.now.walk.standing ended c.executed.ensures.same is) c.executed.ensures.short
