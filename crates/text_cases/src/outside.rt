@@ -18,24 +18,39 @@ const BUFFER: usize = 64 * 1024;
 
 // Want of memory may come at any call, so no clause rules out that it always does.
 #[test]
-fn each_call_can_succeed(rt: HostRuntime) -> Result<(), Fail> {
-    let third = Numbers::from_vec(vec![in rt.alloc(); 3u32]?);
-    let mut shelf = MemShelf::new(rt.alloc(), third);
+fn a_shelf_in_memory_holds_what_was_put(rt: HostRuntime) -> Result<(), Fail> {
+    let mut shelf = MemShelf::new(rt.alloc(), Numbers::from_vec(Vec::new(rt.alloc())));
     shelf.insert("a", b"one")?;
     assert_eq!(rt; shelf.get("a"), Some(b"one".as_slice()));
-    assert_eq!(rt; shelf.fetch("a")?.as_slice(), b"one".as_slice(), "call 1");
     shelf.put("a", b"two")?;
-    assert_eq!(rt; shelf.fetch("a").err(), Some(Fetch::Failed), "call 3");
-    assert_eq!(rt; shelf.fetch("b").err(), Some(Fetch::Missing), "call 4");
-    assert_eq!(rt; shelf.get("a"), Some(b"two".as_slice()));
+    let read = shelf.fetch("a")?;
+    assert_eq!(rt; read.as_slice(), b"two".as_slice());
+    Ok(())
+}
 
+#[test]
+fn a_shelf_in_memory_fails_when_it_is_told(rt: HostRuntime) -> Result<(), Fail> {
+    let second = Numbers::from_vec(vec![in rt.alloc(); 2u32]?);
+    let mut shelf = MemShelf::new(rt.alloc(), second);
+    shelf.put("a", b"one")?;
+    assert_eq!(rt; shelf.fetch("a").err(), Some(Fetch::Failed), "call 2");
+    assert_eq!(rt; shelf.fetch("b").err(), Some(Fetch::Missing), "call 3");
+    assert_eq!(rt; shelf.get("a"), Some(b"one".as_slice()));
+    Ok(())
+}
+
+#[test]
+fn a_sink_in_memory_has_what_was_written(rt: HostRuntime) -> Result<(), Fail> {
     let mut sink = MemSink::new(rt.alloc(), Numbers::from_vec(Vec::new(rt.alloc())));
     sink.write_all(b"th")?;
     sink.write_all(b"ree")?;
     assert_eq!(rt; sink.bytes(), b"three".as_slice());
-
-    StdSink::new(&rt, rt.alloc())?.flush()?;
     Ok(())
+}
+
+#[test]
+fn an_output_takes_what_it_holds_back(rt: HostRuntime) -> Result<(), Fail> {
+    Ok(StdSink::new(&rt, rt.alloc())?.flush()?)
 }
 
 fn crosses_threads<T: Send + Sync>() {}
