@@ -8,9 +8,9 @@
 //!
 //! A run begins at position 0. After pipe comes the next position; at the last one, pipe ends the list. A
 //! jump goes to a position counted from 0 of the list, and not from where it stands. It ends the list with
-//! accept where that position is 0 or isn't in the list, and so does each jump after `JUMPS_MAX` were followed. Any
-//! other control ends the list as it says. What the controls mean is in tc-actions(8), and jumps are counted
-//! as in `tcf_action_exec` of the kernel (net/sched/act_api.c). So no list runs for ever.
+//! accept where that position is 0 or isn't in the list, and so does each jump after `JUMPS_MAX` were
+//! followed. Any other control ends the list as it says. What the controls mean is in tc-actions(8), and
+//! jumps are counted as in `tcf_action_exec` of the kernel (net/sched/act_api.c). So no list runs for ever.
 //!
 //! `specs/Run.antt` says where a run stands after a control, and `specs/Endings.antt` how a list ends, by
 //! recursion over what is left of it.

@@ -2,7 +2,7 @@
 //!
 //! `block_codec` says which words a filter, a mask, a table and an action have, and its calls answer the one
 //! thing whose words these are. A law over what a store holds asks the same of words that no call was given:
-//! what they read as (`specs/Read.antt`). Here that is a value for each list of words, and
+//! what they read as (`specs/OfReadings/Read.antt`). Here that is a value for each list of words, and
 //! `blocks_read_as_one` says that it is the one that the words are those of. The calls answer that value.
 //! They keep nothing and take no memory, so any thread may make them.
 

@@ -8,7 +8,8 @@
 //! out of the writer of masks.
 //!
 //! In between the writer holds both, the masks that heads name and those that were built: `HoldsBuilt`
-//! (`specs/Builds.antt`). The list of those that were built is one that clauses name; `move_masks` takes it.
+//! (`specs/OfMoves/Builds.antt`). The list of those that were built is one that clauses name; `move_masks`
+//! takes it.
 //!
 //! Blocks, rows and slots are handed in, and the pools are the caller's. The thread that has the store's
 //! writer calls. No call takes memory, and none waits.

@@ -7,8 +7,8 @@
 //!
 //! `refit` makes these commits with the writer of masks, and keeps what a desk knows: the law with each of
 //! them, the masks that the writer holds, and that each mask has its number of buckets again. What is asked
-//! beforehand is one record, `MayRefit` (`specs/Refit.antt`). A root may get a new chain only with a later
-//! stamp, so nothing that was committed for the last edit may stand at the rows' roots or the mask's.
+//! beforehand is one record, `MayRefit` (`specs/OfResizes/Refit.antt`). A root may get a new chain only with
+//! a later stamp, so nothing that was committed for the last edit may stand at the rows' roots or the mask's.
 //!
 //! The thread that has the store's writer calls. The call refuses nothing, takes no memory and doesn't wait.
 //!

@@ -6,10 +6,10 @@
 //! the edit will have, so that whoever comes to them knows the edit.
 //!
 //! The lists have changed by then: an edit is done in the lists first, so that nothing can fail between two
-//! commits. What is put is read off them. Each serial that the edit gave is live (`proofs/Living.antt`), and
-//! gets a slot and a block; those that were live before keep theirs. What it leaves is `ArePut`
-//! (`specs/Put.antt`), which has what the law asks of the edit's own commit, and all places for the state
-//! that the edit leads to.
+//! commits. What is put is read off them. Each serial that the edit gave is live
+//! (`proofs/OfLineActions/Living.antt`), and gets a slot and a block; those that were live before keep
+//! theirs. What it leaves is `ArePut` (`specs/OfLineActions/Put.antt`), which has what the law asks of the
+//! edit's own commit, and all places for the state that the edit leads to.
 //!
 //! Behind the commit of the edit `drop_dead_actions` lets the actions go that the old filters named and that
 //! nobody holds any more: their slots and blocks leave the pools' use, to come back when no walk can have

@@ -5,7 +5,7 @@
 //! in the lists and in what the writer of masks holds, before anything is changed. So what the edit needs is
 //! known before anything is taken (`Way::needs`, which is what `needed_of` of `desk_needs` says of the state
 //! and the edit: `ways_need`), and the calls that make the commits get what they ask for
-//! (`specs/Ways.antt`).
+//! (`specs/OfWays/Ways.antt`).
 //!
 //! The thread that has the desk calls, between two edits. No call changes the desk, takes memory or waits. A
 //! look-up takes time by the masks of a table and by one bucket, and none by all filters.

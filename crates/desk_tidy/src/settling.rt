@@ -20,10 +20,10 @@ fn pause() {
     }
 }
 
-/// Begins an epoch, and scans the readers. Where a reader was inside it scans them once more a moment later, as
-/// else readers that walk without a pause would hardly ever be found outside, all of them. Where it is quiet
-/// the base is the number of all commits. Else it names the first reader that is in the way, which was seen
-/// twice inside with the same pin.
+/// Begins an epoch, and scans the readers. Where a reader was inside it scans them once more a moment later,
+/// as else readers that walk without a pause would hardly ever be found outside, all of them. Where it is
+/// quiet the base is the number of all commits. Else it names the first reader that is in the way, which was
+/// seen twice inside with the same pin.
 pub fn settle<L: Law>(writer: &mut Writer<L>, store: &Store<L>) -> Scan
     requires store { IsSeatOf store.now writer.old.place }
     requires few { (sheet_of writer.old.place).epoch < 2 ^ 62 }

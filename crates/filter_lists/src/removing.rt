@@ -2,8 +2,9 @@
 //!
 //! An edit is looked at first, and done later. `plan_removal` finds what the edit takes out, or why it is
 //! refused, exactly as the flat state's step does, and changes nothing. `remove` does what was planned, on
-//! lists that are still as they were when it was planned (`IsReady` in `specs/Removals.antt`): the filter
-//! leaves its mask, a mask or table goes with its last filter, and each place lets its action go, in order.
+//! lists that are still as they were when it was planned (`IsReady` in `specs/OfRemoving/Removals.antt`): the
+//! filter leaves its mask, a mask or table goes with its last filter, and each place lets its action go, in
+//! order.
 //!
 //! Neither call takes memory. One thread changes the lists at a time, by `&mut`.
 mod doing;

@@ -6,10 +6,10 @@
 //! this project's states (`hook_meaning`): whoever builds the record of a commit takes what it says of the
 //! edit from here, field by field, and adds what it knows of chains, slots and roots.
 //!
-//! The premise is the same everywhere, `IsAccepted` (`specs/Premises.antt`): the commits so far keep the law,
-//! the edit is one that a line can say, and the step from the state that they have come to accepts it.
-//! `accepted_edits` says that it may be made then, and that the states are sound. Edits that no walk can see
-//! have a whole record at once, `unseen_edits`. An edit of an action sets one action. An edit of filters
+//! The premise is the same everywhere, `IsAccepted` (`specs/OfEdits/Premises.antt`): the commits so far keep
+//! the law, the edit is one that a line can say, and the step from the state that they have come to accepts
+//! it. `accepted_edits` says that it may be made then, and that the states are sound. Edits that no walk can
+//! see have a whole record at once, `unseen_edits`. An edit of an action sets one action. An edit of filters
 //! changes one mask alone (`filter_added`, `filter_replaced`, `filter_removed`) or goes to the head of one
 //! hook (`head_changed`), and `actions_of_filters` says what it does to actions.
 //!

@@ -8,14 +8,14 @@
 //! packet's walk makes each visit at one point of the journal, at which the visited thing stood
 //! (`specs/Outcomes.antt`). The points have four rules (`specs/Points.antt` of `walk_points`): the head's is
 //! neither before the edits of earlier rounds nor before anything that its worker had seen
-//! (`specs/Points.antt`), no other is before the head's, none is past the edits of the round, and for one mask
-//! or one action they never fall. A counter is kept for each action that was ever made.
+//! (`specs/Points.antt`), no other is before the head's, none is past the edits of the round, and for one
+//! mask or one action they never fall. A counter is kept for each action that was ever made.
 //!
 //! The definitions compute nothing that a run would have to follow, and name no thread: they are judged by a
 //! report and a job alone. `laws` says what follows for any lawful run: it has one journal, each line has its
 //! result and each packet its walk in that journal, and no worker goes back. `cases` tells of small parts of
-//! runs, and of one whole run with its report, whether they are lawful. `logs` leads from what workers hand in
-//! to a lawful round, and from round to round.
+//! runs, and of one whole run with its report, whether they are lawful. `logs` leads from what workers hand
+//! in to a lawful round, and from round to round.
 //!
 //! `LoadedJob` is a job with what its files hold, as plain data, which may go to any thread. Nothing else is
 //! there at run time: the functions of `laws`, `cases` and `logs` do nothing, and any thread may call them.

@@ -26,8 +26,9 @@ pub fn slots_go_on()
         → slot_in t.rows mask key ≡ slot_in s.rows mask key }
 {}
 
-/// The mask of the row that comes has its words, and is found by them in the row's table. The mask of a row that went is gone where its table has none with its words, and else it has them
-/// still. All others are as they were.
+/// The mask of the row that comes has its words, and is found by them in the row's table. The mask of a row
+/// that went is gone where its table has none with its words, and else it has them still. All others are as
+/// they were.
 pub fn masks_go_on()
     ensures comes { (s t : State) (going : List Row) (come : Option Row) → Sound s → Sound t
         → GoesOn s.rows t.rows going come → (row : Row) → come ≡ Some row

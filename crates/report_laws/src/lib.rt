@@ -24,8 +24,8 @@
 //! well: with two, a line might be a command of either.
 //!
 //! No lawful run is longer than its job (`runs_are_short`), so a report can be written and its events and
-//! packets counted. And each loaded job has a lawful run (`each_job_has_a_run`): the path without a line goes on
-//! to an end as well.
+//! packets counted. And each loaded job has a lawful run (`each_job_has_a_run`): the path without a line goes
+//! on to an end as well.
 //!
 //! `whole_paths` says that each path goes on to the end, and so where lines get stuck, which is the first bad
 //! line of a report; `next_lines` says which line may come next, in words that whoever judges a report can

@@ -27,8 +27,8 @@
 //! that `ways` of `desk_parts` found on it and for what `needs_by` tells of that way, and leaves a desk
 //! again, one edit further. What was found holds of the desk before the edit, and each commit asks for it as
 //! things are then. Between the two come only commits that carry no edit and change no head, so every mask is
-//! still at its slot, with as many filters (`proofs/Found.antt`). As much is taken as is needed, and what
-//! leaves is told (`specs/Spent.antt`).
+//! still at its slot, with as many filters (`proofs/OfDeskEdits/Found.antt`). As much is taken as is needed,
+//! and what leaves is told (`specs/OfDeskEdits/Spent.antt`).
 //!
 //! The numbers that a commit takes come out of the pools inside its call, so that what is known of free ones
 //! holds of the very commits that it finds; those that it sets free leave. Memory may be refused only before

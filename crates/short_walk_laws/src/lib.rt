@@ -2,8 +2,8 @@
 //!
 //! The rules of a walk allow 65,536 visits, and an action lets no frame grow past 262,144 bytes. So what is
 //! recorded of a packet's walk in a run is bounded by the rules alone: how much was visited and ran, on how
-//! long frames, and how long the frame is that it left. Counters need this, since no sum may wrap, and so does
-//! whoever writes the frames that passed.
+//! long frames, and how long the frame is that it left. Counters need this, since no sum may wrap, and so
+//! does whoever writes the frames that passed.
 //!
 //! Laws only: there is nothing here to call at run time.
 #![tactic(auto)]
@@ -17,8 +17,8 @@ ghost use Rattle.run_report.specs.declared.outcomes.Outcome.{Outcome};
 ghost use Rattle.lawful_runs.specs.Given.{Arrival};
 ghost use Rattle.lawful_runs.specs.Outcomes.{IsWalked};
 
-/// A walk makes 65,536 visits at most. That of a frame of at most 262,144 bytes runs 65,536 actions at most, each
-/// on a frame of at most 262,144 bytes, and leaves one.
+/// A walk makes 65,536 visits at most. That of a frame of at most 262,144 bytes runs 65,536 actions at most,
+/// each on a frame of at most 262,144 bytes, and leaves one.
 pub fn walks_are_short()
     ensures visits { (journal : List Edit) (floor ceiling : ℕ) (arrival : Arrival) (outcome : Outcome)
         → IsWalked journal floor ceiling arrival outcome → length outcome.points ≤ VISITS_MAX }

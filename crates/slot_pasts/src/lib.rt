@@ -5,9 +5,9 @@
 //! put there, with the point from which it stood. What stood at a point is the last of these up to it, found
 //! by halving, and mostly a place has one or two.
 //!
-//! `SlotPasts` has the pasts of all filters behind one hash index. A filter is named by the serial of its mask
-//! and by its key, since two filters of a state never have both; and what stands there is the list of its
-//! actions' serials, or nothing. A look-up is one hash and one halving, whatever the journal's length.
+//! `SlotPasts` has the pasts of all filters behind one hash index. A filter is named by the serial of its
+//! mask and by its key, since two filters of a state never have both; and what stands there is the list of
+//! its actions' serials, or nothing. A look-up is one hash and one halving, whatever the journal's length.
 //!
 //! # Who may call what
 //!

@@ -2,9 +2,9 @@
 //!
 //! Whoever judges a report asks at each visit what the state of a point answers, and points of one walk may
 //! go up and down over a whole round. To keep a state for each point would cost a copy for each edit. So
-//! `StatePast` keeps the past of each thing that a walk asks for apart: of each slot, which is a mask's serial
-//! with a key, the actions of the filter that stood there; of each mask its words, while it stood; of each
-//! action its parameters. A look-up is one hash and one halving, whatever the length of the journal.
+//! `StatePast` keeps the past of each thing that a walk asks for apart: of each slot, which is a mask's
+//! serial with a key, the actions of the filter that stood there; of each mask its words, while it stood; of
+//! each action its parameters. A look-up is one hash and one halving, whatever the length of the journal.
 //!
 //! `follow` does one step of the lists, and remembers it. An edit costs what it changes: one or two changes,
 //! or for a table that goes one for each of its filters. What went is copied out of the lists before the
@@ -15,8 +15,8 @@
 //!
 //! # Who may call what
 //!
-//! Plain data, used by one thread at a time. Only `follow` takes memory. Where it is refused the past may have
-//! changed, and the lists may have gone on: nothing is promised of either then but that neither breaks.
+//! Plain data, used by one thread at a time. Only `follow` takes memory. Where it is refused the past may
+//! have changed, and the lists may have gone on: nothing is promised of either then but that neither breaks.
 //!
 //! Not promised: anything of how long a look-up takes where keys were chosen to collide, since the index has
 //! no seed.

@@ -1,8 +1,8 @@
 //! Counters of actions and claims of packets, which many threads change at once without a lock.
 //!
 //! Each worker draws the next packet that is its own (`Claims`), and threads may count each execution of an
-//! action (`Counters`; a run doesn't, as it counts those of its record behind the last round). Both are single
-//! atomic additions on words that all threads share, so nobody waits and nothing is lost. What a
+//! action (`Counters`; a run doesn't, as it counts those of its record behind the last round). Both are
+//! single atomic additions on words that all threads share, so nobody waits and nothing is lost. What a
 //! thread then knows of a shared word is only what it did itself. So each thread has a seat. A seat has no
 //! bytes: it exists for contracts alone, and says what its thread added or drew. Two rules, which every step
 //! keeps, tie the seats to the words: each counter is the sum of what all seats added to it, and the numbers
@@ -10,8 +10,8 @@
 //!
 //! A total is a fact about all seats at once. So each seat holds a share, and giving a seat back hands its
 //! share and its deeds to another seat. Whoever holds all shares has all deeds in one list, and only there
-//! `totals` and `draw` tell the whole. Two laws go on from there: that one draw behind all seats tells that no
-//! number was left out (`each_number_once`), and that a sum over drawn numbers doesn't hang on their order
+//! `totals` and `draw` tell the whole. Two laws go on from there: that one draw behind all seats tells that
+//! no number was left out (`each_number_once`), and that a sum over drawn numbers doesn't hang on their order
 //! (`sums_over_numbers`).
 //!
 //! `Counters` and `Claims` are shared by `&` among any number of threads. A seat belongs to one thread at a

@@ -10,10 +10,10 @@
 //! The lists go first, so they are one edit ahead: what a mask has after the edit is read off them, with the
 //! slots of its filters' actions (`telling.rt`). Then come, mask by mask, numbers out of the pools and the
 //! commits of the whole mask, which carry no edit (`laying.rt`, `raising.rt`). What holds in between is
-//! `IsRaising` (`specs/Raises.antt`): a desk as it was, and beside it masks that nobody reads. The head's
-//! commit carries the edit. The masks at the old places are gone then, though their serials may be named at
-//! new ones, and leave the writer of masks, each with its slot, its rows and its blocks (`moving.rt`). Last
-//! go the actions of the old filter that are live no more.
+//! `IsRaising` (`specs/OfDeskEdits/OfMoves/Raises.antt`): a desk as it was, and beside it masks that nobody
+//! reads. The head's commit carries the edit. The masks at the old places are gone then, though their serials
+//! may be named at new ones, and leave the writer of masks, each with its slot, its rows and its blocks
+//! (`moving.rt`). Last go the actions of the old filter that are live no more.
 //!
 //! Memory may be refused only before an edit is begun, so the lists for numbers and filters of each mask come
 //! as a `MaskRoom` that was made before. A call refuses nothing, takes no memory and doesn't wait.

@@ -33,8 +33,8 @@ fn room_for(alloc: Global, blocks: u32, rows: u32, filters: u32) -> Result<MaskR
     })
 }
 
-// How many filters the masks have that are laid anew whole: the one into which a filter goes, and the one that
-// it leaves.
+// How many filters the masks have that are laid anew whole: the one into which a filter goes, and the one
+// that it leaves.
 fn laid_filters(way: &Way) -> (u32, u32)
     requires few { AreFew way.now }
     ensures { HaveFilters way.now result.0 result.1 }
