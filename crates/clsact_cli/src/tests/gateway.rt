@@ -50,30 +50,42 @@ struct Sent {
     flags: Option<u8>,
 }
 
-const fn udp(from: [u8; 4], port: u16) -> Sent {
-    Sent {
-        from,
-        port,
-        flags: None,
-    }
-}
-
-const fn tcp(from: [u8; 4], port: u16, flags: u8) -> Sent {
-    Sent {
-        from,
-        port,
-        flags: Some(flags),
-    }
-}
-
 const PACKETS: [Sent; 7] = [
-    udp([192, 0, 2, 9], 53),
-    tcp([10, 0, 0, 254], 22, 0x02),
-    tcp([203, 0, 113, 5], 22, 0x02),
-    udp([203, 0, 113, 5], 53),
-    tcp([203, 0, 113, 5], 443, 0x02),
-    tcp([203, 0, 113, 5], 80, 0x02),
-    tcp([203, 0, 113, 5], 80, 0x10),
+    Sent {
+        from: [192, 0, 2, 9],
+        port: 53,
+        flags: None,
+    },
+    Sent {
+        from: [10, 0, 0, 254],
+        port: 22,
+        flags: Some(0x02),
+    },
+    Sent {
+        from: [203, 0, 113, 5],
+        port: 22,
+        flags: Some(0x02),
+    },
+    Sent {
+        from: [203, 0, 113, 5],
+        port: 53,
+        flags: None,
+    },
+    Sent {
+        from: [203, 0, 113, 5],
+        port: 443,
+        flags: Some(0x02),
+    },
+    Sent {
+        from: [203, 0, 113, 5],
+        port: 80,
+        flags: Some(0x02),
+    },
+    Sent {
+        from: [203, 0, 113, 5],
+        port: 80,
+        flags: Some(0x10),
+    },
 ];
 
 impl Sent {
