@@ -6,3 +6,4 @@ pub mod Index
 pub mod Changes
 pub mod Calls
 pub mod Lowest
+mod Spare

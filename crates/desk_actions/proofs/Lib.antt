@@ -6,4 +6,5 @@ pub mod Turning
 pub mod Names
 pub mod Gone
 pub mod Counted
+mod Said
 pub mod OfLedgers

@@ -1,1 +1,5 @@
 pub mod Layers
+mod Packets
+mod Ports
+mod Puts
+mod Tagged

@@ -6,7 +6,7 @@ use std::marker::Model;
 use tc_base::{NoMemory, Point};
 
 /// The point of the last look-up at a slot, and the walk that made it.
-#[derive(Clone, Copy, Debug)]
+#[derive(Clone, Copy)]
 pub(crate) struct Mark {
     pub(crate) walk: u32,
     pub(crate) point: Point,

@@ -8,7 +8,7 @@ use crate::rounds::{BatchNames, Rounds};
 use std::alloc::{AllocError, Global};
 
 /// Which lines may follow.
-#[derive(Clone, Copy, Debug)]
+#[derive(Clone, Copy)]
 pub enum Stage {
     /// The header.
     Begun,

@@ -12,7 +12,7 @@ use hook_store_law::HookStore;
 use pin_store::Scan;
 
 /// A pool that is short, and the reader in the way, with its pin.
-#[derive(Clone, Copy, Debug)]
+#[derive(Clone, Copy)]
 pub(crate) struct Hindrance {
     pub short: Short,
     pub reader: u32,

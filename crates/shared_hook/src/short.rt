@@ -12,7 +12,7 @@ use tc_base::Hook;
 const POOLS: u32 = 6;
 
 /// A pool, what is needed of it, and how many it has free, which are fewer.
-#[derive(Clone, Copy, Debug)]
+#[derive(Clone, Copy)]
 pub(crate) struct Short {
     pub pool: Pool,
     pub needed: u32,

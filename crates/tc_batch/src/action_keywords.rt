@@ -7,7 +7,7 @@ use act_kinds::Control;
 use tc_words::is_text;
 
 /// Where an action stands.
-#[derive(Clone, Copy, Debug, PartialEq, Eq)]
+#[derive(Clone, Copy)]
 pub enum Site {
     Filter,
     /// `actions add`
@@ -17,7 +17,7 @@ pub enum Site {
 }
 
 /// The first word of a control. A jump has a number behind it, and a goto the word `chain` and a number.
-#[derive(Clone, Copy, Debug, PartialEq, Eq)]
+#[derive(Clone, Copy)]
 pub enum ControlWord {
     Plain(Control),
     Jump,
@@ -25,20 +25,20 @@ pub enum ControlWord {
 }
 
 /// What is done with the tag that a vlan action names.
-#[derive(Clone, Copy, Debug, PartialEq, Eq)]
+#[derive(Clone, Copy)]
 pub enum TagVerb {
     Push,
     Modify,
 }
 
-#[derive(Clone, Copy, Debug, PartialEq, Eq)]
+#[derive(Clone, Copy)]
 pub enum VlanVerb {
     Tagged(TagVerb),
     Pop,
 }
 
 /// The names of a tag's parts, each with a value behind it.
-#[derive(Clone, Copy, Debug, PartialEq, Eq)]
+#[derive(Clone, Copy)]
 pub enum TagName {
     Id,
     Priority,
@@ -46,7 +46,7 @@ pub enum TagName {
 }
 
 /// The names of what skbedit sets, each with a value behind it.
-#[derive(Clone, Copy, Debug, PartialEq, Eq)]
+#[derive(Clone, Copy)]
 pub enum MarkName {
     Priority,
     Mark,

@@ -10,7 +10,7 @@ use std::alloc::Global;
 use tc_base::{Hook, Proto};
 
 /// A filter line up to its actions.
-#[derive(Clone, Copy, Debug)]
+#[derive(Clone, Copy)]
 pub struct Head {
     pub replaces: bool,
     pub hook: Hook,

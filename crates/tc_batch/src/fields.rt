@@ -21,7 +21,7 @@ const UDP: u64 = 17;
 ///
 /// The names are kept beside the mask, because a field whose mask is 0 leaves no trace there, and its word
 /// may still not stand again.
-#[derive(Clone, Copy, Debug)]
+#[derive(Clone, Copy)]
 pub struct Fields {
     pub given: [bool; 16],
     pub key: Key<14>,

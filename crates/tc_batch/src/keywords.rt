@@ -7,27 +7,27 @@ use tc_base::Hook;
 use tc_words::is_text;
 
 /// What a line is about.
-#[derive(Clone, Copy, Debug, PartialEq, Eq)]
+#[derive(Clone, Copy)]
 pub enum LineKind {
     Qdisc,
     Filter,
     Actions,
 }
 
-#[derive(Clone, Copy, Debug, PartialEq, Eq)]
+#[derive(Clone, Copy)]
 pub enum QdiscVerb {
     Add,
     Del,
 }
 
-#[derive(Clone, Copy, Debug, PartialEq, Eq)]
+#[derive(Clone, Copy)]
 pub enum FilterVerb {
     Add,
     Replace,
     Del,
 }
 
-#[derive(Clone, Copy, Debug, PartialEq, Eq)]
+#[derive(Clone, Copy)]
 pub enum ActionVerb {
     Add,
     Change,
@@ -35,7 +35,7 @@ pub enum ActionVerb {
 }
 
 /// The names that may stand between a hook and `flower`, each with a value behind it.
-#[derive(Clone, Copy, Debug, PartialEq, Eq)]
+#[derive(Clone, Copy)]
 pub enum OptionName {
     Protocol,
     Pref,

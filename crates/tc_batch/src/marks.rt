@@ -7,7 +7,7 @@ use act_kinds::{Control, Params};
 use line_words::{read_class, read_number_between};
 
 /// What stood of skbedit's three so far: `None` where the word didn't.
-#[derive(Clone, Copy, Debug, PartialEq, Eq)]
+#[derive(Clone, Copy)]
 pub struct Marks {
     pub priority: Option<u32>,
     pub mark: Option<u32>,

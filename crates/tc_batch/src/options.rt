@@ -10,7 +10,7 @@ use line_words::read_protocol;
 use tc_base::{Hook, Proto};
 
 /// What stood between the hook and `flower` so far: `None` where the word didn't.
-#[derive(Clone, Copy, Debug, PartialEq, Eq)]
+#[derive(Clone, Copy)]
 pub struct Options {
     pub protocol: Option<Proto>,
     pub pref: Option<u32>,

@@ -9,7 +9,7 @@ use act_kinds::{Kind, Params};
 use filter_state::ActionLine;
 
 /// How far an action has come. Parameters hold the control that stands if none follows.
-#[derive(Clone, Copy, Debug)]
+#[derive(Clone, Copy)]
 pub enum Place {
     /// After `action`.
     Begun,
@@ -30,7 +30,7 @@ pub enum Place {
 }
 
 /// What a line asks for that is no filter to be added or replaced, once its last word was read.
-#[derive(Clone, Copy, Debug)]
+#[derive(Clone, Copy)]
 pub enum Ending {
     Qdisc(QdiscVerb),
     FilterDel,
@@ -41,7 +41,7 @@ pub enum Ending {
 
 /// How far a line has come: after which words it is, or which one word has to follow. What was read of a
 /// filter is in the draft.
-#[derive(Clone, Copy, Debug)]
+#[derive(Clone, Copy)]
 pub enum Stage {
     Start,
     Qdisc,

@@ -10,7 +10,7 @@ use line_words::{read_number_between, read_tpid};
 const CUSTOMER_TAG: u16 = 0x8100;
 
 /// What stood of a tag so far: `None` where the word didn't.
-#[derive(Clone, Copy, Debug, PartialEq, Eq)]
+#[derive(Clone, Copy)]
 pub struct Tag {
     pub id: Option<u16>,
     pub priority: Option<u8>,

@@ -3,7 +3,7 @@
 use report_reading::next_line;
 
 /// A place in a report's bytes, before a line or at the end.
-#[derive(Clone, Copy, Debug)]
+#[derive(Clone, Copy)]
 pub struct Cursor {
     /// The byte at which the next line begins.
     pub at: usize,

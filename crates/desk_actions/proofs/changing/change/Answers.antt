@@ -27,6 +27,7 @@ use Rattle.desk_actions.specs.Places.{slot_of, block_of, AreHere, put_at}
 use Rattle.desk_actions.proofs.Made.{stored_as}
 use Rattle.desk_actions.proofs.Stepping.{same_base}
 use Rattle.desk_actions.proofs.Turning.{has_params, can, alone, change_lawful, change_ledger, change_places, change_pools, old_apart, old_left}
+use Rattle.desk_actions.proofs.Said.{said}
 use Rattle.desk_actions.proofs.changing.change.Goals as goal
 
 pub serial_of-serial-requires : goal.serial_of-serial-requires
@@ -166,3 +167,8 @@ returns-clause-blocks g c = let pools = c.args.pools.now in let mid = c.take_blo
 pub returns-clause-rest : goal.returns-clause-rest
 returns-clause-rest g c = let new = c.leave_block.new.self in
     c.leave_block.ensures.others ∙ ap (λ (q : Pools). record q { blocks = new.blocks }) c.take_block-at.ensures.others
+
+pub returns-clause-done : goal.returns-clause-done
+returns-clause-done g c = let h = commits c.args.ledger.now in
+    said (now h) c.finish-done.new.self c.finish-done.result (step (now h) g.E.EditName.edit)
+    (subst (λ (e : Edit). IsFinished c.finish-done.new.self c.finish-done.result (step (now h) e)) c.requires.edit.0 (c.finish-done.ensures (now h) c.requires.whole.spells))

@@ -18,6 +18,7 @@ use Rattle.desk_actions.specs.OfLedgers.Ledger.{IsLedger}
 use Rattle.desk_actions.specs.OfLedgers.Kept.{commits, base}
 use Rattle.desk_actions.specs.Places.{AreHere, put_at}
 use Rattle.desk_actions.proofs.Stepping.{made_one, can, same_base, slot_unused, next_lawful, next_ledger, next_here, next_pools}
+use Rattle.desk_actions.proofs.Said.{said}
 use Rattle.desk_actions.proofs.making.make.Goals as goal
 
 pub made-action-requires : goal.made-action-requires
@@ -119,3 +120,8 @@ pub returns-clause-rest : goal.returns-clause-rest
 returns-clause-rest g c = let new = c.take_block-at.new.self in
     c.take_block-at.ensures.others ∙ ap (λ (q : Pools). record q { blocks = new.blocks }) c.take_action-slot.ensures.others
     ∙ ap (λ q. record c.args.pools.now { blocks = new.blocks; actions = q }) (sym (ap (λ (q : Pools). q.actions) c.take_block-at.ensures.others))
+
+pub returns-clause-done : goal.returns-clause-done
+returns-clause-done g c = let h = commits c.args.ledger.now in
+    said (now h) c.finish-done.new.self c.finish-done.result (step (now h) g.E.EditName.edit)
+    (subst (λ (e : Edit). IsFinished c.finish-done.new.self c.finish-done.result (step (now h) e)) c.requires.edit.0 (c.finish-done.ensures (now h) c.requires.whole.spells))

@@ -1,8 +1,10 @@
-use Rattle.std.proofs.Common.{◌≡◌, ◌<◌, ℕ, List, ap, ◌∙◌, length, subst, arith}
+use Rattle.std.proofs.Common.{◌≡◌, ◌<◌, ◌+◌, ℕ, List, length, Vec, vec_len, sym, ap, ◌∙◌, subst, arith}
+use Rattle.std.specs.List.{remove}
 use Rattle.act_registry.specs.Names.{IsPlaceFor, name_of}
 use Rattle.act_registry.specs.declared.names.Name.{Name}
 use Rattle.act_registry.proofs.Index.{name-place}
 use Rattle.act_registry.proofs.Changes.{removed-live, removed-indexed}
+use Rattle.act_registry.proofs.Spare.{more_room}
 use Rattle.act_registry.proofs.registry.Registry.take_out.Goals as goal
 
 pub remove-requires : goal.remove-requires
@@ -34,3 +36,16 @@ invariant_of-self g c =
       removed-indexed g.P.Kinded.kind_of es ns c.args.at c.place_for-place.result e n c.self.invariant.1 within at.0
           (at.1 n ∙ ap (name_of g.P.Kinded.kind_of) c.remove-entry.ensures.value),
     )
+
+pub returns-clause-entries : goal.returns-clause-entries
+returns-clause-entries g c = c.remove-entry.ensures.items ∙ ap (λ v. remove v.entries c.args.at) c.self.view_is
+
+-- a list that is one shorter
+one_less : {T A : Type 0} (old new : Vec T A) → vec_len new + 1 ≡ vec_len old → length new.items + 1 ≡ length old.items
+one_less old new len = ap (λ n. n + 1) (sym new.ok.0) ∙ len ∙ old.ok.0
+
+pub returns-clause-spare : goal.returns-clause-spare
+returns-clause-spare g c =
+    more_room _ _ _ _ _ _ _ _ _ (ap (λ v. v.spare) c.self.view_is)
+    c.remove-entry.ensures.capacity (one_less c.self.inside.entries c.remove-entry.new.self c.remove-entry.ensures.len)
+    c.remove.ensures.capacity (one_less c.self.inside.names c.remove.new.self c.remove.ensures.len)

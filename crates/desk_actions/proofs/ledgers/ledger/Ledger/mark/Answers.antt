@@ -10,6 +10,7 @@ use Rattle.hook_store_law.specs.OfEdits.Premises.{now}
 use Rattle.desk_actions.specs.OfLedgers.Ledger.{IsLedger}
 use Rattle.desk_actions.specs.OfLedgers.Kept.{commits, base}
 use Rattle.desk_actions.proofs.OfLedgers.Going.{done_is, mark_lawful, mark_ledger}
+use Rattle.desk_actions.proofs.Said.{said}
 use Rattle.desk_actions.proofs.ledgers.ledger.Ledger.mark.Goals as goal
 
 pub commit-requires-clause-lawful : goal.commit-requires-clause-lawful
@@ -23,3 +24,8 @@ returns-clause-whole g c = let old = c.args.self.now in let h = commits old in l
     let ledger = mark_ledger h b old.lists c.finish-done.new.self old.point y c.finish-done.result l (done_is h b old.lists c.finish-done.new.self old.point y c.finish-done.result l c.requires.edit.1 f) c.requires.edit.2 in
     subst (λ (d : Sheet). IsLedger (seen_by c.commit.new.self.place) (base_of d) c.finish-done.new.self (old.point + 1)) (sym c.commit.ensures.sheet)
     (subst (λ (k : List (Commit Edit)). IsLedger k b c.finish-done.new.self (old.point + 1)) (sym c.commit.ensures.seen) ledger)
+
+pub returns-clause-done : goal.returns-clause-done
+returns-clause-done g c = let h = commits c.args.self.now in
+    said (now h) c.finish-done.new.self c.finish-done.result (step (now h) g.E.EditName.edit)
+    (subst (λ (e : Edit). IsFinished c.finish-done.new.self c.finish-done.result (step (now h) e)) c.requires.edit.0 (c.finish-done.ensures (now h) c.requires.whole.spells))

@@ -1,9 +1,0 @@
-pub mod Growing
-pub mod Right
-pub mod Past
-pub mod Asked
-pub mod Tested
-pub mod InBuckets
-pub mod Rewriting
-pub mod Spending
-pub mod WholeMask

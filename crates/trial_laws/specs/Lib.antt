@@ -1,4 +1,0 @@
-pub mod Lone
-pub mod Handles
-pub mod Ledger
-pub mod ReadAs
