@@ -1,5 +1,5 @@
 -- What an index answered, in the words of the filters that a caller sees.
-use Rattle.std.proofs.Common.{◌≡◌, ℕ, Bool, true, List, ◌∷◌, ◌++◌, Option, Some, None, get_or, sym, ap, ◌∙◌}
+use Rattle.std.proofs.Common.{◌≡◌, ℕ, Bool, true, List, [], ◌∷◌, ◌++◌, append_assoc, Option, Some, None, get_or, sym, ap, ◌∙◌}
 use Rattle.std.specs.Prelude.{find, is_some, option_map, IsSome}
 use Rattle.std.specs.List.{list_any}
 use Rattle.std.proofs.lemmas.Bool.{false≢true}
@@ -38,3 +38,12 @@ changed_there slot now f actions now_is is = now_is ∙ ap (λ (o : Option Filte
 pub next_moved : (moved : List Filter) (slot : Option Filter) (f : Filter) (items rest : List (Option Filter)) (whole : List Filter) → items ≡ slot ∷ rest → slot ≡ Some f →
     moved ++ those_there items ≡ whole → moved ++ f ∷ those_there rest ≡ whole
 next_moved moved slot f items rest whole next is all = sym (ap (λ xs. moved ++ those_there xs) (next ∙ ap (λ s. s ∷ rest) is)) ∙ all
+
+-- a filter that was pushed behind those that were is the next
+pub pushed_next : (moved new rest : List Filter) (f : Filter) (whole : List Filter) → new ≡ moved ++ f ∷ [] → moved ++ f ∷ rest ≡ whole → new ++ rest ≡ whole
+pushed_next moved new rest f whole is all = ap (λ fs. fs ++ rest) is ∙ append_assoc moved (f ∷ []) rest ∙ all
+
+-- an empty slot moves nothing
+pub none_moved : (moved : List Filter) (slot : Option Filter) (items rest : List (Option Filter)) (whole : List Filter) → items ≡ slot ∷ rest → slot ≡ None →
+    moved ++ those_there items ≡ whole → moved ++ those_there rest ≡ whole
+none_moved moved slot items rest whole next is all = sym (ap (λ xs. moved ++ those_there xs) (next ∙ ap (λ s. s ∷ rest) is)) ∙ all

@@ -1,9 +1,11 @@
 -- A key that is looked up by the words of a mask alone.
-use Rattle.std.proofs.Common.{◌≡◌, ℕ, zero, suc, ◌+◌, ◌*◌, ◌%◌, ◌^◌, ◌<◌, ◌≤◌, ◌⊎◌, ◌==◌, true, false, List, [], ◌∷◌, length, get_or, bit_and, Option, Some, None, refl, sym, ap, ap₂, ◌∙◌, subst, inl, inr, arith}
+use Rattle.std.proofs.Common.{◌≡◌, ℕ, zero, suc, ◌+◌, ◌*◌, ◌%◌, ◌^◌, ◌<◌, ◌≤◌, ◌⊎◌, ◌==◌, true, false, List, [], ◌∷◌, length, get_or, bit_and, Option, Some, None, refl, sym, ap, ap₂, ◌∙◌, subst, inl, inr, ne_eqb, arith}
+use Rattle.std.proofs.Math.Numerals.{add-one}
 use Rattle.std.specs.Str.{bytes_eq}
 use Rattle.std.specs.List.{All}
 use Rattle.std.specs.Int.Bits.{and_zero_r}
-use Rattle.std.proofs.lemmas.Bool.{cases_Bool, eqb-true, eqb-false}
+use Rattle.std.proofs.lemmas.Bool.{cases_Bool, eqb-true, eqb-false, leb-true}
+use Rattle.std.proofs.Math.Dec.{leb}
 use Rattle.std.proofs.lemmas.List.{get_or_past}
 use Rattle.flow_mask.specs.Masks.{each_and}
 use Rattle.flow_mask.specs.Places.{used_before, HasPlaces}
@@ -21,6 +23,16 @@ unused_next mask k unused = rw unused refl
 
 pub used_next : (mask : List ℕ) (k : ℕ) → (get_or mask k 0 == 0) ≡ false → used_before mask (suc k) ≡ suc (used_before mask k)
 used_next mask k used = rw used refl
+
+pub used_same : (mask : List ℕ) (k used : ℕ) → get_or mask k 0 ≡ 0 → used ≡ used_before mask k → used ≡ used_before mask (k + 1)
+used_same mask k used unused is = rw (add-one, unused_next mask k unused) is
+
+pub used_more : (mask : List ℕ) (k used : ℕ) → (get_or mask k 0 ≡ 0 → ⊥) → used ≡ used_before mask k → used + 1 ≡ used_before mask (k + 1)
+used_more mask k used some is = rw (add-one k, used_next mask k (ne_eqb (get_or mask k 0) 0 some)) (omega arith)
+
+-- a mask fits a sieve if all its words that are used are few
+pub fits_counted : (mask : List ℕ) (n used : ℕ) → length mask ≡ n → used ≡ used_before mask n → leb used 4 ≡ true → FitsSieve mask
+fits_counted mask n used long is few = let low : used ≤ 4 = omega (arith, leb-true used 4 few) in rw long (omega arith)
 
 -- ---- the sum over the places of a mask is the digest of the key under it
 weighed_next : (words : List ℕ) (k word : ℕ) → get_or words k 0 ≡ word → weighed words (suc k) ≡ weighed words k + word * get_or FACTORS k 0

@@ -72,3 +72,11 @@ loop-at-preserved c =
 pub returns : goal.returns
 returns c =
     none_at_all (each_and c.args.frame.now c.args.mask.now) c.args.slots.now (subst (NoneFrom (each_and c.args.frame.now c.args.mask.now) c.args.slots.now) (let zero_at : c.loop-at.at ≡ 0 = omega (arith, c.loop-at-test.false) in zero_at) c.loop-at.invariant.none)
+
+pub if_masked-requires-clause-listed : goal.if_masked-requires-clause-listed
+if_masked-requires-clause-listed c = c.requires.listed
+
+pub bounds-slots-slot : goal.bounds-slots-slot
+bounds-slots-slot c =
+    let even = ap length c.requires.digests ∙ length-map c.args.slots.now digest_in in
+    omega (arith, c.loop-at-test.true, c.loop-at.invariant.below, even)
