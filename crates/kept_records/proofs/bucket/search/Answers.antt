@@ -8,7 +8,7 @@ use Rattle.pin_store.specs.Calls.{seen_by}
 use Rattle.block_codec.specs.OfReadings.Read.{filter_in}
 use Rattle.kept_records.specs.Keeping.{IsKnown}
 use Rattle.kept_records.proofs.Chains.{at_start}
-use Rattle.kept_records.proofs.Kept.{right_again, known_kept}
+use Rattle.kept_records.proofs.Kept.{all_on, right_again, known_kept}
 use Rattle.kept_records.proofs.bucket.search.Goals as goal
 
 pub find_from-found-requires-clause-before : goal.find_from-found-requires-clause-before
@@ -26,6 +26,10 @@ returns-clause-few g c = let e = c.load_root-word.ensures in let p = c.load_root
     let few = c.find_from-found.ensures.few 0 before in let one = e.loads in
     let same : length (root_of (seen_by c.find_from-found.new.reader.place) c.args.root).chain ≡ length (root_of (seen_by p) c.args.root).chain = ap (λ (h : List (Commit Edit)). length (root_of h c.args.root).chain) c.find_from-found.ensures.same.seen in
     omega (arith, few, one, same)
+
+pub returns-then-tell_known-clause-kept : goal.returns-then-tell_known-clause-kept
+returns-then-tell_known-clause-kept g c =
+    all_on IsKnown (seen_by c.args.reader.now.place) (seen_by c.load_root-word.new.self.place) c.load_root-word.ensures.longer c.args.filters.now c.requires.kept
 
 pub returns-then-tell_known-clause-found : goal.returns-then-tell_known-clause-found
 returns-then-tell_known-clause-found g c = λ there all. let e = c.load_root-word.ensures in let told = c.tell_known.ensures c.if-tell_known.true in

@@ -6,8 +6,13 @@ use Rattle.store_history.specs.Reads.{read_first}
 use Rattle.filter_state.specs.declared.edit.Edit.{Edit}
 use Rattle.pin_store.specs.Calls.{seen_by}
 use Rattle.block_codec.specs.OfReadings.Read.{action_of_words}
-use Rattle.kept_records.proofs.Kept.{again, read_now, lent_some}
+use Rattle.kept_records.specs.Keeping.{IsRead}
+use Rattle.kept_records.proofs.Kept.{all_on, again, read_now, lent_some}
 use Rattle.kept_records.proofs.renewing.renew_action.Goals as goal
+
+pub returns-then-is_some-2-clause-kept : goal.returns-then-is_some-2-clause-kept
+returns-then-is_some-2-clause-kept g c =
+    all_on (IsRead action_of_words) (seen_by c.args.reader.now.place) (seen_by c.load_root-word.new.self.place) c.load_root-word.ensures.longer c.args.actions.now c.requires.kept
 
 pub returns-then-is_some-2-clause-action : goal.returns-then-is_some-2-clause-action
 returns-then-is_some-2-clause-action g c = let e = c.load_root-word.ensures in let h = seen_by c.load_root-word.new.self.place in

@@ -3,12 +3,12 @@ use Rattle.store_history.specs.declared.history.Commit.{Commit}
 use Rattle.store_history.specs.declared.history.Named.{Named}
 use Rattle.store_history.specs.History.{root_of}
 use Rattle.store_history.specs.Reads.{read_all, read_first}
-use Rattle.store_history.proofs.Histories.{prefix_length, prefix_take}
+use Rattle.store_history.proofs.Histories.{prefix_length, prefix_take, prefix_trans}
 use Rattle.filter_state.specs.declared.edit.Edit.{Edit}
 use Rattle.pin_store.specs.Calls.{seen_by, floor_start, start_in, loads_of}
 use Rattle.flow_mask.specs.Masks.{each_and}
 use Rattle.block_codec.specs.declared.filter.StoredFilter.{StoredFilter}
-use Rattle.block_codec.specs.OfReadings.Read.{filter_in, mask_of_words}
+use Rattle.block_codec.specs.OfReadings.Read.{filter_in, mask_of_words, action_of_words}
 use Rattle.mask_table.specs.Buckets.{mask_root, bucket_root, bucket_for, IsAnswer}
 use Rattle.mask_table.proofs.Limits.{within, root_low}
 use Rattle.mask_table.proofs.Looking.{looked_up, one_of}
@@ -16,7 +16,17 @@ use Rattle.mask_table.proofs.Stamps.{no_record}
 use Rattle.hook_meaning.specs.Told.{stands_at, words_after, filters_after}
 use Rattle.hook_meaning.proofs.Masking.{slot_stood, mask_told}
 use Rattle.hook_meaning.proofs.Bucketing.{bucket_told}
+use Rattle.kept_records.specs.Keeping.{IsRead, IsKnown}
+use Rattle.kept_records.proofs.Kept.{all_on}
 use Rattle.kept_records.proofs.records.HookRecords.look.Goals as goal
+
+pub returns-in_default-clause-kept : goal.returns-in_default-clause-kept
+returns-in_default-clause-kept g c = let r = c.renew_mask-stamp.ensures in let k = c.requires.kept in
+    let h0 = seen_by c.args.reader.now.place in let h1 = seen_by c.renew_mask-stamp.new.reader.place in record {
+      masks = r.kept;
+      filters = all_on IsKnown h0 h1 r.longer c.args.self.now.filters k.filters;
+      actions = all_on (IsRead action_of_words) h0 h1 r.longer c.args.self.now.actions k.actions;
+    }
 
 pub returns-in_default-clause-stamps : goal.returns-in_default-clause-stamps
 returns-in_default-clause-stamps g c = let r = c.renew_mask-stamp.ensures in
@@ -50,6 +60,22 @@ search-found-requires-clause-shape g c = let r = c.renew_mask-stamp.ensures in l
     let is = within (root_of (seen_by c.renew_mask-stamp.new.reader.place) (mask_root c.args.slot)).chain mask (sym r.mask ∙ (sym c.at.ensures ∙ ap option_copied c.in-Some.is)) in let some = is.some in
     let i = bucket_for mask.size c.masked-wanted.result.words in let less : i < mask.size = omega arith in
     let low = root_low mask i is less in let roots = c.requires.shape.1 in let root = c.root_for-root.ensures in (c.requires.shape.0, omega arith)
+
+pub search-found-requires-clause-kept : goal.search-found-requires-clause-kept
+search-found-requires-clause-kept g c =
+    all_on IsKnown (seen_by c.args.reader.now.place) (seen_by c.renew_mask-stamp.new.reader.place) c.renew_mask-stamp.ensures.longer c.args.self.now.filters c.requires.kept.filters
+
+pub returns-clause-longer : goal.returns-clause-longer
+returns-clause-longer g c =
+    prefix_trans (seen_by c.args.reader.now.place) (seen_by c.renew_mask-stamp.new.reader.place) (seen_by c.search-found.new.reader.place) c.renew_mask-stamp.ensures.longer c.search-found.ensures.longer
+
+pub returns-clause-kept : goal.returns-clause-kept
+returns-clause-kept g c = let r = c.renew_mask-stamp.ensures in let e = c.search-found.ensures in
+    let h0 = seen_by c.args.reader.now.place in let h1 = seen_by c.renew_mask-stamp.new.reader.place in let h2 = seen_by c.search-found.new.reader.place in record {
+      masks = all_on (IsRead mask_of_words) h1 h2 e.longer c.renew_mask-stamp.new.masks r.kept;
+      filters = e.kept;
+      actions = all_on (IsRead action_of_words) h0 h2 (prefix_trans h0 h1 h2 r.longer e.longer) c.args.self.now.actions c.requires.kept.actions;
+    }
 
 pub returns-clause-found : goal.returns-clause-found
 returns-clause-found g c = λ n serial low high stands.
