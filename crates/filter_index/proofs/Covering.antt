@@ -24,6 +24,7 @@ unused_next mask k unused = rw unused refl
 pub used_next : (mask : List ℕ) (k : ℕ) → (get_or mask k 0 == 0) ≡ false → used_before mask (suc k) ≡ suc (used_before mask k)
 used_next mask k used = rw used refl
 
+-- as many words are used up to the next place, or one more
 pub used_same : (mask : List ℕ) (k used : ℕ) → get_or mask k 0 ≡ 0 → used ≡ used_before mask k → used ≡ used_before mask (k + 1)
 used_same mask k used unused is = rw (add-one, unused_next mask k unused) is
 

@@ -9,3 +9,4 @@ pub mod Counted
 pub mod OfRemoving
 pub mod OfAdding
 pub mod OfReplacing
+mod OpenSeats

@@ -13,3 +13,4 @@ pub mod CleanFields
 pub mod CleanEdits
 pub mod Grown
 pub mod FieldPlaces
+mod Chained
