@@ -1,5 +1,6 @@
 //! The parts of a desk.
 ghost use Rattle.std.specs.Prelude.{◌≡◌, [], IfOk};
+ghost use Rattle.tc_base.specs.declared.hook.Hook.TheVariants.{Ingress, Egress};
 
 use crate::shape::HOOK_SHAPE;
 use desk_actions::ActionPlaces;
@@ -39,6 +40,30 @@ fn no_tables(alloc: Global, hook: Hook) -> Result<HookTables, NoMemory>
     })
 }
 
+// The tables of both hooks, and room for the next ones.
+#[derive(Drop)]
+struct Tables {
+    ingress: HookTables,
+    egress: HookTables,
+    room: StoredTables,
+}
+
+impl Tables {
+    // No hook has any.
+    fn with_room(alloc: Global) -> Result<Tables, NoMemory>
+        ensures ingress { IfOk result (λ t. (t.ingress.pair.hook ≡ Ingress) × (t.ingress.pair.active ≡ 0)
+            × (t.ingress.tables ≡ [])) }
+        ensures egress { IfOk result (λ t. (t.egress.pair.hook ≡ Egress) × (t.egress.pair.active ≡ 0)
+            × (t.egress.tables ≡ [])) }
+    {
+        Ok(Tables {
+            ingress: no_tables(alloc, Hook::Ingress)?,
+            egress: no_tables(alloc, Hook::Egress)?,
+            room: StoredTables::with_room(alloc)?,
+        })
+    }
+}
+
 impl Parts {
     ghost use Rattle.pin_store.specs.Sheets.{base_of};
     ghost use Rattle.pin_store.specs.Calls.{seen_by, sheet_of};
@@ -60,18 +85,23 @@ impl Parts {
         ensures none { IfOk result (λ p. IsNothingLeft p.pools) }
         ensures all { IfOk result (λ p. AreAllFree p.pools) }
     {
+        // What has the fewest parts comes first: where memory is refused, all that was made before is dropped.
+        let tables = Tables::with_room(alloc)?;
+        let actions = ActionPlaces::with_room(alloc)?;
+        let masks = MaskWriter::with_room(alloc, HOOK_SHAPE)?;
+        let pools = Pools::new(alloc)?;
         Ok(Parts {
             ledger: Ledger {
                 lists: Lists::new(alloc),
                 writer,
                 point: 0,
             },
-            pools: Pools::new(alloc)?,
-            actions: ActionPlaces::with_room(alloc)?,
-            masks: MaskWriter::with_room(alloc, HOOK_SHAPE)?,
-            ingress: no_tables(alloc, Hook::Ingress)?,
-            egress: no_tables(alloc, Hook::Egress)?,
-            room: StoredTables::with_room(alloc)?,
+            pools,
+            actions,
+            masks,
+            ingress: tables.ingress,
+            egress: tables.egress,
+            room: tables.room,
         })
     }
 }

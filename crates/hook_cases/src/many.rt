@@ -111,9 +111,20 @@ fn begin(alloc: Global, editor: &mut Editor<'_>, plain: &mut Plain) -> Result<()
     Ok(())
 }
 
-fn grow_and_shrink(alloc: Global) -> Result<bool, Trouble> {
-    let mut plain = Plain::new(alloc)?;
+fn comes_and_goes(
+    alloc: Global,
+    editor: &mut Editor<'_>,
+    outside: &mut Outside<'_>,
+    plain: &mut Plain,
+) -> Result<bool, Trouble> {
+    begin(alloc, editor, plain)?;
+    let grew = grows(alloc, editor, outside, plain)?;
+    Ok(grew && shrinks(alloc, editor, outside, plain)?)
+}
+
+fn try_many(alloc: Global) -> Result<bool, Trouble> {
     let walk = Walk::with_room(alloc)?;
+    let mut plain = Plain::new(alloc)?;
     let (store, desk, reader) = new_hook(alloc)?;
     let mut editor = Editor {
         store: &store,
@@ -125,13 +136,11 @@ fn grow_and_shrink(alloc: Global) -> Result<bool, Trouble> {
         walk,
         pins: 0,
     };
-    begin(alloc, &mut editor, &mut plain)?;
-    let grew = grows(alloc, &mut editor, &mut outside, &mut plain)?;
-    Ok(grew && shrinks(alloc, &mut editor, &mut outside, &mut plain)?)
+    comes_and_goes(alloc, &mut editor, &mut outside, &mut plain)
 }
 
 #[test]
 fn a_mask_comes_to_4096_filters(rt: HostRuntime) -> Result<(), Fail> {
-    assert!(rt; grow_and_shrink(rt.alloc())?);
+    assert!(rt; try_many(rt.alloc())?);
     Ok(())
 }

@@ -54,7 +54,11 @@ fn end_of<E: Ear>(
 {
     let _rounds = &job.job.rounds;
     let _words = store;
-    let counters = counters_of(alloc, &course.past.rounds, &course.past.made)?;
+    let Ok(counters) = counters_of(alloc, &course.past.rounds, &course.past.made) else {
+        // Here and below in one call: part by part it is long to prove.
+        drop(course);
+        return Err(NoMemory);
+    };
     let Course {
         desk,
         ear,
@@ -62,7 +66,10 @@ fn end_of<E: Ear>(
         past,
         ..
     } = course;
-    let readers = readers_of(alloc, workers)?;
+    let Ok(readers) = readers_of(alloc, workers) else {
+        drop((desk, ear, past, counters));
+        return Err(NoMemory);
+    };
     let run = RunRecord {
         rounds: RoundRecords::from_vec(past.rounds),
         counters,
@@ -98,8 +105,14 @@ fn run_over<E: Ear, G: Gate, T: Tender, R: Threads + Wait + Sync>(
         (ear_of E.name E.heard E.spare ear)) }
     ensures tender { T.name tender.new ≡ T.name tender.old }
 {
-    let past = nothing_past(alloc, job.job.rounds.as_slice().len())?;
-    let workers = workers_of(alloc, readers)?;
+    let Ok(past) = nothing_past(alloc, job.job.rounds.as_slice().len()) else {
+        drop((desk, readers, ear));
+        return Err(NoMemory);
+    };
+    let Ok(workers) = workers_of(alloc, readers) else {
+        drop((desk, ear, past));
+        return Err(NoMemory);
+    };
     let course = Course {
         desk,
         ear,

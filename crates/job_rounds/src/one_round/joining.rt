@@ -40,9 +40,9 @@ impl Back {
         ensures { OnOk result (IsPut self.old self.new end) }
     {
         let Ended { worker, seat, log } = end;
-        self.logs.push(log?)?;
         self.workers.push(worker)?;
         self.seats.push(seat)?;
+        self.logs.push(log?)?;
         Ok(())
     }
 }

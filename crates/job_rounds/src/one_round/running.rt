@@ -1,5 +1,6 @@
 //! One round of a job.
-ghost use Rattle.std.specs.Prelude.{◌≡◌, length, IfOk};
+ghost use Rattle.std.specs.Prelude.{◌≡◌, ◌≤◌, length, map, IfOk};
+ghost use Rattle.std.specs.List.{AllByRecursion};
 ghost use Rattle.pin_store.specs.Calls.{IsSeatOf};
 ghost use Rattle.round_terms.specs.Files.{files_of};
 ghost use Rattle.round_terms.specs.Hearing.{ear_of, HasHeard};
@@ -8,10 +9,10 @@ ghost use Rattle.job_rounds.specs.OfRoundState.Views.{journal};
 ghost use Rattle.worker_rounds.specs.Worked.{arrivals_of};
 ghost use Rattle.job_rounds.specs.OfRoundState.Rounds.{store_name, IsDeskOf};
 ghost use Rattle.job_rounds.specs.OfOneRound.Rounds.{AreEvents, IsNamedRound, IsRoundWithRoom};
-ghost use Rattle.job_rounds.specs.OfOneRound.Hands.{AreReady, AreWalkable};
+ghost use Rattle.job_rounds.specs.OfOneRound.Hands.{AreReady, AreWalkable, fresh_seat};
 ghost use Rattle.job_rounds.specs.OfOneRound.Ends.{HaveWalked, IsLawfulRound, IsRoundEnd};
 
-use crate::one_round::hands::hands_of;
+use crate::one_round::hands::{Hand, hands_of};
 use crate::one_round::round_end::RoundEnd;
 use crate::one_round::threads::run_hands;
 use crate::round_state::{Desk, RoundName, RoundState};
@@ -22,43 +23,20 @@ use std::alloc::Global;
 use std::marker::Brand;
 use std::sync::Wait;
 use std::thread::Threads;
-use step_counts::make_claims;
+use step_counts::{Claims, make_claims};
 use tc_base::{Ear, Gate, Hook, NoMemory, Tender};
 use worker_rounds::{RoundWork, Worker};
 
-// Runs a round whose state stands ready for its lock.
-fn run_state<N: RoundName + Send + Sync, E: Ear, G: Gate, T: Tender, R: Threads + Wait + Sync>(
-    rt: &R,
-    alloc: Global,
-    state: RoundState<N, E>,
-    store: &HookStore,
-    job: &LoadedJob,
-    number: u32,
-    hook: Hook,
-    packets: &Packets,
-    workers: Vec<Worker>,
-    gates: &G,
-    tender: &mut T,
-) -> Result<RoundEnd<E>, NoMemory>
-    requires named { IsNamedRound N.store N.job N.number (length N.before) N.ear.spare
-        (store_name store.now) job.now number }
-    requires packets { AreWalkable (store_name store.now) packets.now }
-    requires workers { AreReady (store_name store.now) (length packets.now) job.now.job.workers
-        workers.items }
-    ensures tender { T.name tender.new ≡ T.name tender.old }
-    ensures end { IfOk result (IsRoundEnd E.name E.heard E.spare N.store N.job N.number hook packets.now
-        N.before N.ear workers.items) }
+// The claims of a round, and its workers, each with a seat.
+fn seated(alloc: Global, count: u32, workers: Vec<Worker>) -> Result<(Claims, Vec<Hand>), NoMemory>
+    requires { (1 ≤ count) × (length workers.items ≡ count) }
+    ensures workers { IfOk result (λ made. map (λ hand. hand.worker) made.1.items ≡ workers.items) }
+    ensures seats { IfOk result (λ made. AllByRecursion (λ hand. hand.seat ≡ fresh_seat made.0 count)
+        made.1.items) }
 {
-    let (claims, seats) = make_claims(alloc, job.job.workers)?;
+    let (claims, seats) = make_claims(alloc, count)?;
     let hands = hands_of(alloc, workers, seats)?;
-    let round = RoundWork {
-        store,
-        claims: &claims,
-        gates,
-        hook,
-        packets,
-    };
-    run_hands(rt, alloc, state, job, number, hands, &round, tender)
+    Ok((claims, hands))
 }
 
 // Runs the round that is named.
@@ -87,10 +65,20 @@ fn run_named<N: RoundName + Send + Sync, E: Ear, G: Gate, T: Tender, R: Threads 
     ensures end { IfOk result (IsRoundEnd E.name E.heard E.spare N.store N.job N.number hook packets.now
         N.before N.ear workers.items) }
 {
+    let Ok((claims, hands)) = seated(alloc, job.job.workers, workers) else {
+        // In one call: part by part it is long to prove.
+        drop((desk, ear));
+        return Err(NoMemory);
+    };
     let state = RoundState::<N, E>::new(alloc, desk, ear, job.job.controls)?;
-    run_state(
-        rt, alloc, state, store, job, number, hook, packets, workers, gates, tender,
-    )
+    let round = RoundWork {
+        store,
+        claims: &claims,
+        gates,
+        hook,
+        packets,
+    };
+    run_hands(rt, alloc, state, job, number, hands, &round, tender)
 }
 
 /// Runs a round of a job: each control applies the lines of its batch at the desk while the workers walk

@@ -24,7 +24,7 @@ returns g c = λ first far.
     let rounds : List RoundRecord = c.args.course.past.rounds.items in
     let edits = journal c.args.course.desk in
     let same = sym c.from_vec.ensures in
-    let told = c.in_ok-counters.ensures in
+    let told = c.in-Ok.ensures in
     let counts = told.0 in
     let made = ap (λ (ms : List (Vec MadeAction Global)). all_made (map (λ (m : Vec MadeAction Global). m.items) ms)) c.deref-2.ensures.value ∙ far.made in
     let counted = subst (λ (rs : List RoundRecord). AreCounted (outcomes_in rs) counts) c.deref.ensures.value told.1 in
@@ -35,10 +35,10 @@ returns g c = λ first far.
         counters = told.2 ∙ counters_are edits rounds (all_made (map (λ (m : Vec MadeAction Global). m.items) c.deref-2.result.now)) counts made counted ∙ ap (counters_of edits) same;
       };
       desk = far.desk;
-      many = ap length c.in_ok-readers.ensures ∙ many_mapped (λ (worker : Worker). worker.reader) c.args.course.workers.items ∙ far.many;
-      readers = subst (All (λ (reader : HookSeat). IsSeatAt c.args.store.now.words.shared.table_id c.args.store.now.shape reader.place × IsOutside reader.place)) (sym c.in_ok-readers.ensures)
+      many = ap length c.in-Ok-readers_of.ensures ∙ many_mapped (λ (worker : Worker). worker.reader) c.args.course.workers.items ∙ far.many;
+      readers = subst (All (λ (reader : HookSeat). IsSeatAt c.args.store.now.words.shared.table_id c.args.store.now.shape reader.place × IsOutside reader.place)) (sym c.in-Ok-readers_of.ensures)
           (readers_stay (store_name c.args.store.now) (packets_left job (length job.job.rounds)) (outcomes_in rounds) c.args.course.workers.items far.workers);
-      visited = subst (λ (rs : List HookSeat). HaveVisited c.from_vec.result rs) (sym c.in_ok-readers.ensures)
+      visited = subst (λ (rs : List HookSeat). HaveVisited c.from_vec.result rs) (sym c.in-Ok-readers_of.ensures)
           (subst (λ (rs : List RoundRecord). HaveVisited rs (map (λ (worker : Worker). worker.reader) c.args.course.workers.items)) same
           (have_visited rounds c.args.course.workers.items (λ at worker there. (far.workers at worker there).visited)));
       name_is = far.name_is;
