@@ -4,9 +4,8 @@
 //! memory, where it is there, is enough; that edits at random are answered as plain lists, kept apart, answer
 //! them (`random`); that a reader that walks while such edits are made is told, at each visit, what plain
 //! lists at the visit's point say (`meanwhile`); that edits between two given visits give a walk the points
-//! that were worked out by hand (`scripts`); that a reader that stays inside holds edits up, by the answer
-//! that was worked out by hand, and no longer than it stays (`holding`); that a mask comes to 4,096 filters and
-//! goes again (`many`); and that an edit for which memory is refused is as if it had not been tried (`wanting`).
+//! that were worked out by hand (`scripts`); and that a reader that stays inside holds edits up, by the
+//! answer that was worked out by hand, and no longer than it stays (`holding`).
 //!
 //! # How it is tried
 //!
@@ -36,13 +35,7 @@ mod lines;
 #[cfg(test)]
 mod log;
 #[cfg(test)]
-mod many;
-#[cfg(test)]
 mod meanwhile;
-#[cfg(test)]
-mod outside;
-#[cfg(test)]
-mod plain;
 #[cfg(test)]
 mod player;
 #[cfg(test)]

@@ -5,19 +5,26 @@
 //! Where that is a growth which an edit takes, all has to be as it was before: what the desk counts, and what
 //! walks meet. Then the same edit is tried again, and has to be accepted. Anywhere else the test ends for
 //! want of memory.
+ghost use Rattle.std.specs.Prelude.{◌≡◌, ◌≤◌};
+ghost use Rattle.pin_store.specs.Calls.{pin_of, IsOutside, IsSeatOf};
+ghost use Rattle.desk_parts.specs.Desk.{hook_shape};
+
 use crate::editor::{Editor, new_hook};
 use crate::frames::frame_to;
 use crate::lines::{Line, step};
-use crate::outside::Outside;
-use crate::plain::Plain;
 use crate::random::{adds_up, in_use, is_alike};
 use crate::trouble::Trouble;
+use filter_lists::Lists;
 use filter_state::Refusal;
+use hook_reader::HookReader;
+use hook_store_law::HookStore;
+use plain_walk::PlainWalk;
 use shared_hook::ApplyFault;
 use std::alloc::Global;
 use std::test::Fail;
-use tc_base::{Hook, Point};
+use tc_base::{Hook, OpenGate, Point};
 use walk_steps::Walk;
+use worker_walk::{PacketName, walk_packet};
 
 // Each is accepted behind those before it. A mask with so many filters has had more buckets than at first,
 // and has fewer again; actions come with a filter and without one, and go so; and a table goes with all in
@@ -61,30 +68,102 @@ const LINES: &[&str] = &[
 // Frames go to so many hosts of 10.0.0.0/24.
 const HOSTS: u8 = 13;
 
-// Whether all frames meet the same in hook and lists, at both hooks.
-fn meets_all(plain: &mut Plain, outside: &mut Outside<'_>) -> Result<bool, Trouble> {
-    let mut alike = true;
-    for host in 0..HOSTS {
-        let bytes = frame_to(host);
-        let comes = plain.meets(outside, Hook::Ingress, &bytes)?;
-        let goes = plain.meets(outside, Hook::Egress, &bytes)?;
-        alike = alike && comes && goes;
-    }
-    Ok(alike)
+// More than twice as often as a test goes inside.
+const FEW_PINS: u64 = 1 << 62;
+
+// A reader outside, with its walk.
+#[derive(Drop)]
+struct Outside<'a> {
+    store: &'a HookStore,
+    reader: HookReader,
+    walk: Walk,
+    // At least its pin.
+    pins: u64,
+    ghost seat: { IsSeatOf store.now reader.place },
+    ghost shape: { store.now.shape ≡ hook_shape },
+    ghost outside: { IsOutside reader.place },
+    ghost pinned: { pin_of reader.place ≤ pins },
 }
 
-// Whether desk and hook are as plain lists are, and as after so many edits.
-fn is_like(
-    editor: &Editor<'_>,
-    outside: &mut Outside<'_>,
-    plain: &mut Plain,
-    edits: Point,
-) -> Result<bool, Trouble> {
-    let desk = &editor.desk;
-    let counts = desk.journal_len() == edits
-        && in_use(desk.lists()) == in_use(&plain.lists)
-        && adds_up(desk, &plain.lists);
-    Ok(meets_all(plain, outside)? && counts)
+impl Outside<'_> {
+    // Takes a frame through the hook.
+    fn meet(&mut self, hook: Hook, bytes: &[u8; 42]) -> Result<(), Trouble> {
+        if self.pins >= FEW_PINS {
+            return Err(Trouble::TooFar);
+        }
+        let name = PacketName {
+            worker: 1,
+            packet: 1,
+        };
+        walk_packet(
+            &mut self.walk,
+            self.store,
+            &mut self.reader,
+            &OpenGate,
+            name,
+            hook,
+            bytes,
+        );
+        self.pins += 2;
+        Ok(())
+    }
+}
+
+// Lists, and a walk of them, which answer as desk and hook have to.
+#[derive(Drop)]
+struct Plain {
+    lists: Lists,
+    walk: PlainWalk,
+}
+
+impl Plain {
+    fn new(alloc: Global) -> Result<Plain, Trouble> {
+        Ok(Plain {
+            lists: Lists::new(alloc),
+            walk: PlainWalk::with_room(alloc)?,
+        })
+    }
+
+    // Whether a frame meets the same in the hook and in the lists.
+    fn meets(
+        &mut self,
+        outside: &mut Outside<'_>,
+        hook: Hook,
+        bytes: &[u8; 42],
+    ) -> Result<bool, Trouble> {
+        outside.meet(hook, bytes)?;
+        self.walk.run(&self.lists, hook, bytes);
+        Ok(
+            outside.walk.verdict() == self.walk.verdict()
+                && outside.walk.executed() == self.walk.executed(),
+        )
+    }
+
+    // Whether all frames do, at both hooks.
+    fn meets_all(&mut self, outside: &mut Outside<'_>) -> Result<bool, Trouble> {
+        let mut alike = true;
+        for host in 0..HOSTS {
+            let bytes = frame_to(host);
+            let comes = self.meets(outside, Hook::Ingress, &bytes)?;
+            let goes = self.meets(outside, Hook::Egress, &bytes)?;
+            alike = alike && comes && goes;
+        }
+        Ok(alike)
+    }
+
+    // Whether desk and hook are as these lists, and as after so many edits.
+    fn is_like(
+        &mut self,
+        editor: &Editor<'_>,
+        outside: &mut Outside<'_>,
+        edits: Point,
+    ) -> Result<bool, Trouble> {
+        let desk = &editor.desk;
+        let counts = desk.journal_len() == edits
+            && in_use(desk.lists()) == in_use(&self.lists)
+            && adds_up(desk, &self.lists);
+        Ok(self.meets_all(outside)? && counts)
+    }
 }
 
 // Applies an edit, again where it found no memory, and says whether all is as with plain lists.
@@ -96,9 +175,9 @@ fn edit(
 ) -> Result<bool, Trouble> {
     let edits = editor.desk.journal_len();
     let mut answer = editor.step(line)?;
-    let mut stayed = true;
+    let mut is_like = true;
     if let Err(ApplyFault::Refused(Refusal::NoMemory)) = answer {
-        stayed = is_like(editor, outside, plain, edits)?;
+        is_like = plain.is_like(editor, outside, edits)?;
         answer = editor.step(line)?;
     }
     let said = step(&mut plain.lists, line)?;
@@ -108,7 +187,7 @@ fn edit(
     if said.is_err() || !is_alike(&answer, &said) {
         return Err(Trouble::Answer(answer.err()));
     }
-    Ok(stayed && is_like(editor, outside, plain, edits.saturating_add(1))?)
+    Ok(is_like && plain.is_like(editor, outside, edits.saturating_add(1))?)
 }
 
 // How many edits are as with plain lists, up to the first that isn't.
