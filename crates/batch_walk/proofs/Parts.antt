@@ -11,7 +11,7 @@ use Rattle.walk_rules.specs.Walks.{Outcome}
 use Rattle.batch_run.specs.declared.made_action.MadeAction.{MadeAction}
 use Rattle.batch_run.specs.declared.stop.Stop.{Stop}
 use Rattle.batch_run.specs.Runs.{Ran}
-use Rattle.batch_show.specs.Shown.{stop_shown}
+use Rattle.tc_report.specs.OfShownBatches.Shown.{stop_shown}
 use Rattle.walk_ends.specs.declared.counts.Count.{Count}
 use Rattle.capture_walk.specs.declared.ends.PacketEnd.{PacketEnd}
 use Rattle.capture_walk.specs.Captures.{outcomes_of, end_of, output_of, counts_from, counts_of, executed_in}

@@ -8,7 +8,7 @@ use Rattle.pcap_io.specs.declared.capture.Capture.{Capture}
 use Rattle.pcap_io.specs.Written.{capture_bytes}
 use Rattle.walk_rules.specs.Walks.{Outcome}
 use Rattle.batch_run.specs.Runs.{Ran}
-use Rattle.batch_show.specs.Shown.{stop_shown}
+use Rattle.tc_report.specs.OfShownBatches.Shown.{stop_shown}
 use Rattle.walk_ends.specs.Passing.{is_pass}
 use Rattle.walk_texts.specs.declared.summary.Summary.{Summary}
 use Rattle.walk_texts.specs.Texts.{joined}

@@ -10,8 +10,8 @@ use Rattle.filter_tables.specs.Rows.{tables_on}
 use Rattle.filter_tables.specs.Seen.{plain_table}
 use Rattle.hook_lists.specs.declared.kept.Kept.{Kept}
 use Rattle.hook_lists.specs.States.{both_of, AreKept}
-use Rattle.row_lookup_laws.proofs.Tables.{count_found}
-use Rattle.row_lookup_laws.proofs.Masks.{masks_counted}
+use Rattle.row_laws.proofs.OfLookups.Tables.{count_found}
+use Rattle.row_laws.proofs.OfLookups.Masks.{masks_counted}
 
 few_tables : (kept : Kept) (hook : Hook) → AreKept kept → length (tables_on hook (both_of kept)) ≤ 256
 few_tables kept hook is =

@@ -14,7 +14,7 @@ use Rattle.filter_tables.specs.Rows.{row_of, rows_of_mask, all_rows}
 use Rattle.hook_lists.specs.declared.kept.Kept.{Kept}
 use Rattle.hook_lists.specs.States.{both_of, state_of}
 use Rattle.filter_lists.specs.Spells.{Spells}
-use Rattle.row_lookup_laws.proofs.Heads.{first_and}
+use Rattle.row_laws.proofs.OfLookups.Heads.{first_and}
 use Rattle.filter_state.proofs.Pairs.{each_weaker, each_filter}
 use Rattle.visit_room.specs.declared.names.ActionName.{ActionName}
 use Rattle.walk_rules.specs.Questions.{filter_of}

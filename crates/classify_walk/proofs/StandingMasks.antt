@@ -17,7 +17,7 @@ use Rattle.visit_room.specs.declared.names.MaskName.{MaskName}
 use Rattle.visit_room.specs.declared.table_head.TableHead.{TableHead}
 use Rattle.walk_rules.specs.Questions.{Head}
 use Rattle.walk_steps.specs.Told.{mask_serials, heads_told, MasksKnown}
-use Rattle.row_lookup_laws.proofs.Found.{whole_on}
+use Rattle.row_laws.proofs.OfLookups.Found.{whole_on}
 use Rattle.head_laws.proofs.HeadRows.{one_number}
 use Rattle.head_laws.specs.Heads.{serials_of, head_of}
 use Rattle.classify_walk.specs.Answered.{StandsMask}

@@ -7,7 +7,7 @@ use Rattle.filter_state.specs.Sound.{Each}
 use Rattle.hook_lists.specs.declared.kept.Kept.{Kept}
 use Rattle.hook_lists.specs.States.{state_of, AreKept}
 use Rattle.filter_lists.specs.Spells.{Spells}
-use Rattle.order_laws.proofs.Soundness.{sound_same}
+use Rattle.state_laws.proofs.OfOrder.Soundness.{sound_same}
 use Rattle.walk_rules.specs.Questions.{Question, Answer}
 use Rattle.walk_rules.specs.Steps.{Standing, begun}
 use Rattle.walk_rules.specs.Walks.{Outcome, IsWalk}

@@ -35,8 +35,8 @@ use Rattle.hook_meaning.specs.Blocks.{action_record, hook_codec}
 use Rattle.hook_store_law.specs.OfEdits.Premises.{now, next, IsAccepted, SetsAction}
 use Rattle.hook_store_law.proofs.OfEdits.Accepted.{leads, lawful, next_sound}
 use Rattle.hook_store_law.proofs.OfEdits.Made.{changed_after}
-use Rattle.action_roots.specs.Records.{action_block, action_commit}
-use Rattle.action_roots.proofs.Storing.{action_reads}
+use Rattle.desk_actions.specs.OfRoots.Records.{action_block, action_commit}
+use Rattle.desk_actions.proofs.OfRoots.Storing.{action_reads}
 use Rattle.desk_actions.specs.Places.{Placed, slot_of, block_of, IsAlone, AreHere, put_at}
 use Rattle.desk_actions.specs.Kinds.{IsChanging}
 use Rattle.desk_actions.proofs.Made.{CanStore, stored_as, can_store}

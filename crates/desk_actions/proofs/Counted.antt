@@ -6,7 +6,7 @@ use Rattle.pin_store.specs.declared.view.Sheet.{Sheet}
 use Rattle.pin_store.specs.Layout.{block_words}
 use Rattle.pin_store.specs.Calls.{IsUnnamed}
 use Rattle.filter_state.specs.declared.edit.Edit.{Edit}
-use Rattle.number_pools.specs.Numbers.{PoolNumbers}
+use Rattle.desk_pools.specs.OfNumbers.Numbers.{PoolNumbers}
 use Rattle.root_pool_laws.specs.Blocks.{HasBlock}
 use Rattle.root_pool_laws.proofs.Blocks.{unnamed_end}
 use Rattle.desk_actions.specs.Effects.{IsCounted, KeepsBlocks}

@@ -8,3 +8,4 @@ pub mod Gone
 pub mod Counted
 mod Said
 pub mod OfLedgers
+pub mod OfRoots

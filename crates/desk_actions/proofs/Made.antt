@@ -42,8 +42,8 @@ use Rattle.hook_meaning.proofs.OfEffects.Accepted.{not_unless, same_step}
 use Rattle.hook_store_law.specs.OfEdits.Premises.{now, next, IsAccepted, SetsAction}
 use Rattle.hook_store_law.proofs.OfEdits.Accepted.{lawful, next_sound}
 use Rattle.hook_store_law.proofs.OfEdits.Made.{made_after}
-use Rattle.action_roots.specs.Records.{action_block, action_commit}
-use Rattle.action_roots.proofs.Storing.{params_stored, action_reads}
+use Rattle.desk_actions.specs.OfRoots.Records.{action_block, action_commit}
+use Rattle.desk_actions.proofs.OfRoots.Storing.{params_stored, action_reads}
 use Rattle.desk_actions.specs.Places.{Placed, slot_of, block_of, IsAlone, AreHere, put_at}
 use Rattle.desk_actions.specs.Kinds.{IsMaking}
 

@@ -24,7 +24,7 @@ use Rattle.hook_store_law.specs.Kept.{KeepsHook}
 use Rattle.hook_store_law.specs.OfEdits.Premises.{now, next, IsAccepted}
 use Rattle.root_pool_laws.specs.Blocks.{HasBlock}
 use Rattle.root_pool_laws.proofs.Apart.{in_left, in_right}
-use Rattle.action_roots.specs.Records.{action_block, action_commit}
+use Rattle.desk_actions.specs.OfRoots.Records.{action_block, action_commit}
 use Rattle.desk_pools.specs.declared.pools.Pools.{Pools}
 use Rattle.desk_pools.specs.Pools.{IsFreeAt, ArePools}
 use Rattle.desk_pools.specs.Steps.{IsInPool, IsTaken, NothingComes, LeavesPools}

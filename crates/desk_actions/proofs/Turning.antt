@@ -30,7 +30,7 @@ use Rattle.hook_store_law.specs.Kept.{KeepsHook}
 use Rattle.hook_store_law.specs.OfEdits.Premises.{now, next, IsAccepted}
 use Rattle.root_pool_laws.specs.Blocks.{HasBlock, IsLeft}
 use Rattle.root_pool_laws.proofs.Blocks.{unnamed_end}
-use Rattle.action_roots.specs.Records.{action_block, action_commit}
+use Rattle.desk_actions.specs.OfRoots.Records.{action_block, action_commit}
 use Rattle.desk_pools.specs.declared.pools.Pools.{Pools}
 use Rattle.desk_pools.specs.Pools.{gone_roots, ArePools}
 use Rattle.desk_pools.specs.Steps.{IsInPool, IsTaken}

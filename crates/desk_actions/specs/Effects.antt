@@ -7,7 +7,7 @@ use Rattle.pin_store.specs.Layout.{block_words}
 use Rattle.filter_state.specs.declared.edit.Edit.{Edit}
 use Rattle.block_codec.specs.declared.places.TheConstants.{ACTION_SLOTS}
 use Rattle.hook_law.specs.Places.{action_root}
-use Rattle.number_pools.specs.Numbers.{PoolNumbers}
+use Rattle.desk_pools.specs.OfNumbers.Numbers.{PoolNumbers}
 use Rattle.root_pool_laws.specs.Blocks.{HasBlock}
 
 -- one commit more, to the root of a slot of actions, that carries the edit with this number

@@ -2,3 +2,4 @@ pub mod Places
 pub mod Kinds
 pub mod Effects
 pub mod OfLedgers
+pub mod OfRoots

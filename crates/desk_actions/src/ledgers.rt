@@ -13,7 +13,7 @@
 //! The thread that has the store's writer calls. No call takes memory: an edit was made ready before
 //! (`filter_lists::Lists::prepare`), so that nothing can fail once the lists have changed.
 //!
-//! Not promised: which blocks and slots are free; that is the pools' (`desk_tidy`).
+//! Not promised: which blocks and slots are free; that is the pools' (`tidying` of `desk_pools`).
 
 mod ledger;
 

@@ -5,6 +5,8 @@
 //! block, and the old one leaves; one that deletes it names nobody's root, since no filter names the action,
 //! and slot and block leave. Each is one numbered commit, so a walk finds the action as it was or as it is.
 //!
+//! How a record is written for a slot, and read from it, is told by `roots`.
+//!
 //! `ActionPlaces` knows where live actions stand: by its serial an action's slot, and by the slot the block.
 //! Serials are never given twice, so no entry is ever looked for. What makes it right is `AreHere`
 //! (`specs/Places.antt`), which each call asks for and leaves.
@@ -14,7 +16,7 @@
 //!
 //! `ledgers` has the plain lists and the store's writer, kept together, on which all edits of a desk rest.
 //!
-//! Not promised: that what left is free again, which is `desk_tidy`'s.
+//! Not promised: that what left is free again, which `tidying` of `desk_pools` sees to.
 #![tactic(auto)]
 
 mod changing;
@@ -23,6 +25,7 @@ pub mod ledgers;
 mod making;
 mod naming;
 mod places;
+pub mod roots;
 
 pub use changing::change;
 pub use deleting::delete;

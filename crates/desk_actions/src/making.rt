@@ -17,7 +17,7 @@ ghost use Rattle.desk_actions.specs.Kinds.{IsMaking};
 
 use crate::ledgers::Ledger;
 use crate::places::ActionPlaces;
-use action_roots::put_action;
+use crate::roots::put_action;
 use block_codec::StoredAction;
 use desk_pools::Pools;
 use filter_lists::{ActionLine, Done, Edit, Prepared};

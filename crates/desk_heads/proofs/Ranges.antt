@@ -8,7 +8,7 @@ use Rattle.filter_state.specs.Lines.{IsPref, IsProtocol}
 use Rattle.filter_state.specs.States.{Row, State}
 use Rattle.filter_state.specs.Sound.{Each, IsRow, Sound}
 use Rattle.filter_state.proofs.Pairs.{each_weaker}
-use Rattle.row_lookup_laws.proofs.Found.{item_each}
+use Rattle.row_laws.proofs.OfLookups.Found.{item_each}
 use Rattle.walk_rules.specs.Questions.{Head}
 use Rattle.walk_rules.specs.Heads.{head_with, in_front, with_row, heads_in, heads_on}
 use Rattle.walk_rules.proofs.KeptHeads.{rows_on, on_have}

@@ -28,7 +28,7 @@ use Rattle.root_pool_laws.proofs.Giving.{pool_as}
 use Rattle.root_pool_laws.proofs.Roots.{empty_stays, unused_stays}
 use Rattle.desk_masks.proofs.OfMaskResizes.Resizing.{mapped_at}
 use Rattle.desk_heads.proofs.OfHeadCommits.Places.{map_at}
-use Rattle.number_pools.specs.Numbers.{PoolNumbers}
+use Rattle.desk_pools.specs.OfNumbers.Numbers.{PoolNumbers}
 use Rattle.desk_pools.specs.declared.pools.IdlePlace.{IdlePlace}
 use Rattle.desk_pools.specs.declared.pools.Pools.{Pools}
 use Rattle.desk_pools.specs.Pools.{gone_roots, IsFreeAt, IsLeftAt, IsIdle, IsHeadBlock, ArePools}

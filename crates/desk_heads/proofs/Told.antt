@@ -14,8 +14,8 @@ use Rattle.filter_tables.specs.Seen.{plain_table}
 use Rattle.filter_tables.specs.SeenMask.{plain_mask}
 use Rattle.hook_lists.specs.declared.kept.Kept.{Kept}
 use Rattle.hook_lists.specs.States.{both_of, AreKept}
-use Rattle.row_lookup_laws.proofs.Tables.{count_found}
-use Rattle.row_lookup_laws.proofs.Masks.{masks_counted}
+use Rattle.row_laws.proofs.OfLookups.Tables.{count_found}
+use Rattle.row_laws.proofs.OfLookups.Masks.{masks_counted}
 use Rattle.block_codec.specs.declared.table.StoredTable.{StoredTable}
 use Rattle.head_laws.specs.Heads.{head_of, serials_of}
 use Rattle.hook_law.specs.Records.{Slotted, StatedTable}

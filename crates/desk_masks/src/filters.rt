@@ -16,7 +16,7 @@
 //! another number of buckets comes after, where `rests` says that the mask has no longer the size for its
 //! filters. Nothing is refused, no memory is taken, and no call waits.
 //!
-//! Not promised: that what left is free again, which is `desk_tidy`'s.
+//! Not promised: that what left is free again, which `tidying` of `desk_pools` sees to.
 
 mod adding;
 mod counting;

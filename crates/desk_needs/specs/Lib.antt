@@ -1,2 +1,4 @@
 pub mod Live
 pub mod Needs
+pub mod OfEditNeeds
+pub mod OfLiveCounts

@@ -5,13 +5,21 @@
 //! `specs/Live.antt`), and what an edit takes from the state and the edit (`needed_of`, `specs/Needs.antt`).
 //! So whoever rehearses an edit can tell from a state whether it could be held, without a look at any store.
 //!
-//! Definitions: there is nothing here to call at run time but names, so any thread may do anything with it.
+//! Laws say how that is found out before an edit is done: `edit_needs` what each kind of edit needs by what
+//! is looked up before it, `live_counts` how what is in use goes on with it, and `room` that all of it is
+//! there wherever nothing waits.
+//!
+//! Definitions and laws: there is nothing here to call at run time but names, so any thread may do anything
+//! with it.
 //!
 //! Not promised: that a store has what an edit needs. What left may wait for readers that came before.
 #![tactic(auto)]
 
+pub mod edit_needs;
+pub mod live_counts;
 mod needs;
 mod pool;
+pub mod room;
 
 pub use needs::Needs;
 pub use pool::Pool;

@@ -30,8 +30,8 @@ use Rattle.hook_meaning.specs.Blocks.{hook_codec}
 use Rattle.hook_meaning.proofs.States.{state_is, sound_after}
 use Rattle.hook_store_law.specs.Kept.{IsKeptAt}
 use Rattle.desk_pools.specs.declared.pools.Pools.{Pools}
-use Rattle.desk_tidy.specs.Tidied.{empty_at, emptying, Empties}
-use Rattle.desk_tidy.proofs.Emptied.{mapped_at}
+use Rattle.desk_pools.specs.OfTidying.Tidied.{empty_at, emptying, Empties}
+use Rattle.desk_pools.proofs.OfTidying.Emptied.{mapped_at}
 use Rattle.desk_actions.specs.OfLedgers.Ledger.{IsLedger}
 use Rattle.desk_actions.specs.Places.{Placed, slot_of, block_of, IsAlone, AreHere}
 use Rattle.desk_masks.specs.declared.hook_tables.HookTables.{HookTables}

@@ -7,7 +7,7 @@
 //! for it and leaves it, so any edit may follow any other.
 //!
 //! `Parts::new` makes them for a new store, where all is empty, and takes all the memory that they ever need
-//! beside the lists'. `tidy` gives free what left, as `desk_tidy` says, and leaves all else.
+//! beside the lists'. `tidy` gives free what left, as `tidying` of `desk_pools` says, and leaves all else.
 //!
 //! They belong to the thread that has the store's writer.
 //!

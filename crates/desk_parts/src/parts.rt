@@ -85,7 +85,8 @@ impl Parts {
         ensures none { IfOk result (λ p. IsNothingLeft p.pools) }
         ensures all { IfOk result (λ p. AreAllFree p.pools) }
     {
-        // What has the fewest parts comes first: where memory is refused, all that was made before is dropped.
+        // What has the fewest parts comes first: where memory is refused, all that was made before is
+        // dropped.
         let tables = Tables::with_room(alloc)?;
         let actions = ActionPlaces::with_room(alloc)?;
         let masks = MaskWriter::with_room(alloc, HOOK_SHAPE)?;

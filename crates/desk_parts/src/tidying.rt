@@ -1,7 +1,7 @@
 //! What left becomes free.
 
 use crate::parts::Parts;
-use desk_tidy::tidy;
+use desk_pools::tidying::tidy;
 use hook_store_law::HookStore;
 use pin_store::Scan;
 
@@ -12,7 +12,7 @@ impl Parts {
     ghost use Rattle.pin_store.specs.Calls.{sheet_of, IsSeatOf};
     ghost use Rattle.pin_store.specs.Found.{FoundIn};
     ghost use Rattle.desk_pools.specs.Pools.{IsNothingLeft};
-    ghost use Rattle.desk_tidy.specs.Tidied.{IsTwiceIn, Empties, AreTidied};
+    ghost use Rattle.desk_pools.specs.OfTidying.Tidied.{IsTwiceIn, Empties, AreTidied};
     ghost use Rattle.desk_actions.specs.OfLedgers.Kept.{commits};
     ghost use Rattle.desk_parts.specs.Desk.{IsDesk};
 

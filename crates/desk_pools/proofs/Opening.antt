@@ -14,7 +14,7 @@ use Rattle.hook_law.specs.Places.{head_root}
 use Rattle.hook_law.specs.Standing.{Role, Head, Mask, Bucket, Action, IsIn, IsMaskAt, Stands, IsUnused}
 use Rattle.hook_meaning.specs.Stated.{hook_meaning}
 use Rattle.hook_meaning.specs.Blocks.{hook_codec}
-use Rattle.number_pools.specs.Numbers.{PoolNumbers}
+use Rattle.desk_pools.specs.OfNumbers.Numbers.{PoolNumbers}
 use Rattle.root_pool_laws.specs.Pools.{IsPool}
 use Rattle.root_pool_laws.specs.Blocks.{HasBlock, IsLeft}
 use Rattle.root_pool_laws.proofs.Apart.{distinct_append}

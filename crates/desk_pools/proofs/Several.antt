@@ -3,7 +3,7 @@ use Rattle.std.proofs.Common.{◌≡◌, ◌∙◌, ◌⊎◌, inl, inr, ℕ, �
 use Rattle.std.specs.List.{IsDistinct, list_any}
 use Rattle.std.proofs.lemmas.Map.Steps.{length-le_from_distinct_below}
 use Rattle.hook_law.specs.Standing.{IsIn}
-use Rattle.number_pools.specs.Numbers.{PoolNumbers}
+use Rattle.desk_pools.specs.OfNumbers.Numbers.{PoolNumbers}
 use Rattle.root_pool_laws.specs.Pools.{IsPool}
 use Rattle.root_pool_laws.proofs.Apart.{in_append, distinct_first, distinct_second, distinct_append}
 use Rattle.root_pool_laws.proofs.Giving.{given_apart, given_was, pool_gives}

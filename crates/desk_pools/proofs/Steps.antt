@@ -13,7 +13,7 @@ use Rattle.hook_law.specs.Places.{mask_root, action_root, bucket_root}
 use Rattle.hook_law.specs.Standing.{Role, IsIn, IsUnused, Stands}
 use Rattle.hook_meaning.specs.Stated.{hook_meaning}
 use Rattle.hook_meaning.specs.Blocks.{hook_codec}
-use Rattle.number_pools.specs.Numbers.{PoolNumbers}
+use Rattle.desk_pools.specs.OfNumbers.Numbers.{PoolNumbers}
 use Rattle.root_pool_laws.specs.Blocks.{IsBlockOf, HasBlock, IsLeft}
 use Rattle.root_pool_laws.specs.Pools.{IsPool, IsEmptyRoot}
 use Rattle.root_pool_laws.proofs.Apart.{in_append, in_left, in_right}

@@ -1,2 +1,4 @@
 pub mod Pools
 pub mod Steps
+pub mod OfNumbers
+pub mod OfTidying

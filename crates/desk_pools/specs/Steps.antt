@@ -12,7 +12,7 @@ use Rattle.hook_law.specs.Places.{row_buckets, mask_root, action_root, bucket_ro
 use Rattle.hook_law.specs.Standing.{Role, Stands, IsIn}
 use Rattle.hook_meaning.specs.Stated.{hook_meaning}
 use Rattle.hook_meaning.specs.Blocks.{hook_codec}
-use Rattle.number_pools.specs.Numbers.{PoolNumbers}
+use Rattle.desk_pools.specs.OfNumbers.Numbers.{PoolNumbers}
 use Rattle.root_pool_laws.specs.Blocks.{Spends}
 use Rattle.desk_pools.specs.declared.pools.IdlePlace.{IdlePlace}
 use Rattle.desk_pools.specs.declared.pools.Pools.{Pools}

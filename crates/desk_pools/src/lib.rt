@@ -11,13 +11,17 @@
 //! was taken and at whose end nothing stands at the pools' roots that didn't before, and a number leaves at
 //! which nothing stands any more. So each kind of edit shows no more than that of its commits.
 //!
+//! A pool's numbers, those that are free and those that left, are kept by `numbers`.
+//!
 //! Pools belong to the thread that has the store's writer. All their room is taken as they are made.
 //!
-//! Not promised: that what left comes back; that is `desk_tidy`'s.
+//! Not promised: that what left comes back, which `tidying` sees to.
 #![tactic(auto)]
 
 mod laws;
+pub mod numbers;
 mod pools;
+pub mod tidying;
 
 pub use laws::{pools_have_room, pools_of_a_commit};
 pub use pools::{IdlePlace, Pools};

@@ -2,8 +2,8 @@
 ghost use Rattle.std.specs.Prelude.{◌≡◌, ◌≤◌};
 ghost use Rattle.desk_pools.specs.Steps.{turned_place};
 
+use crate::numbers::Pool;
 use block_codec::places::{ACTION_SLOTS, MASK_SLOTS, POOL_BLOCKS, ROWS};
-use number_pools::Pool;
 use std::alloc::Global;
 use tc_base::{Hook, NoMemory};
 

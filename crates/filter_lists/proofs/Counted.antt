@@ -10,7 +10,7 @@ use Rattle.filter_state.specs.Actions.{index_or_free}
 use Rattle.act_kinds.specs.declared.params.Kind.{Kind}
 use Rattle.act_kinds.specs.declared.params.Params.{Params}
 use Rattle.act_kinds.specs.Params.{kind_of}
-use Rattle.order_laws.proofs.Steps.{step_same}
+use Rattle.state_laws.proofs.OfOrder.Steps.{step_same}
 use Rattle.action_plan.specs.Plans.{made_by}
 use Rattle.action_plan.proofs.Counts.{made_carried}
 use Rattle.hook_lists.specs.declared.kept.Kept.{Kept}

@@ -17,7 +17,7 @@ use Rattle.filter_state.specs.States.{Action, State}
 use Rattle.filter_state.specs.Order.{SameState}
 use Rattle.filter_state.specs.Actions.{is_named, is_live, change_where}
 use Rattle.filter_state.specs.Steps.{Stepped, with_params}
-use Rattle.order_laws.proofs.States.{same_state_refl}
+use Rattle.state_laws.proofs.OfOrder.States.{same_state_refl}
 use Rattle.action_plan.specs.Entries.{action_of, actions_of}
 use Rattle.action_plan.proofs.Mapped.{any_first, first_mapped, change_mapped, filter_mapped}
 use Rattle.action_plan.proofs.Entries.{same_name, used_live}

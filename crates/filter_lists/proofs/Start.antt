@@ -8,7 +8,7 @@ use Rattle.filter_state.specs.States.{State, no_state}
 use Rattle.filter_state.specs.Sound.{Sound}
 use Rattle.filter_state.specs.Order.{SameState}
 use Rattle.state_laws.proofs.Whole.{start_sound}
-use Rattle.order_laws.proofs.States.{same_state_refl}
+use Rattle.state_laws.proofs.OfOrder.States.{same_state_refl}
 use Rattle.filter_tables.specs.Plain.{PlainTable}
 use Rattle.filter_tables.specs.Whole.{AreWhole}
 use Rattle.filter_tables.specs.Rows.{rows_of}

@@ -12,9 +12,9 @@ use Rattle.filter_state.specs.Order.{SameStepped}
 use Rattle.filter_state.specs.Steps.{Stepped, step}
 use Rattle.filter_state.specs.Journals.{state_after}
 use Rattle.state_laws.proofs.Steps.{step_sound}
-use Rattle.order_laws.proofs.States.{same_state_sym, same_state_trans}
-use Rattle.order_laws.proofs.Steps.{step_same}
-use Rattle.order_laws.proofs.Soundness.{sound_same}
+use Rattle.state_laws.proofs.OfOrder.States.{same_state_sym, same_state_trans}
+use Rattle.state_laws.proofs.OfOrder.Steps.{step_same}
+use Rattle.state_laws.proofs.OfOrder.Soundness.{sound_same}
 use Rattle.hook_lists.specs.declared.kept.Kept.{Kept}
 use Rattle.hook_lists.specs.States.{state_of, AreKept}
 use Rattle.hook_lists.specs.Steps.{IsRoomier}

@@ -13,13 +13,13 @@ use Rattle.filter_tables.specs.Whole.{AreWhole}
 use Rattle.filter_tables.specs.Rows.{BothHooks, tables_on, rows_of, all_rows}
 use Rattle.hook_lists.specs.declared.kept.Kept.{Kept}
 use Rattle.hook_lists.specs.States.{both_of, state_of, AreKept}
-use Rattle.order_laws.proofs.Same.{filter_same}
-use Rattle.row_order_laws.specs.Sorted.{sorted}
-use Rattle.row_order_laws.specs.Rows.{row_before}
-use Rattle.row_order_laws.proofs.OrderedRows.{rows_stay, sorted_same}
+use Rattle.state_laws.proofs.OfOrder.Same.{filter_same}
+use Rattle.row_laws.specs.OfOrder.Sorted.{sorted}
+use Rattle.row_laws.specs.OfOrder.Rows.{row_before}
+use Rattle.row_laws.proofs.OfOrder.OrderedRows.{rows_stay, sorted_same}
 use Rattle.filter_state.proofs.Pairs.{pairs_filter}
-use Rattle.row_lookup_laws.proofs.Found.{whole_on}
-use Rattle.row_lookup_laws.proofs.Tables.{hook_rows, apart_serials}
+use Rattle.row_laws.proofs.OfLookups.Found.{whole_on}
+use Rattle.row_laws.proofs.OfLookups.Tables.{hook_rows, apart_serials}
 use Rattle.walk_rules.specs.Heads.{heads_in, heads_on}
 use Rattle.head_laws.specs.Heads.{head_of}
 use Rattle.head_laws.proofs.HeadRows.{tables_told}

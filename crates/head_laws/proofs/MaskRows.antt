@@ -15,14 +15,14 @@ use Rattle.filter_tables.specs.Plain.{PlainMask, PlainTable}
 use Rattle.filter_tables.specs.Places.{item_at}
 use Rattle.filter_tables.specs.Whole.{HasSome, IsFull}
 use Rattle.filter_tables.specs.Rows.{BothHooks, BothWhole, tables_on, row_of, rows_of_mask, all_rows}
-use Rattle.row_lookup_laws.proofs.Heads.{filter_and}
+use Rattle.row_laws.proofs.OfLookups.Heads.{filter_and}
 use Rattle.filter_state.proofs.Pairs.{each_weaker}
-use Rattle.row_lookup_laws.proofs.Blocks.{each_map, filter_blocks}
-use Rattle.row_lookup_laws.proofs.Pairs.{pairs_both}
-use Rattle.row_lookup_laws.proofs.Among.{Among, NotBoth, among_at, one_kept}
-use Rattle.row_lookup_laws.proofs.Found.{hook_self, item_each, rows_found}
-use Rattle.row_lookup_laws.proofs.Tables.{full_at}
-use Rattle.row_lookup_laws.proofs.Handles.{row_among}
+use Rattle.row_laws.proofs.OfLookups.Blocks.{each_map, filter_blocks}
+use Rattle.row_laws.proofs.OfLookups.Pairs.{pairs_both}
+use Rattle.row_laws.proofs.OfLookups.Among.{Among, NotBoth, among_at, one_kept}
+use Rattle.row_laws.proofs.OfLookups.Found.{hook_self, item_each, rows_found}
+use Rattle.row_laws.proofs.OfLookups.Tables.{full_at}
+use Rattle.row_laws.proofs.OfLookups.Handles.{row_among}
 use Rattle.head_laws.specs.Heads.{is_mask}
 
 -- ---- an element, and the others beside it

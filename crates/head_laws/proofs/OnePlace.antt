@@ -7,7 +7,7 @@ use Rattle.tc_base.specs.declared.hook.Hook.{Hook}
 use Rattle.filter_state.specs.States.{Row, State}
 use Rattle.filter_state.specs.Sound.{Sound, Each, EachPair}
 use Rattle.filter_tables.specs.Places.{item_at}
-use Rattle.row_lookup_laws.proofs.Found.{item_each}
+use Rattle.row_laws.proofs.OfLookups.Found.{item_each}
 use Rattle.walk_rules.specs.Questions.{Head}
 use Rattle.walk_rules.specs.Heads.{heads_on}
 use Rattle.walk_rules.proofs.Listed.{any_has}

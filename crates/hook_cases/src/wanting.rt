@@ -24,7 +24,7 @@ use std::alloc::Global;
 use std::test::Fail;
 use tc_base::{Hook, OpenGate, Point};
 use walk_steps::Walk;
-use worker_walk::{PacketName, walk_packet};
+use worker_rounds::walks::{PacketName, walk_packet};
 
 // Each is accepted behind those before it. A mask with so many filters has had more buckets than at first,
 // and has fewer again; actions come with a filter and without one, and go so; and a table goes with all in

@@ -15,11 +15,11 @@ use Rattle.filter_tables.specs.Plain.{PlainMask, PlainTable}
 use Rattle.filter_tables.specs.Places.{item_at, place_where}
 use Rattle.filter_tables.specs.Changes.{has_words, is_table}
 use Rattle.filter_tables.specs.Rows.{tables_on, all_rows}
-use Rattle.row_lookup_laws.specs.Asked.{unless_left_out}
-use Rattle.row_lookup_laws.proofs.Found.{rows_missing}
-use Rattle.row_lookup_laws.proofs.Tables.{protocol_found, row_missing}
-use Rattle.row_lookup_laws.proofs.Masks.{mask_some, masks_counted}
-use Rattle.row_lookup_laws.proofs.Matches.{match_found, match_missing, match_nowhere}
+use Rattle.row_laws.specs.OfLookups.Asked.{unless_left_out}
+use Rattle.row_laws.proofs.OfLookups.Found.{rows_missing}
+use Rattle.row_laws.proofs.OfLookups.Tables.{protocol_found, row_missing}
+use Rattle.row_laws.proofs.OfLookups.Masks.{mask_some, masks_counted}
+use Rattle.row_laws.proofs.OfLookups.Matches.{match_found, match_missing, match_nowhere}
 use Rattle.hook_lists.specs.declared.kept.Kept.{Kept}
 use Rattle.hook_lists.specs.States.{both_of, state_of, AreKept}
 use Rattle.hook_lists.proofs.Sought.{place_nowhere, its_names}

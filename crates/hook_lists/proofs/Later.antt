@@ -17,7 +17,7 @@ use Rattle.action_plan.specs.Entries.{actions_of}
 use Rattle.action_plan.specs.Plans.{made_of, carried}
 use Rattle.action_plan.proofs.Unbound.{unbound_same}
 use Rattle.filter_state.proofs.Pairs.{each_weaker, each_filter, pairs_filter}
-use Rattle.row_lookup_laws.proofs.Pairs.{pairs_both}
+use Rattle.row_laws.proofs.OfLookups.Pairs.{pairs_both}
 use Rattle.hook_lists.specs.declared.kept.Kept.{Kept}
 use Rattle.hook_lists.specs.States.{state_of, AreKept}
 use Rattle.hook_lists.proofs.First.{FirstIs, NotBoth, one_weaker, first_passes, map_first, filter_first, first_each}

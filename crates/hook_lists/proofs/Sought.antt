@@ -6,7 +6,7 @@ use Rattle.std.proofs.lemmas.Bool.{and_parts}
 use Rattle.filter_tables.specs.Plain.{PlainTable}
 use Rattle.filter_tables.specs.Places.{item_at, place_where}
 use Rattle.filter_tables.specs.Changes.{is_table}
-use Rattle.row_lookup_laws.proofs.Placed.{place_any}
+use Rattle.row_laws.proofs.OfLookups.Placed.{place_any}
 
 passes_step : {X : Type 0} (test : X → Bool) (b : Bool) (y x : X) (ys : List X) (found : Option ℕ) (place : ℕ) → test y ≡ b
     → ((n : ℕ) → found ≡ Some n → item_at ys n ≡ Some x → test x ≡ true) → cond b (Some 0) (option_map suc found) ≡ Some place → item_at (y ∷ ys) place ≡ Some x → test x ≡ true

@@ -11,7 +11,7 @@ ghost use Rattle.filter_tables.specs.Seen.{plain_table};
 ghost use Rattle.filter_tables.specs.SeenMask.{plain_mask};
 ghost use Rattle.filter_tables.specs.Changes.{has_words};
 ghost use Rattle.filter_tables.specs.Rows.{tables_on};
-ghost use Rattle.row_lookup_laws.specs.Asked.{unless_left_out};
+ghost use Rattle.row_laws.specs.OfLookups.Asked.{unless_left_out};
 ghost use Rattle.hook_lists.specs.States.{both_of, room_on, state_of, AreKept, place_on};
 ghost use Rattle.hook_lists.specs.Steps.{refusal_of};
 

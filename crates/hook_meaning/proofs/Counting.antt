@@ -12,14 +12,14 @@ use Rattle.filter_state.specs.Tables.{in_hook, tables_of, distinct}
 use Rattle.state_laws.proofs.Counts.{is_among, tables_are}
 use Rattle.filter_state.proofs.Pairs.{each_weaker, each_both, each_passing, pairs_filter, any_none, any_map}
 use Rattle.state_laws.proofs.Tests.{hook_eq_true}
-use Rattle.order_laws.proofs.Same.{same_refl, filter_same}
-use Rattle.order_laws.proofs.First.{each_same}
-use Rattle.order_laws.proofs.Soundness.{sound_same}
-use Rattle.row_order_laws.specs.Sorted.{placed, sorted, InOrder}
-use Rattle.row_order_laws.specs.Rows.{row_before}
-use Rattle.row_order_laws.proofs.Sorting.{sorted_stays, sorted_in_order}
-use Rattle.row_order_laws.proofs.Orders.{by_number, place_before, one_place, row_order}
-use Rattle.row_order_laws.proofs.OrderedRows.{sorted_same}
+use Rattle.state_laws.proofs.OfOrder.Same.{same_refl, filter_same}
+use Rattle.state_laws.proofs.OfOrder.First.{each_same}
+use Rattle.state_laws.proofs.OfOrder.Soundness.{sound_same}
+use Rattle.row_laws.specs.OfOrder.Sorted.{placed, sorted, InOrder}
+use Rattle.row_laws.specs.OfOrder.Rows.{row_before}
+use Rattle.row_laws.proofs.OfOrder.Sorting.{sorted_stays, sorted_in_order}
+use Rattle.row_laws.proofs.OfOrder.Orders.{by_number, place_before, one_place, row_order}
+use Rattle.row_laws.proofs.OfOrder.OrderedRows.{sorted_same}
 use Rattle.walk_rules.specs.Questions.{Head}
 use Rattle.walk_rules.specs.Heads.{head_with, in_front, with_row, heads_in, heads_on}
 

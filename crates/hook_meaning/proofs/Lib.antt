@@ -7,3 +7,4 @@ pub mod Masking
 pub mod Bucketing
 pub mod Matching
 pub mod OfEffects
+pub mod OfMaskAnswers

@@ -2,3 +2,4 @@ pub mod Stated
 pub mod Blocks
 pub mod Told
 pub mod OfEffects
+pub mod OfMaskAnswers

@@ -25,6 +25,8 @@
 //! `effects` is of plain states alone, and knows nothing of a store: what a state has of one mask and of one
 //! action, and what each kind of edit changes of it.
 //!
+//! `mask_answers` says that a search of one mask's filters finds what the plain state answers.
+//!
 //! Nothing here has code: the functions do nothing, and any thread may call them. Not promised: that an
 //! edit's commits meet the premises of their kind, which whoever makes them has to show; and that an action's
 //! root is read at all, for which no call stands here.
@@ -32,6 +34,7 @@
 
 pub mod effects;
 mod laws;
+pub mod mask_answers;
 mod terms;
 
 pub use laws::{actions_have_their_parameters, opens_at_nothing, states_stay_sound};

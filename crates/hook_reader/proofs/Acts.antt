@@ -21,7 +21,7 @@ use Rattle.hook_law.specs.Keeping.{Keeps}
 use Rattle.hook_meaning.specs.Stated.{hook_meaning}
 use Rattle.hook_meaning.specs.Blocks.{hook_codec}
 use Rattle.hook_meaning.specs.Told.{state_after_edits}
-use Rattle.hook_visit_laws.proofs.Actions.{action_answered}
+use Rattle.hook_store_law.proofs.OfVisits.Actions.{action_answered}
 use Rattle.hook_reader.specs.Seats.{HookSeat, IsReading}
 use Rattle.hook_reader.specs.Known.{KnowsAction}
 use Rattle.hook_reader.specs.Told.{head_point}

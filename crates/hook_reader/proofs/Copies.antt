@@ -23,7 +23,7 @@ use Rattle.hook_law.specs.Keeping.{Keeps}
 use Rattle.hook_meaning.specs.Stated.{hook_meaning}
 use Rattle.hook_meaning.specs.Blocks.{hook_codec}
 use Rattle.hook_meaning.specs.Told.{heads_after}
-use Rattle.hook_visit_laws.proofs.Heads.{kept_told}
+use Rattle.hook_store_law.proofs.OfVisits.Heads.{kept_told}
 use Rattle.tc_base.specs.declared.hook.Hook.TheVariants as hooks
 use Rattle.hook_reader.specs.KeptHeads.{Kept, IsKept, KeepsHeads}
 

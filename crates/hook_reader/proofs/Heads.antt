@@ -15,7 +15,7 @@ use Rattle.walk_steps.specs.Told.{MasksKnown}
 use Rattle.mask_table.specs.Told.{edits_by}
 use Rattle.hook_law.specs.Meaning.{point_of}
 use Rattle.hook_meaning.specs.Told.{stands_at}
-use Rattle.hook_visit_laws.specs.Known.{MaskStood}
+use Rattle.hook_store_law.specs.OfVisits.Known.{MaskStood}
 use Rattle.hook_reader.specs.Seats.{FirstHead, HookSeat, IsHeadOf, IsReading}
 use Rattle.hook_reader.specs.Known.{KnowsMask, KnowsAction}
 use Rattle.hook_reader.specs.Told.{first_of}

@@ -17,13 +17,13 @@ use Rattle.hook_law.specs.Meaning.{point_of}
 use Rattle.hook_law.specs.Keeping.{Keeps}
 use Rattle.hook_meaning.specs.Stated.{hook_meaning}
 use Rattle.hook_meaning.specs.Blocks.{hook_codec}
-use Rattle.hook_visit_laws.specs.Known.{MaskStood, ActionLived}
-use Rattle.hook_visit_laws.proofs.Names.{one_mask, edits_all}
+use Rattle.hook_store_law.specs.OfVisits.Known.{MaskStood, ActionLived}
+use Rattle.hook_store_law.proofs.OfVisits.Names.{one_mask, edits_all}
 use Rattle.hook_reader.specs.Seats.{FirstHead, HookSeat, IsReading}
 use Rattle.hook_reader.specs.Known.{KnowsMask, KnowsAction}
 use Rattle.hook_reader.specs.Told.{head_point}
 use Rattle.hook_meaning.specs.Told.{state_after_edits, stands_at, words_after, filters_after}
-use Rattle.hook_visit_laws.proofs.Looks.{mask_known, look_answered, actions_known}
+use Rattle.hook_store_law.proofs.OfVisits.Looks.{mask_known, look_answered, actions_known}
 use Rattle.mask_table.specs.Told.{LookedUp}
 use Rattle.flow_fields.specs.Values.{values_of}
 use Rattle.walk_rules.specs.Questions.{filter_of}

@@ -13,7 +13,7 @@ use Rattle.pin_store.specs.Calls.{seen_by, floor_start, floor_of, start_in}
 use Rattle.filter_state.specs.declared.edit.Edit.{Edit}
 use Rattle.hook_law.specs.Meaning.{point_of}
 use Rattle.mask_table.specs.Told.{edits_by}
-use Rattle.hook_visit_laws.proofs.Names.{edits_all}
+use Rattle.hook_store_law.proofs.OfVisits.Names.{edits_all}
 use Rattle.hook_reader.specs.Seats.{FirstHead, IsHeadOf, IsReading}
 
 abbrev pub Place : Type 0

@@ -10,8 +10,8 @@ use Rattle.visit_room.specs.declared.names.ActionName.{ActionName}
 use Rattle.visit_room.specs.declared.names.MaskName.{MaskName}
 use Rattle.hook_law.specs.Meaning.{point_of}
 use Rattle.hook_meaning.specs.Told.{stands_at}
-use Rattle.hook_visit_laws.specs.Known.{MaskStood, ActionLived}
-use Rattle.hook_visit_laws.proofs.Names.{mask_longer, action_longer}
+use Rattle.hook_store_law.specs.OfVisits.Known.{MaskStood, ActionLived}
+use Rattle.hook_store_law.proofs.OfVisits.Names.{mask_longer, action_longer}
 use Rattle.hook_reader.specs.Seats.{FirstHead, HookSeat, IsHeadOf, IsReading}
 use Rattle.hook_reader.specs.Known.{KnowsMask, KnowsAction}
 use Rattle.hook_reader.proofs.Reading.{point_longer}

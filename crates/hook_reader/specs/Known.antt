@@ -4,7 +4,7 @@ use Rattle.pin_store.specs.Calls.{seen_by, floor_start}
 use Rattle.visit_room.specs.declared.names.ActionName.{ActionName}
 use Rattle.visit_room.specs.declared.names.MaskName.{MaskName}
 use Rattle.hook_meaning.specs.Told.{stands_at}
-use Rattle.hook_visit_laws.specs.Known.{MaskStood, ActionLived}
+use Rattle.hook_store_law.specs.OfVisits.Known.{MaskStood, ActionLived}
 use Rattle.hook_reader.specs.Seats.{FirstHead, HookSeat}
 
 -- The mask stood at its slot at a time that reaches the head's point and the point of the last look-up there.

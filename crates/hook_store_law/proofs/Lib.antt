@@ -1,1 +1,2 @@
 pub mod OfEdits
+pub mod OfVisits

@@ -1,2 +1,3 @@
 pub mod Kept
 pub mod OfEdits
+pub mod OfVisits

@@ -27,7 +27,7 @@
 //! makes. Nothing of this type exists at run time, and it has no call, so any thread may name it.
 //!
 //! `edits` says of each kind of edit that it meets what the law asks about the states before and after its
-//! commit.
+//! commit. `visits` leads from what a reader loads to the answers of the plain state.
 //!
 //! Not promised: that the commits of any edit keep the law. The laws of `hook_law` say what each kind of
 //! commit has to meet, and the crate that commits has to show it. Nor is anything said here of how actions
@@ -36,5 +36,6 @@
 
 pub mod edits;
 mod law;
+pub mod visits;
 
 pub use law::{HookLaw, HookStore};

@@ -7,8 +7,8 @@ use Rattle.tc_base.specs.Outside.{Held, Rose}
 use Rattle.pcap_io.specs.declared.capture.Capture.{Capture}
 use Rattle.tool_words.specs.declared.status.Status.{Status}
 use Rattle.tool_words.specs.declared.status.Status.TheVariants as statuses
-use Rattle.input_files.specs.Holdings.{Holds, HasBatch, HasCapture}
-use Rattle.input_files.specs.Failures.{ReadFails}
+use Rattle.job_files.specs.OfInputs.Holdings.{Holds, HasBatch, HasCapture}
+use Rattle.job_files.specs.OfInputs.Failures.{ReadFails}
 use Rattle.job_files.specs.Named.{JobFile, batches_in, captures_in}
 use Rattle.job_files.specs.Holdings.{HoldsCapture, HasFiles}
 use Rattle.job_files.specs.Faults.{command_room, packet_room, IsReached, FilesBreak, FilesRead}

@@ -17,8 +17,8 @@ use Rattle.lawful_runs.specs.Given.{command_count, packet_count}
 use Rattle.tool_words.specs.declared.status.InputKind.{InputKind}
 use Rattle.tool_words.specs.declared.status.Status.{Status}
 use Rattle.tool_words.specs.declared.status.Status.TheVariants as statuses
-use Rattle.input_files.specs.Holdings.{Holds, HasBatch, HasCapture}
-use Rattle.input_files.proofs.Readings.{same_bytes, same_past, not_past, not_broken, same_break}
+use Rattle.job_files.specs.OfInputs.Holdings.{Holds, HasBatch, HasCapture}
+use Rattle.job_files.proofs.OfInputs.Readings.{same_bytes, same_past, not_past, not_broken, same_break}
 use Rattle.job_files.specs.Named.{JobFile, name_of, batches_in, captures_in, files_of}
 use Rattle.job_files.specs.Holdings.{HoldsCapture, HasFiles, HasJobFile, HasJob}
 use Rattle.job_files.specs.Faults.{kind_of, HasFormFault, command_room, packet_room, FileBreaks, IsReached, FilesBreak, FilesRead, JobBreaks, JobReads, JobFails}

@@ -6,3 +6,4 @@ pub mod Orders
 pub mod Reached
 pub mod Said
 pub mod Whole
+pub mod OfInputs

@@ -14,7 +14,7 @@ use Rattle.job_lines.specs.declared.job.CaptureName.{CaptureName}
 use Rattle.job_lines.specs.declared.job.Round.{Round}
 use Rattle.lawful_runs.specs.declared.loaded.LoadedJob.{LoadedJob}
 use Rattle.lawful_runs.specs.Given.{IsLoaded, batches_named, captures_named, capture_count}
-use Rattle.input_files.specs.Holdings.{Holds}
+use Rattle.job_files.specs.OfInputs.Holdings.{Holds}
 use Rattle.job_files.specs.Named.{batch_files, capture_files, round_files, rounds_files, batches_in, captures_in}
 use Rattle.job_files.specs.Holdings.{HoldsCapture, HasJob}
 use Rattle.job_files.proofs.Joined.{batches_joined, captures_joined}

@@ -5,7 +5,7 @@ use Rattle.job_lines.specs.declared.job.Job.{Job}
 use Rattle.job_lines.specs.declared.job.Round.{Round}
 use Rattle.tool_words.specs.declared.status.Status.{Status}
 use Rattle.tool_words.specs.declared.status.Status.TheVariants as statuses
-use Rattle.input_files.specs.Failures.{ReadFails}
+use Rattle.job_files.specs.OfInputs.Failures.{ReadFails}
 use Rattle.job_files.specs.Named.{rounds_files, files_of}
 use Rattle.job_files.specs.Holdings.{HasJobFile, HasJob}
 use Rattle.job_files.specs.Faults.{JobFileFails, JobFails}

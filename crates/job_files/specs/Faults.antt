@@ -15,8 +15,8 @@ use Rattle.tool_words.specs.declared.status.InputKind.{InputKind}
 use Rattle.tool_words.specs.declared.status.InputKind.TheVariants as kinds
 use Rattle.tool_words.specs.declared.status.Status.{Status}
 use Rattle.tool_words.specs.declared.status.Status.TheVariants as statuses
-use Rattle.input_files.specs.Holdings.{Holds, HasTooManyLines, HasBreak}
-use Rattle.input_files.specs.Failures.{ReadFails, LoadFails}
+use Rattle.job_files.specs.OfInputs.Holdings.{Holds, HasTooManyLines, HasBreak}
+use Rattle.job_files.specs.OfInputs.Failures.{ReadFails, LoadFails}
 use Rattle.job_files.specs.Named.{JobFile, name_of, files_of}
 use Rattle.job_files.specs.Holdings.{HasFiles, HasJobFile}
 

@@ -4,7 +4,7 @@ use Rattle.std.specs.Prelude.{ℕ, List, [], ◌++◌, Option}
 use Rattle.tc_base.specs.Outside.{Held}
 use Rattle.tool_words.specs.declared.status.Status.{Status}
 use Rattle.tool_words.specs.declared.status.Status.TheVariants as statuses
-use Rattle.input_files.specs.Failures.{ReadFails}
+use Rattle.job_files.specs.OfInputs.Failures.{ReadFails}
 use Rattle.job_files.specs.Named.{JobFile}
 use Rattle.job_files.specs.Holdings.{HasFiles}
 use Rattle.job_files.specs.Faults.{FilesBreak, FilesRead}

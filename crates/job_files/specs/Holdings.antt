@@ -10,7 +10,7 @@ use Rattle.job_lines.specs.declared.job.Job.{Job}
 use Rattle.job_lines.specs.Files.{IsJobOf}
 use Rattle.lawful_runs.specs.declared.loaded.LoadedJob.{LoadedJob}
 use Rattle.lawful_runs.specs.Given.{command_count, packet_count}
-use Rattle.input_files.specs.Holdings.{Holds}
+use Rattle.job_files.specs.OfInputs.Holdings.{Holds}
 use Rattle.job_files.specs.Named.{JobFile, batches_in, captures_in, files_of}
 
 -- the bytes under the name are this capture

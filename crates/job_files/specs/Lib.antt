@@ -4,3 +4,4 @@ pub mod Faults
 pub mod Due
 pub mod Loaded
 pub mod Growing
+pub mod OfInputs

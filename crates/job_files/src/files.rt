@@ -4,9 +4,9 @@ ghost use Rattle.job_files.specs.Named.{JobFile, AreNames, batch_files, capture_
 ghost use Rattle.job_files.specs.Named.{rounds_files};
 ghost use Rattle.job_files.specs.Growing.{nothing, Grows, AddFails};
 
+use crate::inputs::{load_batch, load_capture};
 use crate::names::text_of;
 use batch_run::COMMANDS_MAX;
-use input_files::{load_batch, load_capture};
 use job_lines::{BatchName, CaptureName, Job, Round};
 use lawful_runs::{Captures, LoadedJob};
 use pcap_io::Capture;

@@ -3,7 +3,7 @@ ghost use Rattle.std.specs.Prelude.{◌≡◌, ◌≤◌, IfOk, IfErr, OnOk};
 ghost use Rattle.job_files.specs.Holdings.{HasJobFile};
 ghost use Rattle.job_files.specs.Faults.{kind_of, IsToldFault, JobFileFails};
 
-use input_files::{bad_input, load};
+use crate::inputs::{bad_input, load};
 use job_lines::{Job, JobFault, JobKind, read_job};
 use std::alloc::Global;
 use tc_base::Shelf;

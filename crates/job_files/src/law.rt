@@ -4,7 +4,7 @@ ghost use Rattle.tc_base.specs.Outside.{Held};
 ghost use Rattle.lawful_runs.specs.declared.loaded.LoadedJob.{LoadedJob};
 ghost use Rattle.tool_words.specs.declared.status.Status.{Status};
 ghost use Rattle.lawful_runs.specs.Given.{IsLoaded};
-ghost use Rattle.input_files.specs.Holdings.{Holds};
+ghost use Rattle.job_files.specs.OfInputs.Holdings.{Holds};
 ghost use Rattle.job_files.specs.Holdings.{HasJob};
 ghost use Rattle.job_files.specs.Faults.{JobReads};
 ghost use Rattle.job_files.specs.Due.{CallsFor};

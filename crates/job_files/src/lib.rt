@@ -13,6 +13,8 @@
 //! batch, a packet too many by its capture's name. A line of a batch that says nothing is no fault here: it
 //! is an event of the run.
 //!
+//! `inputs` reads one file of a kind, and is there for commands that read no job as well.
+//!
 //! A name in a job is printed ASCII, and so it is text.
 //!
 //! One thread calls this. It starts none, waits for nobody, and keeps nothing between calls. Not promised:
@@ -20,6 +22,7 @@
 #![tactic(auto)]
 
 mod files;
+pub mod inputs;
 mod job_file;
 mod law;
 mod loading;

@@ -45,7 +45,7 @@ use Rattle.job_rounds.proofs.RoundNames.{heard_more}
 use Rattle.job_rounds.proofs.RoundPackets.{given_there, one_taken}
 use Rattle.job_rounds.proofs.Ready.{have_seen, within_by}
 use Rattle.job_rounds.proofs.RoundWorkers.{between_next, many_arrivals}
-use Rattle.short_walk_laws.proofs.ShortRuns.{executed_short, few_visited}
+use Rattle.run_counts.proofs.OfShortWalks.ShortRuns.{executed_short, few_visited}
 
 outcomes_more : (its : List RoundRecord) (it : RoundRecord) → outcomes_in (its ++ it ∷ []) ≡ outcomes_in its ++ it.outcomes
 outcomes_more [] it = append-nil it.outcomes

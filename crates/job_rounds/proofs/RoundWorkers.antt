@@ -9,11 +9,11 @@ use Rattle.pcap_io.specs.declared.capture.Packet.{Packet}
 use Rattle.filter_state.specs.declared.edit.Edit.{Edit}
 use Rattle.filter_state.specs.Sound.{Each}
 use Rattle.step_counts.specs.Claims.{HasEachBelow}
-use Rattle.walk_logs.specs.Rows.{numbers_of}
+use Rattle.worker_rounds.specs.OfLogs.Rows.{numbers_of}
 use Rattle.run_report.specs.declared.outcomes.Outcome.{Outcome}
 use Rattle.lawful_runs.specs.Given.{Arrival}
 use Rattle.lawful_runs.specs.OfLogs.Logs.{LogRow, AreRows, ArePointsTo}
-use Rattle.worker_walk.specs.Walked.{journal_of}
+use Rattle.worker_rounds.specs.OfWalks.Walked.{journal_of}
 use Rattle.worker_rounds.specs.declared.worker.Worker.{Worker}
 use Rattle.worker_rounds.specs.Worked.{arrivals_of}
 use Rattle.job_rounds.specs.OfRoundState.Rounds.{StoreName}

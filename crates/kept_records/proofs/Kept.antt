@@ -17,8 +17,8 @@ use Rattle.root_word_laws.proofs.Words.{one_stamp}
 use Rattle.block_codec.specs.declared.filter.StoredFilter.{StoredFilter}
 use Rattle.block_codec.specs.OfReadings.Read.{filter_in, mask_of_words, action_of_words}
 use Rattle.mask_table.specs.Buckets.{IsAnswer}
-use Rattle.kept_things.specs.declared.kept.Kept.{Kept}
-use Rattle.kept_things.specs.Places.{place_of, kept_as, thing_as, kept_at, AllKept}
+use Rattle.kept_records.specs.declared.things.kept.Kept.{Kept}
+use Rattle.kept_records.specs.OfThings.Places.{place_of, kept_as, thing_as, kept_at, AllKept}
 use Rattle.kept_records.specs.declared.known_filter.KnownFilter.{KnownFilter}
 use Rattle.kept_records.specs.declared.records.HookRecords.{HookRecords}
 use Rattle.kept_records.specs.Keeping.{WasRead, IsRead, IsKnown, KeepsRecords}

@@ -9,8 +9,8 @@ use Rattle.filter_state.specs.declared.edit.Edit.{Edit}
 use Rattle.block_codec.specs.declared.filter.StoredFilter.{StoredFilter}
 use Rattle.block_codec.specs.OfReadings.Read.{filter_in, mask_of_words, action_of_words}
 use Rattle.mask_table.specs.Buckets.{IsAnswer}
-use Rattle.kept_things.specs.declared.kept.Kept.{Kept}
-use Rattle.kept_things.specs.Places.{AllKept}
+use Rattle.kept_records.specs.declared.things.kept.Kept.{Kept}
+use Rattle.kept_records.specs.OfThings.Places.{AllKept}
 use Rattle.kept_records.specs.declared.known_filter.KnownFilter.{KnownFilter}
 use Rattle.kept_records.specs.declared.records.HookRecords.{HookRecords}
 

@@ -10,14 +10,14 @@ ghost use Rattle.block_codec.specs.OfReadings.Read.{filter_in};
 ghost use Rattle.block_chain.specs.Ways.{block_words, HasRoot};
 ghost use Rattle.mask_table.specs.Buckets.{IsAnswer};
 ghost use Rattle.hook_store_law.specs.Kept.{KeepsHook};
-ghost use Rattle.kept_things.specs.Places.{AllKept};
+ghost use Rattle.kept_records.specs.OfThings.Places.{AllKept};
 ghost use Rattle.kept_records.specs.Keeping.{WasRead, IsKnown};
 
 use crate::known_filter::{KnownFilter, keep_known, tell_known};
-use bucket_search::find_from;
+use crate::searches::find_from;
+use crate::things::KeptThings;
 use flow_fields::Key;
 use hook_store_law::{HookLaw, HookStore};
-use kept_things::KeptThings;
 use pin_store::{Reader, Steps};
 use std::sync::ledger::Ledger;
 use tc_base::Point;

@@ -1,10 +1,10 @@
 //! A filter that was found before.
 ghost use Rattle.std.specs.Prelude.{◌≡◌, true, false, List, Option, Some, slice_set};
-ghost use Rattle.kept_things.specs.Places.{place_of, kept_as, kept_at};
+ghost use Rattle.kept_records.specs.OfThings.Places.{place_of, kept_as, kept_at};
 ghost use Rattle.kept_records.specs.declared.known_filter.KnownFilter.{KnownFilter as Known};
 
+use crate::things::KeptThings;
 use flow_fields::Key;
-use kept_things::KeptThings;
 use tc_base::Point;
 use visit_room::Hit;
 

@@ -7,10 +7,11 @@
 //! was outside meanwhile and the blocks were given again. Else the block is read and decoded, and kept.
 //!
 //! Of a bucket the filter is kept that was found in it last, with its key. So a packet that meets that filter
-//! costs the root's word and a comparison; else the chain is searched.
+//! costs the root's word and a comparison; else the chain is searched (`searches`).
 //!
-//! `HookRecords` is what is kept, with the two visits that use it. Their clauses are those of `lookup` of
-//! `mask_table` and of `load_action` of `action_roots`; nothing in them tells whether something was kept.
+//! Records are kept in places, which roots share by their numbers (`things`). `HookRecords` is what is kept,
+//! with the two visits that use it. Their clauses are those of `lookup` of `mask_table` and of `load_action`
+//! of `roots` of `desk_actions`; nothing in them tells whether something was kept.
 //!
 //! # Who may call what
 //!
@@ -26,6 +27,8 @@ mod known_filter;
 mod looking;
 mod records;
 mod renewing;
+pub mod searches;
+pub mod things;
 
 pub use known_filter::KnownFilter;
 pub use records::HookRecords;

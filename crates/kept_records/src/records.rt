@@ -2,8 +2,8 @@
 ghost use Rattle.std.specs.Prelude.{replicate, IfOk, None, ◌≡◌};
 
 use crate::known_filter::KnownFilter;
+use crate::things::KeptThings;
 use block_codec::{StoredAction, StoredMask};
-use kept_things::KeptThings;
 use std::alloc::Global;
 use tc_base::NoMemory;
 

@@ -9,16 +9,16 @@ ghost use Rattle.pin_store.specs.Calls.{seen_by, floor_start, loads_of, IsInside
 ghost use Rattle.pin_store.specs.Calls.{IsSameButLoads};
 ghost use Rattle.block_codec.specs.OfReadings.Read.{mask_of_words, action_of_words};
 ghost use Rattle.block_chain.specs.Ways.{block_words, HasRoot};
-ghost use Rattle.kept_things.specs.Places.{place_of, kept_at, kept_as, AllKept};
+ghost use Rattle.kept_records.specs.OfThings.Places.{place_of, kept_at, kept_as, AllKept};
 ghost use Rattle.kept_records.specs.Blocks.{first_words};
 ghost use Rattle.kept_records.specs.Keeping.{WasRead, IsRead};
 ghost use Rattle.hook_store_law.specs.Kept.{KeepsHook};
 
 use crate::first_block::load_first;
+use crate::things::KeptThings;
 use block_codec::readings::{action_in, mask_in};
 use block_codec::{StoredAction, StoredMask};
 use hook_store_law::{HookLaw, HookStore};
-use kept_things::KeptThings;
 use pin_store::{Reader, RootWord, Steps};
 use std::sync::ledger::Ledger;
 use tc_base::Point;

@@ -3,7 +3,7 @@ use Rattle.std.proofs.Common.{◌≡◌, ℕ, ◌≤◌, List, ◌∷◌, Some, 
 use Rattle.std.specs.List.{slice_get}
 use Rattle.std.proofs.lemmas.Bool.{cases_lt}
 use Rattle.filter_state.specs.Sound.{Each, EachPair}
-use Rattle.walk_points.specs.Points.{Visit, IsSameThing, AreLawfulPoints}
+use Rattle.walk_rules.specs.OfPoints.Points.{Visit, IsSameThing, AreLawfulPoints}
 use Rattle.filter_state.proofs.Places.{each_at, pair_at}
 
 -- the later of two visits of one thing has no lesser point

@@ -10,7 +10,7 @@ use Rattle.walk_rules.specs.Steps.{Standing, begun, after}
 use Rattle.walk_rules.specs.Walks.{Outcome as WalkOutcome, IsWalk}
 use Rattle.run_report.specs.declared.outcomes.Outcome.{Outcome}
 use Rattle.lawful_runs.specs.Given.{Arrival}
-use Rattle.walk_points.specs.Points.{Visit, IsVisited}
+use Rattle.walk_rules.specs.OfPoints.Points.{Visit, IsVisited}
 use Rattle.lawful_runs.specs.Outcomes.{IsWalked}
 use Rattle.lawful_runs.proofs.Walks.{point_within}
 

@@ -8,7 +8,7 @@ use Rattle.std.proofs.lemmas.Option.{slice_get-map}
 use Rattle.filter_state.specs.States.{State}
 use Rattle.walk_rules.specs.Steps.{Standing, after}
 use Rattle.walk_rules.specs.Walks.{Outcome, IsWalk}
-use Rattle.walk_points.specs.Points.{Visit, IsVisited, AreLawfulPoints}
+use Rattle.walk_rules.specs.OfPoints.Points.{Visit, IsVisited, AreLawfulPoints}
 
 abbrev pub points_of : List Visit → List ℕ
 points_of visits = map (λ (visit : Visit). visit.point) visits

@@ -12,7 +12,7 @@ use Rattle.walk_rules.proofs.Agreeing.{GoAlong, outcomes_agree, answered_over}
 use Rattle.walk_rules.proofs.Stilled.{leads_to_plain}
 use Rattle.run_report.specs.declared.outcomes.Outcome.{Outcome}
 use Rattle.lawful_runs.specs.Given.{Arrival}
-use Rattle.walk_points.specs.Points.{IsVisited}
+use Rattle.walk_rules.specs.OfPoints.Points.{IsVisited}
 use Rattle.lawful_runs.specs.Outcomes.{IsRecordOf, IsWalked}
 use Rattle.lawful_runs.proofs.Visits.{visited, visit_at, within}
 

@@ -15,7 +15,7 @@ use Rattle.filter_state.specs.Steps.{step}
 use Rattle.filter_state.specs.Journals.{state_after}
 use Rattle.walk_rules.specs.declared.verdict.Verdict.TheVariants as verdicts
 use Rattle.walk_rules.specs.Questions.{Head, Question, heads_of, filter_of, params_of, told_heads, told_actions, told_params}
-use Rattle.walk_points.specs.Points.{Visit}
+use Rattle.walk_rules.specs.OfPoints.Points.{Visit}
 use Rattle.lawful_runs.specs.Outcomes.{IsWalked}
 use Rattle.lawful_runs.specs.Lawful.{IsRound, AreRounds, IsLawfulRun}
 use Rattle.lawful_runs.specs.WorkedRun.{frame, outcome, first_round, second_round, worked_job, worked_run}

@@ -13,7 +13,7 @@ use Rattle.run_report.specs.declared.events.Event.{Event}
 use Rattle.run_report.specs.declared.events.EventKind.TheVariants as kinds
 use Rattle.run_report.specs.declared.outcomes.Outcome.{Outcome}
 use Rattle.lawful_runs.specs.Given.{GivenBatch, Arrival}
-use Rattle.walk_points.specs.Points.{Visit}
+use Rattle.walk_rules.specs.OfPoints.Points.{Visit}
 
 -- ---- visits at a point: of the head, of a mask, of an action
 abbrev pub head_at : ℕ → Visit

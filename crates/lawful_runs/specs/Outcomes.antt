@@ -8,7 +8,7 @@ use Rattle.walk_rules.specs.Walks.{Outcome as WalkOutcome, IsWalk}
 use Rattle.walk_ends.specs.Passing.{regrown, passed_by}
 use Rattle.run_report.specs.declared.outcomes.Outcome.{Outcome}
 use Rattle.lawful_runs.specs.Given.{Arrival}
-use Rattle.walk_points.specs.Points.{Visit, IsVisited, AreLawfulPoints}
+use Rattle.walk_rules.specs.OfPoints.Points.{Visit, IsVisited, AreLawfulPoints}
 use Rattle.lawful_runs.specs.Points.{seen_by}
 
 -- the record has a walk's verdict, frame, metadata and executions

@@ -1,7 +1,7 @@
 //! Small cases, as they were worked out by hand.
 ghost use Rattle.std.specs.Prelude.{◌≡◌, true, false, [], ◌∷◌};
 ghost use Rattle.lawful_runs.specs.Events.{IsThrough, AreInOrder};
-ghost use Rattle.walk_points.specs.Points.{AreLawfulPoints};
+ghost use Rattle.walk_rules.specs.OfPoints.Points.{AreLawfulPoints};
 ghost use Rattle.lawful_runs.specs.Points.{seen_by};
 ghost use Rattle.lawful_runs.specs.Outcomes.{AreWalked};
 ghost use Rattle.lawful_runs.specs.Lawful.{IsLawfulRun, IsLawfulReport};

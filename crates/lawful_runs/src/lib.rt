@@ -6,8 +6,8 @@
 //! control's in order, each with the result of its edit on the state before it (`specs/Events.antt`). The
 //! accepted edits, in this order, are the journal, and a point names the state after so many of them. Each
 //! packet's walk makes each visit at one point of the journal, at which the visited thing stood
-//! (`specs/Outcomes.antt`). The points have four rules (`specs/Points.antt` of `walk_points`): the head's is
-//! neither before the edits of earlier rounds nor before anything that its worker had seen
+//! (`specs/Outcomes.antt`). The points have four rules (`points` of `walk_rules`): the
+//! head's is neither before the edits of earlier rounds nor before anything that its worker had seen
 //! (`specs/Points.antt`), no other is before the head's, none is past the edits of the round, and for one
 //! mask or one action they never fall. A counter is kept for each action that was ever made.
 //!

@@ -21,10 +21,10 @@ use Rattle.filter_state.proofs.Pairs.{each_weaker}
 use Rattle.filter_index.specs.Listed.{has_key}
 use Rattle.flow_mask.specs.Masks.{each_and}
 use Rattle.act_list.specs.declared.limits.TheConstants.{LIST_MAX}
-use Rattle.order_laws.proofs.Same.{order_same}
-use Rattle.order_laws.proofs.Soundness.{sound_same}
-use Rattle.row_lookup_laws.proofs.Heads.{first_and}
-use Rattle.row_lookup_laws.proofs.Found.{item_each}
+use Rattle.state_laws.proofs.OfOrder.Same.{order_same}
+use Rattle.state_laws.proofs.OfOrder.Soundness.{sound_same}
+use Rattle.row_laws.proofs.OfLookups.Heads.{first_and}
+use Rattle.row_laws.proofs.OfLookups.Found.{item_each}
 use Rattle.walk_rules.specs.declared.verdict.Verdict.TheVariants as verdicts
 use Rattle.walk_rules.specs.Questions.{Head}
 use Rattle.walk_rules.specs.Answers.{meets}

@@ -5,7 +5,7 @@ use Rattle.std.specs.List.{slice_get}
 use Rattle.std.proofs.lemmas.Bool.{cases_lt}
 use Rattle.std.proofs.lemmas.Bool.Decides.{nat_tests}
 use Rattle.walk_rules.specs.Questions.{Question, heads_of, filter_of, params_of}
-use Rattle.walk_points.specs.Points.{Visit, IsSameThing}
+use Rattle.walk_rules.specs.OfPoints.Points.{Visit, IsSameThing}
 use Rattle.point_walks.specs.declared.at_points.Thing.{Thing}
 use Rattle.point_walks.specs.Visits.{thing_of, is_same}
 

@@ -5,7 +5,7 @@ use Rattle.std.proofs.lemmas.Bool.Decides.{nat_tests}
 use Rattle.std.proofs.lemmas.List.{take_all}
 use Rattle.walk_rules.specs.Questions.{Question, Answer}
 use Rattle.walk_rules.specs.Steps.{Standing, question_of}
-use Rattle.walk_points.specs.Points.{Visit, AreLawfulPoints}
+use Rattle.walk_rules.specs.OfPoints.Points.{Visit, AreLawfulPoints}
 use Rattle.point_walks.specs.declared.at_points.Thing.{Thing}
 use Rattle.point_walks.specs.declared.at_points.Thing.TheVariants as things
 use Rattle.point_walks.specs.declared.bounds.Bounds.{Bounds}

@@ -5,7 +5,7 @@ use Rattle.std.specs.Option.{option_and_then}
 use Rattle.std.proofs.lemmas.List.{take_more, take-append-drop}
 use Rattle.walk_rules.specs.Questions.{Question, Answer}
 use Rattle.walk_rules.specs.Steps.{Standing, question_of, after}
-use Rattle.walk_points.specs.Points.{Visit}
+use Rattle.walk_rules.specs.OfPoints.Points.{Visit}
 use Rattle.point_walks.specs.Over.{Answering, answered_at, moved_by, stands_after}
 use Rattle.point_walks.specs.Visits.{visit_more, visits_over}
 use Rattle.point_walks.proofs.Within.{points_of}

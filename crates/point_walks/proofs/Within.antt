@@ -3,7 +3,7 @@ use Rattle.std.proofs.Common.{◌≡◌, ◌∙◌, ℕ, zero, suc, ◌≤◌, �
 use Rattle.std.specs.Prelude.{nat_le}
 use Rattle.std.specs.List.{slice_get, list_all}
 use Rattle.std.proofs.lemmas.Bool.Decides.{nat_tests}
-use Rattle.walk_points.specs.Points.{Visit, AreLawfulPoints}
+use Rattle.walk_rules.specs.OfPoints.Points.{Visit, AreLawfulPoints}
 use Rattle.point_walks.specs.declared.bounds.Bounds.{Bounds}
 use Rattle.point_walks.specs.Latest.{are_within}
 use Rattle.point_walks.proofs.Falling.{NeverFall}

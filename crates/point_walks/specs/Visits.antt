@@ -3,7 +3,7 @@ use Rattle.std.specs.Prelude.{◌≡◌, ℕ, ◌==◌, Bool, false, List, [], �
 use Rattle.tc_base.specs.declared.hook.Hook.{Hook}
 use Rattle.walk_rules.specs.Questions.{Question, heads_of, filter_of, params_of, Answer}
 use Rattle.walk_rules.specs.Steps.{Standing, begun, question_of, after}
-use Rattle.walk_points.specs.Points.{Visit, AreLawfulPoints}
+use Rattle.walk_rules.specs.OfPoints.Points.{Visit, AreLawfulPoints}
 use Rattle.point_walks.specs.declared.at_points.Thing.{Thing}
 use Rattle.point_walks.specs.declared.at_points.Thing.TheVariants as things
 use Rattle.point_walks.specs.declared.bounds.Bounds.{Bounds}

@@ -8,12 +8,12 @@ use Rattle.hook_lists.specs.States.{AreKept}
 use Rattle.filter_lists.specs.Spells.{Spells}
 use Rattle.walk_rules.specs.Questions.{heads_of}
 use Rattle.walk_rules.specs.Steps.{Standing}
-use Rattle.walk_points.specs.Points.{Visit, AreLawfulPoints}
+use Rattle.walk_rules.specs.OfPoints.Points.{Visit, AreLawfulPoints}
 use Rattle.point_walks.specs.declared.bounds.Bounds.{Bounds}
 use Rattle.point_walks.specs.Over.{Answering}
 use Rattle.point_walks.specs.Visits.{IsWalkAt}
 use Rattle.classify_walk.proofs.StillHeads.{heads_answered}
-use Rattle.journal_answers.specs.Answered.{Answerer, answer_by}
+use Rattle.state_past.specs.OfJournals.Answered.{Answerer, answer_by}
 use Rattle.report_laws.specs.OfNextLines.Walks.{answers_of, AgreesFrom}
 use Rattle.report_laws.proofs.OfNextLines.HeadOnce.{same_walk, same_visits}
 use Rattle.report_check.specs.Walks.{WalksTo}

@@ -18,7 +18,7 @@ use Rattle.run_report.specs.Reports.{counter_lines}
 use Rattle.lawful_runs.specs.declared.loaded.LoadedJob.{LoadedJob}
 use Rattle.lawful_runs.specs.Given.{GivenRound, IsLoaded, given_rounds, packet_count}
 use Rattle.lawful_runs.specs.Lawful.{made_by, counter_of, counters_of, outcomes_in, executed_in, IsLawfulReport}
-use Rattle.line_cut_laws.specs.Cuts.{cut}
+use Rattle.report_laws.specs.OfLineCuts.Cuts.{cut}
 use Rattle.report_laws.specs.Stands.{Stand, start, closing, run_of, last_lines, settled, settled_at, Takes, IsPath, journal_length}
 use Rattle.report_laws.specs.OfWholePaths.FirstBadLines.{IsFirstBadLine, IsOpen}
 use Rattle.report_laws.proofs.Paths.{path_append}

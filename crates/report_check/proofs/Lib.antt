@@ -11,3 +11,4 @@ pub mod Rounding
 pub mod LastLines
 pub mod OneCheck
 pub mod OfEvents
+pub mod OfReading

@@ -4,8 +4,8 @@ use Rattle.std.proofs.lemmas.List.{take-append-drop}
 use Rattle.run_report.specs.Reports.{report_lines}
 use Rattle.lawful_runs.specs.declared.loaded.LoadedJob.{LoadedJob}
 use Rattle.lawful_runs.specs.Lawful.{IsLawfulReport}
-use Rattle.line_cut_laws.specs.Cuts.{cut}
-use Rattle.line_cut_laws.proofs.Cutting.{cut_joined}
+use Rattle.report_laws.specs.OfLineCuts.Cuts.{cut}
+use Rattle.report_laws.proofs.OfLineCuts.Cutting.{cut_joined}
 use Rattle.report_laws.specs.OfWholePaths.FirstBadLines.{Begins, IsFirstBadLine}
 use Rattle.report_laws.proofs.ReportLines.{report_is_lines}
 use Rattle.report_check.specs.declared.check.Check.{Check}

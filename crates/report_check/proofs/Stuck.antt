@@ -2,7 +2,7 @@
 use Rattle.std.proofs.Common.{◌≡◌, ◌∙◌, ℕ, ◌==◌, Bool, true, false, List, [], ◌∷◌, length, drop, refl, sym, ap, subst}
 use Rattle.std.specs.Prelude.{if◌then◌else◌}
 use Rattle.lawful_runs.specs.declared.loaded.LoadedJob.{LoadedJob}
-use Rattle.line_cut_laws.specs.Cuts.{byte_before, cut}
+use Rattle.report_laws.specs.OfLineCuts.Cuts.{byte_before, cut}
 use Rattle.report_laws.specs.Stands.{Stand, Takes}
 use Rattle.report_laws.specs.OfWholePaths.FirstBadLines.{IsOpen}
 use Rattle.report_check.specs.declared.events.cursor.Cursor.{Cursor}

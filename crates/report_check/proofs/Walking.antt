@@ -20,7 +20,7 @@ use Rattle.report_laws.specs.OfNextLines.Walks.{answers_of, recorded_by, WalksAt
 use Rattle.report_laws.proofs.OfNextLines.Walked.{walked}
 use Rattle.report_laws.proofs.OfNextLines.NextPackets.{is_walked}
 use Rattle.report_laws.proofs.OfNextLines.NextOutcomes.{takes_walk, takes_walk_alone}
-use Rattle.report_reading.specs.Packets.{IsSmall}
+use Rattle.report_check.specs.OfReading.Packets.{IsSmall}
 use Rattle.report_check.specs.declared.events.cursor.Cursor.{Cursor}
 use Rattle.report_check.specs.declared.events.replay.Replay.{Replay}
 use Rattle.report_check.specs.OfEvents.Cursors.{IsNextLine, IsAt, MustBe}

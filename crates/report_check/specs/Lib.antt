@@ -5,3 +5,4 @@ pub mod Walks
 pub mod Rounds
 pub mod Between
 pub mod OfEvents
+pub mod OfReading

@@ -9,7 +9,7 @@ use Rattle.point_walks.specs.Visits.{IsWalkAt}
 use Rattle.run_report.specs.declared.outcomes.Outcome.{Outcome}
 use Rattle.run_report.specs.PacketTexts.{packet_line}
 use Rattle.report_laws.specs.OfNextLines.Walks.{answers_of}
-use Rattle.report_reading.specs.Packets.{IsSmall}
+use Rattle.report_check.specs.OfReading.Packets.{IsSmall}
 use Rattle.report_check.specs.declared.events.cursor.Cursor.{Cursor}
 use Rattle.report_check.specs.OfEvents.Cursors.{IsNextLine}
 use Rattle.report_check.specs.declared.walker.Walker.{Walker}

@@ -9,10 +9,10 @@
 //! title each round tells its events (`events`), then its packets, and then comes its last line;
 //! behind the rounds come the counters, the summary and `end`.
 //!
-//! Of a packet's line the worker and the points are read, and the packet is walked again at these points
-//! (`point_walks`): masks and actions as they stood there, by the journal's past, and the tables by lists of
-//! the worker's own. A worker never walks behind what it saw, so its lists follow the journal once through
-//! the whole report. What it has seen bounds its next walk.
+//! Of a packet's line the worker and the points are read (`reading`), and the packet is walked again at these
+//! points (`point_walks`): masks and actions as they stood there, by the journal's past, and the tables by
+//! lists of the worker's own. A worker never walks behind what it saw, so its lists follow the journal once
+//! through the whole report. What it has seen bounds its next walk.
 //!
 //! # Who may call what
 //!
@@ -28,6 +28,7 @@ mod events;
 mod law;
 mod lines;
 mod packets;
+pub mod reading;
 mod rechecking;
 mod rounds;
 mod walker;

@@ -19,14 +19,14 @@ ghost use Rattle.report_check.specs.Walks.{ShowsWalk, WalksTo, StandsIn, StandsA
 ghost use Rattle.report_check.specs.Rounds.{ToldRound, IsNextPacket, IsAtPackets, AreWalked};
 
 use crate::events::{Cursor, Replay};
+use crate::reading::read_packet_line;
 use crate::walker::Walker;
 use crate::walkers::{Room, Walkers};
-use journal_answers::JournalAnswers;
 use pcap_io::Packets;
 use point_walks::{Bounds, walk_at};
-use report_reading::read_packet_line;
 use run_counts::RunCounts;
 use run_report::push_packet_line;
+use state_past::journals::JournalAnswers;
 use std::alloc::AllocError;
 use tc_base::{Hook, NoMemory, Point};
 use walk_rules::Verdict;

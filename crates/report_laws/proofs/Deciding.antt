@@ -29,7 +29,7 @@ use Rattle.lawful_runs.specs.Events.{GoesOn, IsLineOf, IsResult, events_of}
 use Rattle.lawful_runs.specs.Lawful.{outcomes_in}
 use Rattle.filter_state.proofs.Places.{each_at}
 use Rattle.lawful_runs.proofs.Walks.{walk_over, point_within}
-use Rattle.line_cut_laws.specs.Numbers.{AreShort}
+use Rattle.report_laws.specs.OfLineCuts.Numbers.{AreShort}
 use Rattle.report_laws.specs.Begun.{IsBegun, AreBegun}
 use Rattle.report_laws.specs.Stands.{Stand, start, opening, inside, closing, with_event, with_outcome, IsNextEvent, IsNextOutcome, TakesEvent, TakesPacket, TakesIn, Takes, journal_length}
 use Rattle.report_laws.proofs.OneControl.{events_of-append, all_own}

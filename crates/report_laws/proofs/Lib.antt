@@ -12,3 +12,4 @@ pub mod Fronts
 pub mod Paths
 pub mod OfWholePaths
 pub mod OfNextLines
+pub mod OfLineCuts

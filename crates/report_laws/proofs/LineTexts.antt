@@ -15,8 +15,8 @@ use Rattle.run_report.specs.declared.outcomes.Outcome.{Outcome}
 use Rattle.run_report.specs.EventTexts.{edit_place, done_text, kind_line}
 use Rattle.run_report.specs.PacketTexts.{packet_name, points_text, packet_line}
 use Rattle.run_report.specs.Reports.{numbered_line}
-use Rattle.line_cut_laws.specs.Numbers.{Low, numbers_text, AreShort}
-use Rattle.line_cut_laws.proofs.Tails.{number_split, numbers_same, numbers_free, last_same}
+use Rattle.report_laws.specs.OfLineCuts.Numbers.{Low, numbers_text, AreShort}
+use Rattle.report_laws.proofs.OfLineCuts.Tails.{number_split, numbers_same, numbers_free, last_same}
 
 regrouped : (a b c d e : List ℕ) → (((a ++ b) ++ c) ++ d) ++ e ≡ a ++ (b ++ (c ++ (d ++ e)))
 regrouped a b c d e = simp append_assoc

@@ -6,8 +6,8 @@ use Rattle.run_report.specs.Reports.{report_lines, report_text}
 use Rattle.lawful_runs.specs.declared.loaded.LoadedJob.{LoadedJob}
 use Rattle.lawful_runs.specs.Given.{IsLoaded}
 use Rattle.lawful_runs.specs.Lawful.{IsLawfulRun}
-use Rattle.line_cut_laws.specs.Cuts.{cut}
-use Rattle.line_cut_laws.proofs.Cutting.{cut_joined}
+use Rattle.report_laws.specs.OfLineCuts.Cuts.{cut}
+use Rattle.report_laws.proofs.OfLineCuts.Cutting.{cut_joined}
 use Rattle.report_laws.specs.Stands.{Stand, start, closing, IsPath}
 use Rattle.report_laws.proofs.Paths.{run_path}
 use Rattle.report_laws.proofs.ReportLines.{report_is_lines}

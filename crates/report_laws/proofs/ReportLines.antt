@@ -34,9 +34,9 @@ use Rattle.run_report.specs.Counts.{accepted_count, summary_of}
 use Rattle.run_report.specs.EventTexts.{serials_text, filter_name, filter_text, action_made_text, done_text, edit_place, kind_line}
 use Rattle.run_report.specs.PacketTexts.{packet_name, points_text, packet_line}
 use Rattle.run_report.specs.Reports.{numbered_line, counter_lines, report_lines}
-use Rattle.line_cut_laws.specs.Cuts.{Inner, IsLine, AreLines}
-use Rattle.line_cut_laws.proofs.Cutting.{inner_append}
-use Rattle.line_cut_laws.proofs.Digits.{digits_high, high_inner}
+use Rattle.report_laws.specs.OfLineCuts.Cuts.{Inner, IsLine, AreLines}
+use Rattle.report_laws.proofs.OfLineCuts.Cutting.{inner_append}
+use Rattle.report_laws.proofs.OfLineCuts.Digits.{digits_high, high_inner}
 use Rattle.report_laws.specs.Stands.{last_lines}
 use Rattle.report_laws.proofs.Texts.{lines_after, packets_from, round_text, rounds_from, rounds_lines_are}
 

@@ -2,3 +2,4 @@ pub mod Begun
 pub mod Stands
 pub mod OfWholePaths
 pub mod OfNextLines
+pub mod OfLineCuts

@@ -8,7 +8,7 @@ ghost use Rattle.run_report.specs.Reports.{report_lines, report_text};
 ghost use Rattle.lawful_runs.specs.declared.loaded.LoadedJob.{LoadedJob};
 ghost use Rattle.lawful_runs.specs.Given.{IsLoaded};
 ghost use Rattle.lawful_runs.specs.Lawful.{IsLawfulRun};
-ghost use Rattle.line_cut_laws.specs.Cuts.{AreLines};
+ghost use Rattle.report_laws.specs.OfLineCuts.Cuts.{AreLines};
 ghost use Rattle.report_laws.specs.Stands.{Stand, Takes, journal_length};
 
 /// Two lawful runs of a job with the same report are one run, in all that is recorded of them.

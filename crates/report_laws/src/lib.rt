@@ -27,14 +27,15 @@
 //! packets counted. And each loaded job has a lawful run (`each_job_has_a_run`): the path without a line goes
 //! on to an end as well.
 //!
-//! `whole_paths` says that each path goes on to the end, and so where lines get stuck, which is the first bad
-//! line of a report; `next_lines` says which line may come next, in words that whoever judges a report can
-//! compute.
+//! `line_cuts` cuts bytes into lines, and finds the end of a number. `whole_paths` says that each path goes
+//! on to the end, and so where lines get stuck, which is the first bad line of a report; `next_lines` says
+//! which line may come next, in words that whoever judges a report can compute.
 //!
 //! Laws only: there is nothing here to call at run time.
 #![tactic(auto)]
 
 mod laws;
+pub mod line_cuts;
 pub mod next_lines;
 mod stands;
 pub mod whole_paths;

@@ -6,12 +6,14 @@
 //! serials come.
 //!
 //! No sum leaves its type: a walk runs 65,536 actions at most, each on a frame of 262,144 bytes at most, and
-//! a run has about a million packets (`specs/Counting.antt`).
+//! a run has about a million packets (`specs/Counting.antt`). That walks are so short is a law of their rules
+//! (`short_walks`).
 //!
 //! Plain data, one thread at a time. `add` takes memory for a serial that is greater than all before it;
 //! where that is refused nothing is promised of the counts.
 #![tactic(auto)]
 
 mod counts;
+pub mod short_walks;
 
 pub use counts::RunCounts;

@@ -18,7 +18,7 @@ use Rattle.hook_store_law.specs.OfEdits.Premises.{now, next}
 use Rattle.hook_store_law.proofs.OfEdits.Accepted.{sound}
 use Rattle.desk_needs.specs.declared.pool.Pool.{Pool}
 use Rattle.desk_needs.specs.Needs.{needed_of}
-use Rattle.desk_room_laws.proofs.Pools.{suffice, edit_few}
+use Rattle.desk_needs.proofs.OfRoom.Pools.{suffice, edit_few}
 use Rattle.desk_actions.specs.OfLedgers.Kept.{commits, base}
 use Rattle.desk_parts.specs.declared.parts.Parts.{Parts}
 use Rattle.shared_hook.specs.OfBalance.Counts.{free_of, left_of, AreCounted}

@@ -2,11 +2,11 @@
 use Rattle.std.proofs.Common.{◌≡◌, inl, inr, ℕ, ◌≤◌, Bool, true, false, length, refl, ap, arith, length-append}
 use Rattle.std.specs.Prelude.{if◌then◌else◌}
 use Rattle.tc_base.specs.declared.hook.Hook.TheVariants as hooks
-use Rattle.number_pools.specs.Numbers.{PoolNumbers}
+use Rattle.desk_pools.specs.OfNumbers.Numbers.{PoolNumbers}
 use Rattle.desk_needs.specs.declared.pool.Pool.{Pool}
 use Rattle.desk_needs.specs.declared.pool.Pool.TheVariants as pools
 use Rattle.desk_pools.specs.declared.pools.Pools.{Pools}
-use Rattle.desk_tidy.specs.Tidied.{IsTidied, AreTidied}
+use Rattle.desk_pools.specs.OfTidying.Tidied.{IsTidied, AreTidied}
 use Rattle.desk_pools.specs.Pools.{IsNothingLeft}
 use Rattle.shared_hook.specs.Views.{count_of, free_in, left_in}
 

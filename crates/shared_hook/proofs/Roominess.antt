@@ -11,8 +11,8 @@ use Rattle.hook_law.specs.Meaning.{state_at}
 use Rattle.hook_meaning.specs.Stated.{hook_meaning}
 use Rattle.hook_store_law.specs.OfEdits.Premises.{now}
 use Rattle.desk_needs.specs.declared.needs.Needs.{Needs}
-use Rattle.desk_tidy.specs.Tidied.{IsTwiceIn, Empties, AreTidied, empty_at, emptying}
-use Rattle.desk_tidy.proofs.Emptied.{mapped_at}
+use Rattle.desk_pools.specs.OfTidying.Tidied.{IsTwiceIn, Empties, AreTidied, empty_at, emptying}
+use Rattle.desk_pools.proofs.OfTidying.Emptied.{mapped_at}
 use Rattle.desk_actions.specs.OfLedgers.Kept.{commits}
 use Rattle.desk_parts.specs.declared.parts.Parts.{Parts}
 use Rattle.desk_parts.specs.Desk.{IsDesk}

@@ -4,14 +4,14 @@ use Rattle.std.specs.Prelude.{if◌then◌else◌}
 use Rattle.std.proofs.lemmas.Bool.Decides.{nat_tests}
 use Rattle.tc_base.specs.declared.hook.Hook.TheVariants as hooks
 use Rattle.filter_state.specs.States.{State}
-use Rattle.number_pools.specs.Numbers.{PoolNumbers}
+use Rattle.desk_pools.specs.OfNumbers.Numbers.{PoolNumbers}
 use Rattle.desk_needs.specs.declared.needs.Needs.{Needs}
 use Rattle.desk_needs.specs.declared.pool.Pool.{Pool}
 use Rattle.desk_needs.specs.declared.pool.Pool.TheVariants as pools
 use Rattle.desk_needs.specs.Live.{live_of, size_of_pool}
 use Rattle.desk_needs.specs.Needs.{needs_of, needed_of}
 use Rattle.desk_pools.specs.declared.pools.Pools.{Pools}
-use Rattle.desk_tidy.specs.Tidied.{IsTidied, AreTidied}
+use Rattle.desk_pools.specs.OfTidying.Tidied.{IsTidied, AreTidied}
 use Rattle.shared_hook.specs.OfBalance.Counts.{free_of, left_of, AreCounted}
 use Rattle.shared_hook.specs.declared.short.Short.{Short}
 use Rattle.shared_hook.specs.Short.{place_of, need_of, IsShort}

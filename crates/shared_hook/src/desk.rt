@@ -49,7 +49,7 @@ impl Desk {
     ghost use Rattle.hook_store_law.specs.OfEdits.Premises.{now};
     ghost use Rattle.desk_needs.specs.declared.pool.Pool.{Pool};
     ghost use Rattle.desk_needs.specs.Live.{live_of, size_of_pool};
-    ghost use Rattle.desk_tidy.specs.Tidied.{IsTwiceIn};
+    ghost use Rattle.desk_pools.specs.OfTidying.Tidied.{IsTwiceIn};
     ghost use Rattle.shared_hook.specs.Views.{count_of, journal};
 
     /// The lists: the state at the end of the journal. The commits keep the law of a hook, and each mask has

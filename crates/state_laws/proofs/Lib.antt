@@ -22,3 +22,4 @@ pub mod Adding
 pub mod Old
 pub mod Replacing
 pub mod Steps
+pub mod OfOrder

@@ -6,10 +6,15 @@
 //! and the limits hold. Whoever carries the state in lists of its own may rely on that, and who looks a
 //! filter up finds one at most.
 //!
+//! `order` says that the order between filters of different masks changes nothing, so that lists of tables
+//! and masks are enough.
+//!
 //! The laws stand apart because they are proofs alone, over definitions: none of the crates that cite those
-//! has to be proved again when a proof here changes. There is no code: the one function does nothing, and any
-//! thread may call it.
+//! has to be proved again when a proof here changes. There is no code: the functions do nothing, and any
+//! thread may call them.
 #![tactic(auto)]
+
+pub mod order;
 
 ghost use Rattle.std.specs.Prelude.{◌≡◌, ℕ, List, [], ◌∷◌, Some, None, Ok, Err};
 ghost use Rattle.tc_base.specs.declared.hook.Hook.TheVariants as hooks;

@@ -8,10 +8,10 @@ use Rattle.std.proofs.lemmas.List.{map-append, append-nil}
 use Rattle.std.proofs.lemmas.Slice.Eq.{bytes_eq-Decides}
 use Rattle.slot_pasts.specs.declared.past.Change.{Change}
 use Rattle.slot_pasts.specs.Pasts.{value_at, stood}
-use Rattle.past_change_laws.specs.Among.{Has}
-use Rattle.past_change_laws.specs.Moving.{GrowsFrom}
-use Rattle.past_change_laws.proofs.Among.{has_append, has_left, has_right}
-use Rattle.past_change_laws.proofs.Moved.{grows_itself, grows_put, has_put}
+use Rattle.state_past_laws.specs.OfChanges.Among.{Has}
+use Rattle.state_past_laws.specs.OfChanges.Moving.{GrowsFrom}
+use Rattle.state_past_laws.proofs.OfChanges.Among.{has_append, has_left, has_right}
+use Rattle.state_past_laws.proofs.OfChanges.Moved.{grows_itself, grows_put, has_put}
 use Rattle.act_kinds.specs.declared.params.Params.{Params}
 use Rattle.filter_state.specs.States.{State}
 use Rattle.hook_meaning.specs.OfEffects.Parts.{params_at}

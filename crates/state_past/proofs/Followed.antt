@@ -18,7 +18,7 @@ use Rattle.filter_state.specs.Sound.{Sound, IsRow, IsAction}
 use Rattle.filter_state.specs.Steps.{Stepped, step}
 use Rattle.filter_state.specs.Tables.{mask_row}
 use Rattle.state_laws.proofs.Steps.{step_sound, journal_sound}
-use Rattle.order_laws.proofs.States.{same_state_refl, same_state_sym, same_state_trans}
+use Rattle.state_laws.proofs.OfOrder.States.{same_state_refl, same_state_sym, same_state_trans}
 use Rattle.hook_lists.specs.declared.kept.Kept.{Kept}
 use Rattle.hook_lists.specs.States.{state_of, AreKept}
 use Rattle.filter_lists.specs.Spells.{Spells}
@@ -36,17 +36,17 @@ use Rattle.slot_pasts.specs.Names.{SlotPast, past_of}
 use Rattle.state_past_laws.specs.Slots.{is_slot, slot_in}
 use Rattle.state_past_laws.specs.Telling.{Tells}
 use Rattle.state_past_laws.proofs.Longer.{stays}
-use Rattle.past_change_laws.specs.Among.{Has, listed}
-use Rattle.past_change_laws.specs.Going.{rows_going, line_in, GoesOn, Comes}
-use Rattle.past_change_laws.specs.Serials.{serials_going}
-use Rattle.past_change_laws.specs.Moving.{GrowsFrom}
-use Rattle.past_change_laws.proofs.Among.{has_left, has_right, has_map, map_has, each_has, flat_map_has}
-use Rattle.past_change_laws.proofs.Going.{rows_go_on}
-use Rattle.past_change_laws.proofs.Acting.{keeps_others, never_given}
-use Rattle.past_change_laws.proofs.Stood.{slot_parts, slot_comes, slot_goes, slot_stays, words_come, words_go, words_left as words_kept, words_stay, slot_same, words_same}
-use Rattle.past_change_laws.proofs.Moved.{up_to_more, told_on}
-use Rattle.filters_going.specs.declared.going.GoingFilter.{GoingFilter}
-use Rattle.filters_going.specs.Marks.{Mark, mark_of, marked}
+use Rattle.state_past_laws.specs.OfChanges.Among.{Has, listed}
+use Rattle.state_past_laws.specs.OfChanges.Going.{rows_going, line_in, GoesOn, Comes}
+use Rattle.state_past_laws.specs.OfChanges.Serials.{serials_going}
+use Rattle.state_past_laws.specs.OfChanges.Moving.{GrowsFrom}
+use Rattle.state_past_laws.proofs.OfChanges.Among.{has_left, has_right, has_map, map_has, each_has, flat_map_has}
+use Rattle.state_past_laws.proofs.OfChanges.Going.{rows_go_on}
+use Rattle.state_past_laws.proofs.OfChanges.Acting.{keeps_others, never_given}
+use Rattle.state_past_laws.proofs.OfChanges.Stood.{slot_parts, slot_comes, slot_goes, slot_stays, words_come, words_go, words_left as words_kept, words_stay, slot_same, words_same}
+use Rattle.state_past_laws.proofs.OfChanges.Moved.{up_to_more, told_on}
+use Rattle.state_past.specs.declared.gone_filters.going.GoingFilter.{GoingFilter}
+use Rattle.state_past.specs.OfGoneFilters.Marks.{Mark, mark_of, marked}
 use Rattle.state_past.specs.declared.coming.Coming.{Coming}
 use Rattle.state_past.specs.declared.following.StepBefore.{StepBefore}
 use Rattle.state_past.specs.declared.past.StatePast.{StatePast}

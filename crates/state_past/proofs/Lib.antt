@@ -2,3 +2,4 @@ pub mod Bringing
 pub mod Recalled
 pub mod Remembered
 pub mod Followed
+pub mod OfGoneFilters

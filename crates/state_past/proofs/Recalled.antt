@@ -28,8 +28,8 @@ use Rattle.filter_state.specs.Order.{of_mask}
 use Rattle.filter_state.specs.Sound.{Sound, IsRow, IsAction}
 use Rattle.filter_state.specs.Tables.{first_where}
 use Rattle.filter_state.proofs.Pairs.{found, any_first, none_any}
-use Rattle.past_change_laws.specs.Among.{Has}
-use Rattle.past_change_laws.proofs.Among.{each_has, first_has}
+use Rattle.state_past_laws.specs.OfChanges.Among.{Has}
+use Rattle.state_past_laws.proofs.OfChanges.Among.{each_has, first_has}
 use Rattle.state_laws.proofs.Steps.{journal_sound}
 use Rattle.hook_lists.specs.declared.kept.Kept.{Kept}
 use Rattle.filter_lists.specs.Spells.{Spells}
@@ -37,8 +37,8 @@ use Rattle.hook_meaning.specs.OfEffects.Parts.{Stands, filters_of, words_in, wor
 use Rattle.walk_rules.specs.Questions.{Answer, told_params}
 use Rattle.walk_rules.specs.Questions as questions
 use Rattle.walk_rules.specs.Answers.{meets, actions_or_none, params_answer, answer_of}
-use Rattle.mask_answer_laws.specs.Searched.{IsSearched, searched_told}
-use Rattle.mask_answer_laws.proofs.Searching.{search_answers}
+use Rattle.hook_meaning.specs.OfMaskAnswers.Searched.{IsSearched, searched_told}
+use Rattle.hook_meaning.proofs.OfMaskAnswers.Searching.{search_answers}
 use Rattle.slot_pasts.specs.declared.past.Change.{Change}
 use Rattle.slot_pasts.specs.Pasts.{value_at, stood}
 use Rattle.slot_pasts.specs.Names.{past_of}

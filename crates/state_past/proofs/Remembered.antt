@@ -7,11 +7,11 @@ use Rattle.filter_state.specs.States.{Row}
 use Rattle.filter_state.specs.Sound.{EachPair, GoTogether}
 use Rattle.filter_state.specs.Tables.{in_table, has_mask, mask_row}
 use Rattle.state_laws.proofs.Tests.{row_in_table, row_in_table_from, bytes_eq_true, bytes_eq_from}
-use Rattle.past_change_laws.specs.Among.{Has}
-use Rattle.past_change_laws.specs.Going.{IsComing}
-use Rattle.past_change_laws.proofs.Among.{first_has, has_first}
-use Rattle.past_change_laws.proofs.Stood.{akin_has}
-use Rattle.filters_going.specs.Marks.{IsMaskRow}
+use Rattle.state_past_laws.specs.OfChanges.Among.{Has}
+use Rattle.state_past_laws.specs.OfChanges.Going.{IsComing}
+use Rattle.state_past_laws.proofs.OfChanges.Among.{first_has, has_first}
+use Rattle.state_past_laws.proofs.OfChanges.Stood.{akin_has}
+use Rattle.state_past.specs.OfGoneFilters.Marks.{IsMaskRow}
 
 module _ (line : FilterLine) (pref handle : ℕ) (serials : List ℕ) (row : Row) (is : IsComing line (dones.Filter pref handle serials) row) (rows : List Row) (has : Has row rows) where
   same_pref : pref ≡ row.pref

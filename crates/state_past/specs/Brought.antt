@@ -2,8 +2,8 @@
 use Rattle.std.specs.Prelude.{◌≡◌, ℕ, List, Option}
 use Rattle.slot_pasts.specs.declared.past.Change.{Change}
 use Rattle.slot_pasts.specs.Pasts.{value_at, UpTo}
-use Rattle.past_change_laws.specs.Among.{Has}
-use Rattle.past_change_laws.specs.Moving.{GrowsFrom}
+use Rattle.state_past_laws.specs.OfChanges.Among.{Has}
+use Rattle.state_past_laws.specs.OfChanges.Moving.{GrowsFrom}
 
 -- those of some keys have what belongs there from that point on, and all others are as they were
 pub record Brought {K V W : Type 0} (from : ℕ) (read : Option V → W) (value : K → W) (keys : List K)

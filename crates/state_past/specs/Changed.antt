@@ -7,8 +7,8 @@ use Rattle.hook_meaning.specs.OfEffects.Parts.{words_of, params_at}
 use Rattle.slot_pasts.specs.declared.past.Change.{Change}
 use Rattle.slot_pasts.specs.Pasts.{stood}
 use Rattle.slot_pasts.specs.Names.{SlotPast}
-use Rattle.past_change_laws.specs.Among.{listed}
-use Rattle.filters_going.specs.declared.going.GoingFilter.{GoingFilter}
+use Rattle.state_past_laws.specs.OfChanges.Among.{listed}
+use Rattle.state_past.specs.declared.gone_filters.going.GoingFilter.{GoingFilter}
 use Rattle.state_past.specs.declared.coming.Coming.{Coming}
 use Rattle.state_past.specs.declared.following.StepBefore.{StepBefore}
 use Rattle.state_past.specs.Serials.{serials_from}

@@ -11,9 +11,9 @@ use Rattle.filter_state.specs.Tables.{mask_row}
 use Rattle.hook_meaning.specs.OfEffects.Parts.{params_at}
 use Rattle.slot_pasts.specs.declared.past.Change.{Change}
 use Rattle.slot_pasts.specs.Pasts.{value_at, stood}
-use Rattle.past_change_laws.specs.Among.{Has, listed}
-use Rattle.past_change_laws.specs.Serials.{serial_named}
-use Rattle.filters_going.specs.declared.going.GoingFilter.{GoingFilter}
+use Rattle.state_past_laws.specs.OfChanges.Among.{Has, listed}
+use Rattle.state_past_laws.specs.OfChanges.Serials.{serial_named}
+use Rattle.state_past.specs.declared.gone_filters.going.GoingFilter.{GoingFilter}
 use Rattle.state_past.specs.declared.coming.Coming.{Coming}
 
 -- the words that stood there, or none

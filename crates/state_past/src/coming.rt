@@ -3,13 +3,13 @@ ghost use Rattle.std.specs.Prelude.{◌≡◌, ℕ, Option, Some};
 ghost use Rattle.filter_state.specs.States.{Row, State};
 ghost use Rattle.filter_state.specs.Sound.{Sound};
 ghost use Rattle.filter_lists.specs.Spells.{Spells};
-ghost use Rattle.past_change_laws.specs.Among.{Has};
-ghost use Rattle.past_change_laws.specs.Going.{line_in, Comes, IsComing};
+ghost use Rattle.state_past_laws.specs.OfChanges.Among.{Has};
+ghost use Rattle.state_past_laws.specs.OfChanges.Going.{line_in, Comes, IsComing};
 ghost use Rattle.filter_state.specs.declared.refusal.Done.TheVariants as dones;
 ghost use Rattle.state_past.specs.Told.{IsComingOf};
 
+use crate::gone_filters::mask_serial;
 use filter_lists::{Done, Edit, FilterLine, Lists};
-use filters_going::mask_serial;
 use tc_base::Numbers;
 
 /// A filter that was put: the serial of its mask, its line, and the serials of its actions.

@@ -5,11 +5,11 @@ ghost use Rattle.state_past.specs.Told.{named_in};
 
 use crate::actions::{note_filters, note_made, note_named};
 use crate::coming::Coming;
+use crate::gone_filters::{GoingFilter, filters_going, serial_named};
 use crate::masks::{note_masks, put_mask};
 use crate::past::StatePast;
 use crate::slots::{put_slot, take_slots};
 use filter_lists::{Edit, Lists};
-use filters_going::{GoingFilter, filters_going, serial_named};
 use std::alloc::Global;
 use tc_base::NoMemory;
 
@@ -27,8 +27,8 @@ pub(crate) struct StepBefore {
 impl StepBefore {
     ghost use Rattle.std.specs.Prelude.{◌≡◌, map, IfOk};
     ghost use Rattle.hook_lists.specs.States.{AreKept, state_of};
-    ghost use Rattle.filters_going.specs.Marks.{mark_of, marked};
-    ghost use Rattle.past_change_laws.specs.Going.{rows_going};
+    ghost use Rattle.state_past.specs.OfGoneFilters.Marks.{mark_of, marked};
+    ghost use Rattle.state_past_laws.specs.OfChanges.Going.{rows_going};
     ghost use Rattle.state_past.specs.Told.{named_in};
 
     /// Reads it off the lists.

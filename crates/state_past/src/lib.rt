@@ -7,11 +7,12 @@
 //! each action its parameters. A look-up is one hash and one halving, whatever the length of the journal.
 //!
 //! `follow` does one step of the lists, and remembers it. An edit costs what it changes: one or two changes,
-//! or for a table that goes one for each of its filters. What went is copied out of the lists before the
-//! step; what is there then is asked of the lists after it. Points are counted over the whole journal, so
-//! nothing is cleared between rounds.
+//! or for a table that goes one for each of its filters. What went is copied out of the lists before the step
+//! (`gone_filters`); what is there then is asked of the lists after it. Points are counted over the whole
+//! journal, so nothing is cleared between rounds.
 //!
 //! The tables of a hook aren't kept here: whoever walks has lists that stand at the point of the walk's head.
+//! Both together answer what the states of the journal answer (`journals`).
 //!
 //! # Who may call what
 //!
@@ -25,6 +26,8 @@
 mod actions;
 mod coming;
 mod following;
+pub mod gone_filters;
+pub mod journals;
 mod masks;
 mod names;
 mod past;

@@ -9,9 +9,9 @@ ghost use Rattle.state_past.specs.Told.{coming_words, words_left};
 ghost use Rattle.std.specs.Option.{option_copied};
 
 use crate::coming::Coming;
+use crate::gone_filters::{GoingFilter, mask_serial};
 use crate::serial_pasts::SerialPasts;
 use filter_lists::Lists;
-use filters_going::{GoingFilter, mask_serial};
 use flow_fields::Key;
 use tc_base::{NoMemory, Point};
 

@@ -6,8 +6,8 @@ ghost use Rattle.state_past.specs.Brought.{Brought, AllUpTo};
 ghost use Rattle.state_past.specs.Told.{slots_of, coming_slots, coming_actions};
 
 use crate::coming::Coming;
+use crate::gone_filters::GoingFilter;
 use crate::names::slot_name;
-use filters_going::GoingFilter;
 use slot_pasts::SlotPasts;
 use std::alloc::Global;
 use tc_base::{NoMemory, Numbers, Point};

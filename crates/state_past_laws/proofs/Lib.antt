@@ -5,3 +5,4 @@ pub mod Replaced
 pub mod Taken
 pub mod Searched
 pub mod Longer
+pub mod OfChanges

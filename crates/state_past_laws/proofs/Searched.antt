@@ -9,7 +9,7 @@ use Rattle.filter_state.specs.Tables.{first_where}
 use Rattle.filter_state.specs.Order.{of_mask}
 use Rattle.hook_meaning.specs.OfEffects.Parts.{Filter, filter_of, filters_of}
 use Rattle.hook_meaning.specs.OfEffects.Effects.{KeepsFilters}
-use Rattle.mask_answer_laws.specs.Searched.{IsSearched}
+use Rattle.hook_meaning.specs.OfMaskAnswers.Searched.{IsSearched}
 use Rattle.state_past_laws.specs.Slots.{is_slot, actions_or, slot_in, slot_among, is_taken, actions_in}
 
 -- row by row

@@ -12,13 +12,14 @@
 //! another mask or key; deleted filters theirs. The order in which slots are taken away is free
 //! (`taken_slots`), so whoever keeps lists in another order than the state's rows may take theirs. Edits that
 //! keep the filters change no slot (`kept_slots`). Which rows, masks and actions an edit changes stands in
-//! `past_change_laws`.
+//! `changes`.
 //!
 //! What stands in a slot is what a search of the mask's filters finds (`slots_answer_searches`).
 //!
 //! Laws only: there is nothing here to call at run time, so any thread may do anything with it.
 #![tactic(auto)]
 
+pub mod changes;
 mod slots;
 mod telling;
 

@@ -15,7 +15,7 @@ ghost use Rattle.filter_state.specs.Tables.{in_table, has_handle, filter_row};
 ghost use Rattle.filter_state.specs.Steps.{step, row_of, mask_serial_for};
 ghost use Rattle.hook_meaning.specs.OfEffects.Parts.{filters_of};
 ghost use Rattle.hook_meaning.specs.OfEffects.Effects.{KeepsFilters};
-ghost use Rattle.mask_answer_laws.specs.Searched.{IsSearched};
+ghost use Rattle.hook_meaning.specs.OfMaskAnswers.Searched.{IsSearched};
 ghost use Rattle.state_past_laws.specs.Slots.{SlotChange, Overrides, AreTaken, slot_in, is_taken, actions_in};
 ghost use Rattle.state_past_laws.specs.Slots.{concerns, put_there, taken_there, moved_there};
 

@@ -6,15 +6,15 @@ use Rattle.tc_base.specs.declared.hook.Hook.TheVariants as hooks
 use Rattle.filter_state.specs.States.{State}
 use Rattle.filter_state.specs.Order.{SameState}
 use Rattle.filter_tables.specs.Rows.{rows_of}
-use Rattle.order_laws.proofs.States.{is_with_rows}
+use Rattle.state_laws.proofs.OfOrder.States.{is_with_rows}
 use Rattle.hook_lists.specs.declared.kept.Kept.{Kept}
 use Rattle.hook_lists.specs.States.{both_of, state_of, AreKept}
 use Rattle.action_plan.specs.Entries.{actions_of}
 use Rattle.std.specs.Prelude.{[], ◌∷◌, codes}
-use Rattle.row_order_laws.specs.Sorted.{sorted}
+use Rattle.row_laws.specs.OfOrder.Sorted.{sorted}
 use Rattle.tc_report.specs.Show.{text_line, hook_shown, action_before, action_shown, filter_shown, show_of}
 use Rattle.tc_report.specs.Steps.{naming}
-use Rattle.row_order_laws.proofs.OrderedRows.{sorted_same, rows_stay}
+use Rattle.row_laws.proofs.OfOrder.OrderedRows.{sorted_same, rows_stay}
 
 -- all but the filters
 abbrev around : State → List ℕ → List ℕ

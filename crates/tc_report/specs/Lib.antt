@@ -1,3 +1,4 @@
 pub mod Show
 pub mod Refusals
 pub mod Steps
+pub mod OfShownBatches

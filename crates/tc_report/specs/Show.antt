@@ -13,8 +13,8 @@ use Rattle.filter_state.specs.Tables.{first_where}
 use Rattle.tc_batch.specs.KindNames.{kind_text}
 use Rattle.tc_print.specs.ActionWords.{action_words}
 use Rattle.tc_print.specs.EditWords.{qdisc_words, filter_words}
-use Rattle.row_order_laws.specs.Sorted.{sorted}
-use Rattle.row_order_laws.specs.Rows.{row_before}
+use Rattle.row_laws.specs.OfOrder.Sorted.{sorted}
+use Rattle.row_laws.specs.OfOrder.Rows.{row_before}
 
 -- words with one space between, and a line end
 abbrev pub text_line : List (List ℕ) → List ℕ

@@ -19,6 +19,8 @@
 //! that doesn't fit (`specs/Refusals.antt`). They put it at the end of a text that the caller holds, and take
 //! no other memory.
 //!
+//! `shown_batches` joins the two: what `show` answers for the lines of a batch.
+//!
 //! `show_text` reads the lists by `&`, keeps nothing, and may be called by any thread that may read them.
 //!
 //! Not promised: that memory suffices, and how long a text is.
@@ -28,6 +30,7 @@ mod refusals;
 mod sheet;
 mod show;
 mod shown_actions;
+pub mod shown_batches;
 mod shown_filters;
 
 pub use refusals::{push_bad_line, push_refused};

@@ -17,8 +17,8 @@ use Rattle.tool_words.specs.declared.status.Status.{Status}
 use Rattle.tool_words.specs.declared.status.Status.TheVariants as statuses
 use Rattle.tool_words.specs.Command.{Request, Walk, Show, Run, Recheck, Gen}
 use Rattle.tool_words.specs.Ends.{status_after}
-use Rattle.input_files.specs.Holdings.{Holds, HasTooManyLines, HasCapture, HasBreak}
-use Rattle.input_files.proofs.Readings.{same_past, not_past, not_broken, same_break}
+use Rattle.job_files.specs.OfInputs.Holdings.{Holds, HasTooManyLines, HasCapture, HasBreak}
+use Rattle.job_files.proofs.OfInputs.Readings.{same_past, not_past, not_broken, same_break}
 use Rattle.tool_run.specs.Holdings.{HasCommands}
 use Rattle.tool_run.specs.Work.{BatchEnds, BatchBreaks, Ends, EndsOnly, IsRead}
 use Rattle.tool_run.specs.Causes.{DueTo, AllowedTo}

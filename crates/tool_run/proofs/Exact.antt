@@ -13,8 +13,8 @@ use Rattle.tool_words.specs.declared.status.Status.{Status}
 use Rattle.tool_words.specs.declared.status.Status.TheVariants as statuses
 use Rattle.tool_words.specs.Command.{Request, Walk, Show, Run, Recheck, Gen}
 use Rattle.tool_words.specs.Ends.{status_after, IsAllDone}
-use Rattle.input_files.specs.Holdings.{Holds, HasBatch}
-use Rattle.input_files.specs.Failures.{ReadFails}
+use Rattle.job_files.specs.OfInputs.Holdings.{Holds, HasBatch}
+use Rattle.job_files.specs.OfInputs.Failures.{ReadFails}
 use Rattle.tool_run.specs.Holdings.{HasRun}
 use Rattle.tool_run.specs.Work.{EndsOnly, IsRead}
 use Rattle.tool_run.specs.Causes.{DueTo, DueIn, AllowedTo, CausedTo, FailedOutside}

@@ -8,8 +8,8 @@ use Rattle.pcap_io.specs.Written.{capture_bytes}
 use Rattle.batch_run.specs.Commands.{commands_of}
 use Rattle.batch_run.specs.Runs.{Ran}
 use Rattle.batch_run.proofs.Outcomes.{some_ran}
-use Rattle.gen_run.specs.declared.workload.Generated.{Generated}
-use Rattle.gen_run.specs.Generated.{MadeFile, files_of, IsRunOf, IsGenerated, capture_of, made_files, made_text}
+use Rattle.tool_run.specs.declared.generated.workload.Generated.{Generated}
+use Rattle.tool_run.specs.OfGenerated.Generated.{MadeFile, files_of, IsRunOf, IsGenerated, capture_of, made_files, made_text}
 use Rattle.tool_words.specs.declared.status.Status.{Status}
 use Rattle.tool_words.specs.Command.{Gen}
 use Rattle.tool_words.specs.Ends.{status_after}

@@ -14,3 +14,4 @@ pub mod Running
 pub mod Walking
 pub mod Writing
 pub mod MadeRuns
+pub mod OfGenerated

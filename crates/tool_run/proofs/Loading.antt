@@ -8,9 +8,9 @@ use Rattle.job_lines.specs.Jobs.{IsBatch, IsRound, IsJob}
 use Rattle.lawful_runs.specs.declared.loaded.LoadedJob.{LoadedJob}
 use Rattle.lawful_runs.specs.Given.{IsLoaded}
 use Rattle.gen_files.specs.Generated.{packet_of, packets_of}
-use Rattle.gen_run.specs.Generated.{capture_of}
+use Rattle.tool_run.specs.OfGenerated.Generated.{capture_of}
 use Rattle.tool_run.specs.Workloads.{batch_name, batch_round, capture_round, made_job, workload_of}
-use Rattle.gen_run.proofs.LineFeeds.{few}
+use Rattle.tool_run.proofs.OfGenerated.LineFeeds.{few}
 
 -- ---- the job
 is_batch : IsBatch 1 batch_name

@@ -19,9 +19,9 @@ use Rattle.lawful_runs.specs.Given.{IsLoaded, arrivals_at}
 use Rattle.lawful_runs.specs.Outcomes.{passed_of}
 use Rattle.lawful_runs.specs.Lawful.{IsLawfulRun}
 use Rattle.gen_files.specs.Generated.{batch_text, packet_of, packets_of}
-use Rattle.gen_run.specs.Generated.{IsRunOf, capture_of}
+use Rattle.tool_run.specs.OfGenerated.Generated.{IsRunOf, capture_of}
 use Rattle.tool_run.specs.Workloads.{workload_of}
-use Rattle.gen_run.proofs.LineFeeds.{few}
+use Rattle.tool_run.proofs.OfGenerated.LineFeeds.{few}
 use Rattle.tool_run.proofs.Loading.{is_job}
 use Rattle.tool_run.specs.OfQuietJobs.Ends.{ComesToWalk}
 use Rattle.tool_run.proofs.OfQuietJobs.QuietRuns.{quiet_runs, few_in_run}

@@ -2,8 +2,8 @@
 use Rattle.std.proofs.Common.{◌≡◌, ◌≢◌, ◌∙◌, ℕ, ◌+◌, List, [], ◌∷◌, ◌++◌, length, length-append, take, Option, Some, None, refl, sym, ap, subst, arith}
 use Rattle.std.specs.Prelude.{codes}
 use Rattle.tc_base.specs.Outside.{Held, OthersStay, Stands}
-use Rattle.gen_run.specs.declared.workload.Generated.{Generated}
-use Rattle.gen_run.specs.Generated.{MadeFile}
+use Rattle.tool_run.specs.declared.generated.workload.Generated.{Generated}
+use Rattle.tool_run.specs.OfGenerated.Generated.{MadeFile}
 use Rattle.tool_run.specs.Made.{AllStand, IsNoneOf, AllElseStay, PutUpTo, files_in}
 
 -- ---- one put

@@ -5,7 +5,7 @@ use Rattle.filter_state.specs.States.{no_state}
 use Rattle.batch_run.specs.Commands.{commands_of}
 use Rattle.batch_run.specs.Runs.{Ran, IsRun}
 use Rattle.batch_run.proofs.Outcomes.{one_ran}
-use Rattle.input_files.proofs.Readings.{same_bytes}
+use Rattle.job_files.proofs.OfInputs.Readings.{same_bytes}
 use Rattle.tool_run.specs.Holdings.{HasRun}
 
 pub same_run : (held : Held) (name : List ℕ) (a b : Ran) → HasRun (Some held) name a

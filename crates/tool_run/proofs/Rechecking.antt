@@ -8,8 +8,8 @@ use Rattle.tool_words.specs.declared.status.Status.{Status}
 use Rattle.tool_words.specs.declared.status.Status.TheVariants as statuses
 use Rattle.tool_words.specs.Command.{Recheck}
 use Rattle.tool_words.specs.Ends.{IsAllDone}
-use Rattle.input_files.specs.Holdings.{Holds}
-use Rattle.input_files.proofs.Readings.{same_bytes}
+use Rattle.job_files.specs.OfInputs.Holdings.{Holds}
+use Rattle.job_files.proofs.OfInputs.Readings.{same_bytes}
 use Rattle.job_files.specs.Holdings.{HasJob}
 use Rattle.job_files.specs.Faults.{JobBreaks}
 use Rattle.job_files.proofs.Exact.{stands}

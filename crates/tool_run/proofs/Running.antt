@@ -9,7 +9,7 @@ use Rattle.tool_words.specs.declared.status.Status.{Status}
 use Rattle.tool_words.specs.declared.status.Status.TheVariants as statuses
 use Rattle.tool_words.specs.Command.{Run}
 use Rattle.tool_words.specs.Ends.{IsAllDone}
-use Rattle.input_files.specs.Holdings.{Holds}
+use Rattle.job_files.specs.OfInputs.Holdings.{Holds}
 use Rattle.job_files.specs.Faults.{JobBreaks, JobReads}
 use Rattle.job_files.proofs.Exact.{stands}
 use Rattle.tool_run.specs.Runs.{JobEnds, JobEndsOnly}

@@ -14,7 +14,7 @@ use Rattle.batch_walk.specs.Walked.{IsWalked, told_text}
 use Rattle.tool_words.specs.Requests.{Names}
 use Rattle.tool_words.specs.declared.status.Status.{Status}
 use Rattle.tool_words.specs.Ends.{status_after}
-use Rattle.input_files.specs.Holdings.{HasBatch, HasCapture}
+use Rattle.job_files.specs.OfInputs.Holdings.{HasBatch, HasCapture}
 use Rattle.tool_run.specs.Holdings.{Gives}
 use Rattle.tool_run.specs.Delivered.{WalkedSoFar}
 

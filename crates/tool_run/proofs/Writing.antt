@@ -13,7 +13,7 @@ use Rattle.tool_words.specs.declared.status.Status.TheVariants as statuses
 use Rattle.tool_words.specs.Command.{Request, Show}
 use Rattle.tool_words.specs.Ends.{status_of, status_after}
 use Rattle.batch_run.specs.declared.limit.TheConstants.{COMMANDS_MAX}
-use Rattle.input_files.specs.Holdings.{Holds}
+use Rattle.job_files.specs.OfInputs.Holdings.{Holds}
 use Rattle.tool_run.specs.Holdings.{Gives}
 use Rattle.tool_run.specs.Parts.{DeliveryFails}
 use Rattle.tool_words.specs.Requests.{Names, walk_of}

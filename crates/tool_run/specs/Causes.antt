@@ -4,7 +4,7 @@ use Rattle.tc_base.specs.Outside.{Held, Rose}
 use Rattle.tool_words.specs.declared.status.Status.{Status}
 use Rattle.tool_words.specs.declared.status.Status.TheVariants as statuses
 use Rattle.tool_words.specs.Command.{Request, request_of}
-use Rattle.input_files.specs.Failures.{ReadFails}
+use Rattle.job_files.specs.OfInputs.Failures.{ReadFails}
 use Rattle.tool_run.specs.Work.{Ends, EndsOnly, Breaks, IsRead}
 
 -- a put or a write failed

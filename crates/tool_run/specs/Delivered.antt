@@ -3,8 +3,8 @@ use Rattle.std.specs.Prelude.{◌≡◌, ◌⊎◌, ℕ, List, Option, Some, Non
 use Rattle.tc_base.specs.Outside.{Held, Appended, AppendsUpTo, OthersStay, Stands}
 use Rattle.tc_base.specs.declared.hook.Hook.{Hook}
 use Rattle.batch_run.specs.Runs.{Ran}
-use Rattle.batch_show.specs.Shown.{shown}
-use Rattle.gen_run.specs.Generated.{IsRunOf, made_files, made_text}
+use Rattle.tc_report.specs.OfShownBatches.Shown.{shown}
+use Rattle.tool_run.specs.OfGenerated.Generated.{IsRunOf, made_files, made_text}
 use Rattle.tool_words.specs.declared.status.Status.{Status}
 use Rattle.tool_words.specs.declared.status.Status.TheVariants as statuses
 use Rattle.tool_words.specs.Command.{Request, Walk, Show, Run, Recheck, Gen}

@@ -12,7 +12,7 @@ use Rattle.batch_walk.specs.Walked.{walk_text}
 use Rattle.tool_words.specs.declared.status.Status.{Status}
 use Rattle.tool_words.specs.Requests.{Names}
 use Rattle.walk_ends.specs.declared.limits.TheConstants.{PACKETS_MAX}
-use Rattle.input_files.specs.Holdings.{HasBatch, HasCapture}
+use Rattle.job_files.specs.OfInputs.Holdings.{HasBatch, HasCapture}
 use Rattle.tool_words.specs.Ends.{status_after}
 use Rattle.capture_walk.specs.Captures.{output_of}
 

@@ -12,3 +12,4 @@ pub mod Rechecks
 pub mod Runs
 pub mod Work
 pub mod Workloads
+pub mod OfGenerated

@@ -1,8 +1,8 @@
 -- Files that are put one after the other.
 use Rattle.std.specs.Prelude.{◌≡◌, ◌≢◌, ℕ, ◌+◌, List, [], ◌∷◌, take, Option, Some, None}
 use Rattle.tc_base.specs.Outside.{Held, Stands}
-use Rattle.gen_run.specs.declared.workload.Generated.{Generated}
-use Rattle.gen_run.specs.Generated.{MadeFile, files_of}
+use Rattle.tool_run.specs.declared.generated.workload.Generated.{Generated}
+use Rattle.tool_run.specs.OfGenerated.Generated.{MadeFile, files_of}
 
 -- each of the files stands, where the shelf tells what it holds
 abbrev pub AllStand : Option Held → List MadeFile → Type 0

@@ -6,7 +6,7 @@ use Rattle.tc_base.specs.Outside.{Held}
 use Rattle.pcap_io.specs.declared.capture.Capture.{Capture}
 use Rattle.lawful_runs.specs.declared.loaded.LoadedJob.{LoadedJob}
 use Rattle.tool_words.specs.Command.{Request, Walk, Show, Run, Recheck, Gen}
-use Rattle.input_files.specs.Holdings.{Holds, HasBatch, HasCapture}
+use Rattle.job_files.specs.OfInputs.Holdings.{Holds, HasBatch, HasCapture}
 use Rattle.job_files.specs.Holdings.{HasJob}
 
 -- the shelf tells what it holds, and the batch stands

@@ -5,8 +5,8 @@ use Rattle.walk_texts.specs.Texts.{counted}
 use Rattle.lawful_runs.specs.declared.loaded.LoadedJob.{LoadedJob}
 use Rattle.tool_words.specs.declared.status.Status.{Status}
 use Rattle.tool_words.specs.declared.status.Status.TheVariants as statuses
-use Rattle.input_files.specs.Holdings.{Holds}
-use Rattle.input_files.specs.Failures.{ReadFails}
+use Rattle.job_files.specs.OfInputs.Holdings.{Holds}
+use Rattle.job_files.specs.OfInputs.Failures.{ReadFails}
 use Rattle.job_files.specs.Holdings.{HasJob}
 use Rattle.job_files.specs.Faults.{JobBreaks, JobReads}
 use Rattle.report_check.specs.declared.check.Check.{Check}

@@ -9,10 +9,10 @@ use Rattle.batch_run.specs.Runs.{Ran}
 use Rattle.tool_words.specs.declared.status.InputKind.{InputKind}
 use Rattle.tool_words.specs.declared.status.InputKind.TheVariants as kinds
 use Rattle.tool_words.specs.declared.status.Status.{Status}
-use Rattle.gen_run.specs.Generated.{IsRunOf}
+use Rattle.tool_run.specs.OfGenerated.Generated.{IsRunOf}
 use Rattle.tool_words.specs.Command.{Request, Walk, Show, Run, Recheck, Gen}
 use Rattle.tool_words.specs.Ends.{status_after}
-use Rattle.input_files.specs.Holdings.{HasTooManyLines, HasCapture, HasBreak}
+use Rattle.job_files.specs.OfInputs.Holdings.{HasTooManyLines, HasCapture, HasBreak}
 use Rattle.job_files.specs.Faults.{JobBreaks, JobReads}
 use Rattle.report_check.specs.declared.check.Check.{Check}
 use Rattle.tool_run.specs.Holdings.{HasRun, HasCommands}

@@ -7,7 +7,7 @@ use Rattle.job_lines.specs.declared.job.Round.{Round}
 use Rattle.job_lines.specs.declared.job.Job.{Job}
 use Rattle.lawful_runs.specs.declared.loaded.LoadedJob.{LoadedJob}
 use Rattle.gen_files.specs.Generated.{batch_text}
-use Rattle.gen_run.specs.Generated.{capture_of}
+use Rattle.tool_run.specs.OfGenerated.Generated.{capture_of}
 
 -- ---- the job, under names before which no front stands: what a run comes to depends on no name
 abbrev pub batch_name : BatchName

@@ -5,7 +5,7 @@ ghost use Rattle.batch_run.specs.declared.limit.TheConstants.{COMMANDS_MAX};
 ghost use Rattle.tool_run.specs.Parts.{ApplyingFails};
 
 use batch_run::line_past_limit;
-use input_files::bad_input;
+use job_files::inputs::bad_input;
 use std::alloc::Global;
 use tc_words::lines;
 use tool_words::{InputKind, Status};

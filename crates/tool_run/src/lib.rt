@@ -4,12 +4,12 @@
 //! seven words that `specs/Promises.antt` says: each status has its cause, nothing is written where the input
 //! is at fault, and the bytes put and written are those that the definitions give.
 //!
-//! Each command has a module of its own, which reads its files in their order (`input_files`), where the
-//! first fault ends it; `run_show`, `run_walk` and `run_recheck` work out all that one command asks for, then
-//! put, then write; `text` writes line by line, so that a text of a million lines is never held, and
-//! `packet_line` makes each packet's line of the one before, whose number is counted up where it stands. What
-//! is put and written comes from `batch_show`, `batch_walk`, `report_check` and `gen_run`. A walk's output is
-//! put in pieces of its input, which therefore lives until then.
+//! Each command has a module of its own, which reads its files in their order (`inputs` of `job_files`),
+//! where the first fault ends it; `run_show`, `run_walk` and `run_recheck` work out all that one command asks
+//! for, then put, then write; `text` writes line by line, so that a text of a million lines is never held,
+//! and `packet_line` makes each packet's line of the one before, whose number is counted up where it stands.
+//! What is put and written comes from `shown_batches` of `tc_report`, `batch_walk`, `report_check` and
+//! `generated`. A walk's output is put in pieces of its input, which therefore lives until then.
 //!
 //! The run of a job needs threads, and so `run` and `gen` stand in the program, beside this: `obey` asks that
 //! the words are neither's. What they promise is said here all the same (`specs/Runs.antt`,
@@ -25,6 +25,7 @@
 //! that memory suffices, and what a shelf or a sink holds that doesn't tell it.
 #![tactic(auto)]
 
+pub mod generated;
 mod input;
 mod outputs;
 mod packet_line;

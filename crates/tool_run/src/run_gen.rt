@@ -4,7 +4,7 @@ ghost use Rattle.std.specs.Prelude.{◌≡◌, ◌⊎◌, ◌≤◌, ◌++◌, s
 ghost use Rattle.batch_run.specs.Runs.{Ran};
 ghost use Rattle.lawful_runs.specs.Given.{IsLoaded};
 ghost use Rattle.lawful_runs.specs.Lawful.{IsLawfulRun};
-ghost use Rattle.gen_run.specs.Generated.{IsRunOf, IsGenerated};
+ghost use Rattle.tool_run.specs.OfGenerated.Generated.{IsRunOf, IsGenerated};
 ghost use Rattle.tool_run.specs.Workloads.{workload_of};
 ghost use Rattle.tc_base.specs.Outside.{Appended, AppendsUpTo, OthersStay, Stands};
 ghost use Rattle.tool_words.specs.Command.{Gen};
@@ -14,11 +14,11 @@ ghost use Rattle.tool_run.specs.Made.{AllStand, AllElseStay, PutUpTo, files_in};
 ghost use Rattle.tool_run.specs.Parts.{PutFails, DeliveryFails};
 ghost use Rattle.tool_run.specs.Delivered.{Made, LeavesAllUnlessRun, MadeSoFar};
 
+use crate::generated::Generated;
 use crate::outputs::passed_of;
 use crate::text::write_text;
 use crate::workloads::closing_text;
 use gen_files::{gen_batch, gen_job};
-use gen_run::Generated;
 use lawful_runs::LoadedJob;
 use pcap_io::write;
 use run_report::{RunRecord, summary_of};

@@ -7,7 +7,7 @@ ghost use Rattle.tool_run.specs.Delivered.{Rechecked, LeavesAllUnlessRun, CameSo
 ghost use Rattle.tool_run.specs.Rechecks.{Judges, JudgingFails, status_of_check, check_text};
 
 use crate::text::write_text;
-use input_files::load;
+use job_files::inputs::load;
 use job_files::load_job;
 use report_check::{Check, recheck};
 use std::alloc::{AllocError, Global};

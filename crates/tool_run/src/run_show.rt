@@ -3,7 +3,7 @@ ghost use Rattle.std.specs.Prelude.{◌≡◌, ◌≤◌, length, is_some, IfOk,
 ghost use Rattle.filter_state.specs.States.{no_state};
 ghost use Rattle.batch_run.specs.Commands.{commands_of};
 ghost use Rattle.batch_run.specs.Runs.{Ran, IsRun};
-ghost use Rattle.batch_show.specs.Shown.{shown};
+ghost use Rattle.tc_report.specs.OfShownBatches.Shown.{shown};
 ghost use Rattle.tool_words.specs.Command.{Show};
 ghost use Rattle.tool_words.specs.Ends.{status_after, IsAllDone};
 ghost use Rattle.tool_run.specs.Causes.{CausedTo};
@@ -13,10 +13,10 @@ ghost use Rattle.tool_run.specs.Delivered.{Showed, LeavesAllUnlessRun, CameSoFar
 
 use crate::input::batch_lines;
 use crate::text::write_text;
-use batch_show::{Shown, show_batch};
-use input_files::load;
+use job_files::inputs::load;
 use std::alloc::Global;
 use tc_base::{Shelf, Sink};
+use tc_report::shown_batches::{Shown, show_batch};
 use tool_words::Status;
 
 // Applies the bytes of the batch that the name stands for, unless they have too many commands.

@@ -12,7 +12,7 @@ ghost use Rattle.tool_run.specs.Delivered.{Walked, LeavesAllUnlessRun, WalkedSoF
 use crate::input::batch_lines;
 use crate::text::write_walk;
 use batch_walk::{BatchWalk, walk_batch};
-use input_files::{load, load_capture};
+use job_files::inputs::{load, load_capture};
 use std::alloc::Global;
 use tc_base::{Hook, Shelf, Sink};
 use tool_words::{Status, WalkNames};

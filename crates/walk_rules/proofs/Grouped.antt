@@ -10,9 +10,9 @@ use Rattle.filter_state.specs.States.{Row}
 use Rattle.filter_state.specs.Tables.{hook_eq}
 use Rattle.filter_state.specs.Sound.{Each, EachPair, GoTogether}
 use Rattle.filter_state.proofs.Pairs.{each_weaker}
-use Rattle.row_order_laws.specs.Sorted.{InOrder}
-use Rattle.row_order_laws.specs.Rows.{hook_before, row_before}
-use Rattle.row_order_laws.proofs.Orders.{by_number}
+use Rattle.row_laws.specs.OfOrder.Sorted.{InOrder}
+use Rattle.row_laws.specs.OfOrder.Rows.{hook_before, row_before}
+use Rattle.row_laws.proofs.OfOrder.Orders.{by_number}
 use Rattle.walk_rules.specs.Questions.{Head}
 use Rattle.walk_rules.specs.Heads.{head_with, in_front, with_row, heads_in}
 use Rattle.walk_rules.proofs.Listed.{any_has, each_both}

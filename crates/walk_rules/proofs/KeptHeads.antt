@@ -10,10 +10,10 @@ use Rattle.filter_state.specs.Tables.{hook_eq, in_hook}
 use Rattle.filter_state.specs.Order.{of_mask}
 use Rattle.filter_state.specs.Sound.{Sound, Each, GoTogether}
 use Rattle.filter_state.proofs.Pairs.{each_weaker, each_of, pairs_all, pairs_weaker}
-use Rattle.row_order_laws.specs.Sorted.{sorted}
-use Rattle.row_order_laws.specs.Rows.{row_before}
-use Rattle.row_order_laws.proofs.Sorting.{sorted_in_order}
-use Rattle.row_order_laws.proofs.Orders.{row_order}
+use Rattle.row_laws.specs.OfOrder.Sorted.{sorted}
+use Rattle.row_laws.specs.OfOrder.Rows.{row_before}
+use Rattle.row_laws.proofs.OfOrder.Sorting.{sorted_in_order}
+use Rattle.row_laws.proofs.OfOrder.Orders.{row_order}
 use Rattle.walk_rules.specs.Questions.{Head}
 use Rattle.walk_rules.specs.Heads.{heads_on}
 use Rattle.walk_rules.proofs.Listed.{kept_have, unkept, any_has, sorted_have, unsorted, each_both, pairs_of_all}

@@ -7,3 +7,4 @@ pub mod Grouped
 pub mod KeptHeads
 pub mod Stilled
 pub mod OtherOrder
+pub mod OfPoints

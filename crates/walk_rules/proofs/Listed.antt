@@ -6,8 +6,8 @@ use Rattle.std.proofs.lemmas.List.Sums.{sum_by-cons}
 use Rattle.filter_state.specs.Tables.{first_where}
 use Rattle.filter_state.specs.Sound.{Each, EachPair}
 use Rattle.filter_state.proofs.Pairs.{each_weaker}
-use Rattle.row_order_laws.specs.Sorted.{placed, sorted}
-use Rattle.row_order_laws.proofs.Sorting.{each_placed}
+use Rattle.row_laws.specs.OfOrder.Sorted.{placed, sorted}
+use Rattle.row_laws.proofs.OfOrder.Sorting.{each_placed}
 
 -- ---- the first that passes
 first_at : {X : Type 0} (P : X → Type 0) (b : Bool) (x : X) (o : Option X) → (b ≡ true → P x) → IfSome o P → IfSome (cond b (Some x) o) P

@@ -9,9 +9,9 @@ use Rattle.filter_state.specs.Actions.{has_serial}
 use Rattle.filter_state.specs.Tables.{first_where, in_hook}
 use Rattle.filter_state.specs.Order.{SameRows, SameState, of_mask}
 use Rattle.filter_state.specs.Sound.{Sound}
-use Rattle.order_laws.proofs.Same.{any_same, filter_same, order_same}
-use Rattle.order_laws.proofs.Soundness.{sound_same}
-use Rattle.row_order_laws.proofs.OrderedRows.{sorted_same}
+use Rattle.state_laws.proofs.OfOrder.Same.{any_same, filter_same, order_same}
+use Rattle.state_laws.proofs.OfOrder.Soundness.{sound_same}
+use Rattle.row_laws.proofs.OfOrder.OrderedRows.{sorted_same}
 use Rattle.walk_rules.specs.Questions.{Question, heads_of, filter_of, params_of, told_heads}
 use Rattle.walk_rules.specs.Heads.{heads_in}
 use Rattle.walk_rules.specs.Answers.{meets, actions_or_none, filter_answer, params_answer, answer_of}

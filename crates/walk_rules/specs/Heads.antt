@@ -3,8 +3,8 @@ use Rattle.std.specs.Prelude.{ℕ, ◌==◌, List, [], ◌∷◌, filter, if◌t
 use Rattle.tc_base.specs.declared.hook.Hook.{Hook}
 use Rattle.filter_state.specs.States.{Row, State}
 use Rattle.filter_state.specs.Tables.{in_hook}
-use Rattle.row_order_laws.specs.Sorted.{sorted}
-use Rattle.row_order_laws.specs.Rows.{row_before}
+use Rattle.row_laws.specs.OfOrder.Sorted.{sorted}
+use Rattle.row_laws.specs.OfOrder.Rows.{row_before}
 use Rattle.walk_rules.specs.Questions.{Head}
 
 -- the table of one row, with that row's mask

@@ -4,3 +4,4 @@ pub mod Answers
 pub mod Steps
 pub mod Walks
 pub mod Plain
+pub mod OfPoints

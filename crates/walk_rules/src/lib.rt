@@ -11,6 +11,9 @@
 //! visits together. `specs/Plain.antt` says what a packet meets in one state, from the state's rows, without
 //! visits. `one_state` is the law between the two: over one state, they are the same.
 //!
+//! While a hook is edited, each visit is answered at a point of the journal. `points` says which ones a walk
+//! may have.
+//!
 //! Masks are tried by age and not by how much of a key they fix: the head tells them so, a new mask changes
 //! nothing for packets that an older one serves, and no order has to be kept while masks come and go.
 //!
@@ -22,6 +25,7 @@
 
 mod laws;
 mod limits;
+pub mod points;
 mod verdict;
 
 pub use laws::{one_state, one_walk, order_is_free};

@@ -13,17 +13,17 @@ use Rattle.filter_state.specs.declared.edit.Edit.{Edit}
 use Rattle.filter_state.proofs.Pairs.{each_weaker}
 use Rattle.pcap_io.specs.declared.capture.Packet.{Packet}
 use Rattle.pcap_io.specs.Captures.{AreShort}
-use Rattle.walk_points.proofs.Pushing.{at_push}
+use Rattle.walk_rules.proofs.OfPoints.Pushing.{at_push}
 use Rattle.walk_steps.specs.Walking.{Walking}
 use Rattle.lawful_runs.specs.Given.{Arrival}
 use Rattle.lawful_runs.specs.Outcomes.{IsWalked}
 use Rattle.lawful_runs.specs.OfLogs.Logs.{LogRow, ArePointsTo, IsRowAt}
 use Rattle.hook_reader.specs.Seats.{HookSeat}
-use Rattle.worker_walk.specs.Walked.{journal_of, IsWalkedBy}
-use Rattle.worker_walk.proofs.Reading.{edits_prefix}
+use Rattle.worker_rounds.specs.OfWalks.Walked.{journal_of, IsWalkedBy}
+use Rattle.worker_rounds.proofs.OfWalks.Reading.{edits_prefix}
 use Rattle.step_counts.specs.Drawn.{IsDrawnTo}
 use Rattle.step_counts.specs.Seats.{Holding, with_deed}
-use Rattle.walk_logs.specs.Rows.{numbers_of, AreBelow}
+use Rattle.worker_rounds.specs.OfLogs.Rows.{numbers_of, AreBelow}
 use Rattle.worker_rounds.specs.Worked.{arrivals_of, visits_after, HasDrawn, IsWorked}
 
 -- ---- packets

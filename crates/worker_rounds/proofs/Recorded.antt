@@ -9,12 +9,12 @@ use Rattle.walk_rules.specs.Steps.{Execution, Place, at_head, at_mask, at_action
 use Rattle.walk_rules.specs.Walks.{Outcome as WalkOutcome, IsWalk, outcome_with, outcome_at, outcome_of}
 use Rattle.walk_steps.specs.Told.{execution}
 use Rattle.walk_steps.specs.Walking.{Walking}
-use Rattle.walk_points.specs.Points.{IsVisited}
+use Rattle.walk_rules.specs.OfPoints.Points.{IsVisited}
 use Rattle.run_report.specs.declared.outcomes.Outcome.{Outcome}
 use Rattle.hook_reader.specs.Seats.{HookSeat}
 use Rattle.lawful_runs.specs.Given.{Arrival}
 use Rattle.lawful_runs.specs.Outcomes.{IsRecordOf, IsWalked}
-use Rattle.worker_walk.specs.Walked.{journal_of, IsWalkedBy}
+use Rattle.worker_rounds.specs.OfWalks.Walked.{journal_of, IsWalkedBy}
 
 -- ---- how a walk ended
 by_visits : (b : Bool) (st : Standing) (o : WalkOutcome) → cond b (Some (outcome_with verdicts.Drop st)) None ≡ Some o → (o.frame ≡ st.frame) × (o.executed ≡ st.executed)

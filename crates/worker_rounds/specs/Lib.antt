@@ -1,1 +1,4 @@
 pub mod Worked
+pub mod OfWalks
+pub mod OfLogs
+pub mod OfPoints

@@ -9,7 +9,7 @@ use Rattle.hook_reader.specs.Seats.{HookSeat}
 use Rattle.lawful_runs.specs.Given.{Arrival}
 use Rattle.lawful_runs.specs.OfLogs.Logs.{LogRow, ArePointsTo, AreRows}
 use Rattle.step_counts.specs.Drawn.{Drawn, IsDrawnTo}
-use Rattle.worker_walk.specs.Walked.{journal_of}
+use Rattle.worker_rounds.specs.OfWalks.Walked.{journal_of}
 
 -- packets that come at a hook
 abbrev pub arrivals_of : Hook → List Packet → List Arrival

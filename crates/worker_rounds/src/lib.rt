@@ -3,8 +3,9 @@
 //! # One packet after the other
 //!
 //! The packets of a round are there for all its workers. Each worker draws a number, walks the packet of that
-//! number at its own reader of the hook (`worker_walk`), and keeps what came of it, until the numbers are
-//! past the packets (`work`). So a slow walk holds up nobody, and who walks which packet is left to chance.
+//! number at its own reader of the hook (`walks`, whose points keep the order that `points` shows), and keeps
+//! what came of it (`logs`), until the numbers are past the packets (`work`). So a slow walk holds up nobody,
+//! and who walks which packet is left to chance.
 //!
 //! # What is known of it
 //!
@@ -13,7 +14,7 @@
 //! seen (`IsWorked` in `specs/Worked.antt`). What the reader had seen at each walk begins what it has seen in
 //! the end. And all numbers that it drew are those of its rows, with a last one past the packets. What logs
 //! of several workers come to is said in `logs` of `lawful_runs`, and what their numbers come to by
-//! `each_number_once` of `step_counts`. `put_together` of `walk_logs` makes the round's outcomes of them.
+//! `each_number_once` of `step_counts`. `put_together` of `logs` makes the round's outcomes of them.
 //!
 //! # Who may call what
 //!
@@ -24,8 +25,11 @@
 //! Not promised: how many packets a worker draws, and that it sees an edit at any time.
 #![tactic(auto)]
 
+pub mod logs;
+pub mod points;
 mod recording;
 mod round_work;
+pub mod walks;
 mod worker;
 mod working;
 

@@ -5,17 +5,17 @@ ghost use Rattle.pcap_io.specs.Captures.{AreShort};
 ghost use Rattle.pin_store.specs.Calls.{IsOutside, IsSeatOf, pin_of};
 ghost use Rattle.block_chain.specs.Ways.{block_words};
 ghost use Rattle.hook_reader.specs.Seats.{HookSeat};
-ghost use Rattle.walk_logs.specs.Rows.{AreBelow, numbers_of};
+ghost use Rattle.worker_rounds.specs.OfLogs.Rows.{AreBelow, numbers_of};
 ghost use Rattle.worker_rounds.specs.Worked.{arrivals_of, HasDrawn, IsWorked};
 
+use crate::logs::WalkLog;
 use crate::recording::recorded;
 use crate::round_work::RoundWork;
+use crate::walks::{PacketName, walk_packet};
 use crate::worker::Worker;
 use std::alloc::Global;
 use step_counts::ClaimSeat;
 use tc_base::{Gate, NoMemory};
-use walk_logs::WalkLog;
-use worker_walk::{PacketName, walk_packet};
 
 // Walks the packet of a number, and keeps its row.
 fn work_one<G: Gate>(

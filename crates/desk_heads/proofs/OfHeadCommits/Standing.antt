@@ -11,8 +11,8 @@ use Rattle.filter_state.specs.Tables.{hook_eq, in_hook}
 use Rattle.filter_state.specs.Order.{of_mask}
 use Rattle.filter_state.specs.Sound.{Each, Sound}
 use Rattle.filter_state.proofs.Pairs.{each_weaker}
-use Rattle.row_order_laws.specs.Rows.{row_before}
-use Rattle.row_lookup_laws.proofs.Found.{item_each}
+use Rattle.row_laws.specs.OfOrder.Rows.{row_before}
+use Rattle.row_laws.proofs.OfLookups.Found.{item_each}
 use Rattle.hook_meaning.specs.OfEffects.Parts.{Stands, filter_of}
 use Rattle.walk_rules.specs.Questions.{Head}
 use Rattle.walk_rules.specs.Heads.{head_with, in_front, with_row, heads_in, heads_on}

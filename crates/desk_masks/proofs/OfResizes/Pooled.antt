@@ -34,7 +34,7 @@ use Rattle.hook_law.proofs.Whole.{whole_comes}
 use Rattle.hook_meaning.specs.Stated.{hook_meaning, filters_at}
 use Rattle.hook_meaning.specs.Blocks.{mask_record, hook_codec}
 use Rattle.hook_meaning.specs.Told.{with_slots}
-use Rattle.number_pools.specs.Numbers.{PoolNumbers}
+use Rattle.desk_pools.specs.OfNumbers.Numbers.{PoolNumbers}
 use Rattle.root_pool_laws.specs.Blocks.{IsBlockOf, HasBlock, IsLeft}
 use Rattle.root_pool_laws.specs.Pools.{IsPool}
 use Rattle.root_pool_laws.proofs.Apart.{in_append, in_left, in_right, distinct_append}

@@ -18,10 +18,10 @@ use Rattle.hook_lists.specs.declared.kept.Kept.{Kept}
 use Rattle.hook_lists.specs.States.{both_of, AreKept}
 use Rattle.hook_lists.proofs.Sought.{place_nowhere}
 use Rattle.filter_lists.specs.Spells.{Spells}
-use Rattle.order_laws.proofs.Same.{order_same}
-use Rattle.order_laws.proofs.First.{mask_same, some_mask_same, row_same}
-use Rattle.row_lookup_laws.proofs.Masks.{mask_found, mask_some, mask_missing}
-use Rattle.row_lookup_laws.proofs.Handles.{row_found, filter_missing, no_filter}
+use Rattle.state_laws.proofs.OfOrder.Same.{order_same}
+use Rattle.state_laws.proofs.OfOrder.First.{mask_same, some_mask_same, row_same}
+use Rattle.row_laws.proofs.OfLookups.Masks.{mask_found, mask_some, mask_missing}
+use Rattle.row_laws.proofs.OfLookups.Handles.{row_found, filter_missing, no_filter}
 use Rattle.head_laws.proofs.MaskRows.{mask_rows}
 use Rattle.hook_meaning.specs.OfEffects.Parts.{filter_of}
 use Rattle.hook_meaning.specs.Stated.{filter_stated, filters_at}

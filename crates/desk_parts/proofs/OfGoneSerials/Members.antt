@@ -8,7 +8,7 @@ use Rattle.filter_state.specs.Order.{SameRows, none, keep, exchange, joined}
 use Rattle.filter_state.specs.Sound.{Each, EachPair, GoTogether}
 use Rattle.filter_state.specs.Tables.{in_table, has_handle, first_where, filter_row}
 use Rattle.state_laws.proofs.Tests.{row_in_table}
-use Rattle.order_laws.proofs.Same.{filter_same, same_sym}
+use Rattle.state_laws.proofs.OfOrder.Same.{filter_same, same_sym}
 use Rattle.hook_law.specs.Standing.{IsIn}
 use Rattle.root_pool_laws.proofs.Apart.{in_append, in_left, in_right}
 use Rattle.desk_parts.specs.OfLineActions.Gone.{named_by}

@@ -10,7 +10,7 @@ use Rattle.filter_tables.specs.Plain.{PlainMask, PlainTable}
 use Rattle.filter_tables.specs.Places.{item_at}
 use Rattle.filter_tables.specs.Changes.{is_table}
 use Rattle.filter_tables.specs.Rows.{BothHooks, BothWhole, tables_on, row_of, rows_of_mask, all_rows}
-use Rattle.row_lookup_laws.proofs.Found.{rows_found, rows_missing}
+use Rattle.row_laws.proofs.OfLookups.Found.{rows_found, rows_missing}
 use Rattle.desk_parts.specs.OfGoneSerials.Same.{serials_in}
 use Rattle.desk_parts.proofs.OfGoneSerials.Members.{serials_of}
 

@@ -12,7 +12,7 @@ use Rattle.hook_law.specs.Meaning.{IsLive}
 use Rattle.hook_law.specs.Standing.{IsIn}
 use Rattle.hook_meaning.specs.Stated.{hook_meaning, action_stated, action_at}
 use Rattle.hook_store_law.specs.OfEdits.Premises.{now}
-use Rattle.number_pools.specs.Numbers.{PoolNumbers}
+use Rattle.desk_pools.specs.OfNumbers.Numbers.{PoolNumbers}
 use Rattle.root_pool_laws.specs.Blocks.{IsLeft}
 use Rattle.root_pool_laws.proofs.Apart.{in_right}
 use Rattle.desk_pools.specs.declared.pools.Pools.{Pools}

@@ -27,9 +27,9 @@ use Rattle.hook_store_law.specs.Kept.{KeepsHook, IsKeptAt}
 use Rattle.hook_store_law.specs.OfEdits.Premises.{now, next, IsAccepted}
 use Rattle.hook_store_law.proofs.OfEdits.Accepted.{sound, next_sound}
 use Rattle.hook_store_law.proofs.OfEdits.OfFilters.{new_ones_come}
-use Rattle.number_pools.specs.Numbers.{PoolNumbers}
+use Rattle.desk_pools.specs.OfNumbers.Numbers.{PoolNumbers}
 use Rattle.root_pool_laws.proofs.Apart.{in_left, in_right}
-use Rattle.action_roots.specs.Records.{action_commit}
+use Rattle.desk_actions.specs.OfRoots.Records.{action_commit}
 use Rattle.desk_pools.specs.declared.pools.Pools.{Pools}
 use Rattle.desk_pools.specs.Pools.{IsFreeAt, ArePools}
 use Rattle.desk_pools.specs.Steps.{IsInPool, IsTaken}

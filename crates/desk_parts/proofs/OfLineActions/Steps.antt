@@ -33,8 +33,8 @@ use Rattle.hook_meaning.specs.Stated.{ActionTerms, hook_meaning, action_at}
 use Rattle.hook_meaning.specs.Blocks.{action_record, hook_codec}
 use Rattle.hook_store_law.specs.Kept.{KeepsHook, IsKeptAt}
 use Rattle.hook_store_law.specs.OfEdits.Premises.{now, next}
-use Rattle.action_roots.specs.Records.{action_block, action_commit}
-use Rattle.action_roots.proofs.Storing.{action_reads}
+use Rattle.desk_actions.specs.OfRoots.Records.{action_block, action_commit}
+use Rattle.desk_actions.proofs.OfRoots.Storing.{action_reads}
 use Rattle.desk_pools.specs.declared.pools.Pools.{Pools}
 use Rattle.desk_pools.specs.Pools.{IsFreeAt, ArePools}
 use Rattle.desk_pools.specs.Steps.{IsInPool, IsTaken}

@@ -11,7 +11,7 @@ use Rattle.hook_law.specs.Standing.{Action as ActionRole, Stands}
 use Rattle.hook_meaning.specs.Stated.{hook_meaning}
 use Rattle.hook_meaning.specs.Blocks.{hook_codec}
 use Rattle.hook_store_law.specs.OfEdits.Premises.{now}
-use Rattle.number_pools.specs.Numbers.{PoolNumbers}
+use Rattle.desk_pools.specs.OfNumbers.Numbers.{PoolNumbers}
 use Rattle.root_pool_laws.specs.Pools.{IsPool}
 use Rattle.root_pool_laws.proofs.Giving.{pool_as}
 use Rattle.desk_pools.specs.Steps.{IsInPool}

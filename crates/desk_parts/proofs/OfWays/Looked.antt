@@ -42,7 +42,7 @@ use Rattle.hook_store_law.proofs.OfEdits.OneHandle.{only_filter, around}
 use Rattle.desk_masks.specs.OfFilterCommits.Edits.{HasLater}
 use Rattle.desk_masks.proofs.OfFilterCommits.Locating.{at_slot}
 use Rattle.desk_needs.specs.Live.{count_of}
-use Rattle.desk_need_laws.proofs.Counted.{counted}
+use Rattle.desk_needs.proofs.OfEditNeeds.Counted.{counted}
 use Rattle.desk_actions.specs.OfLedgers.Kept.{commits, base}
 use Rattle.desk_masks.specs.Masks.{HasMasks}
 use Rattle.desk_parts.specs.declared.finding.masks.FoundMask.{FoundMask}

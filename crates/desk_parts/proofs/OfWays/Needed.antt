@@ -12,7 +12,7 @@ use Rattle.filter_state.specs.States.{Row, State}
 use Rattle.filter_state.specs.Sound.{Sound, IsRow}
 use Rattle.filter_state.specs.Order.{of_mask}
 use Rattle.filter_state.proofs.Pairs.{each_weaker}
-use Rattle.row_lookup_laws.proofs.Heads.{filter_none}
+use Rattle.row_laws.proofs.OfLookups.Heads.{filter_none}
 use Rattle.filter_state.specs.Tables.{mask_row, mask_or_next}
 use Rattle.filter_state.specs.Steps.{step, pref_for, filter_add, add_at, add_resolved, filter_added, replace_or_add, resolved_for}
 use Rattle.filter_state.specs.Refusals.{no_hook}
@@ -24,11 +24,11 @@ use Rattle.hook_store_law.proofs.OfEdits.Accepted.{sound}
 use Rattle.desk_needs.specs.declared.needs.Needs.{Needs}
 use Rattle.desk_needs.specs.Live.{count_of}
 use Rattle.desk_needs.specs.Needs.{made, needs_of, nothing, later}
-use Rattle.desk_need_laws.specs.Told.{put_into, put_with, moved_to, blocks_anew, rows_anew}
-use Rattle.desk_need_laws.proofs.Added.{needs_into, needs_with}
-use Rattle.desk_need_laws.proofs.Moved.{needs_in_place, needs_of_key, needs_of_mask}
-use Rattle.desk_need_laws.proofs.Gone.{needs_gone}
-use Rattle.desk_need_laws.proofs.Behind.{later_is}
+use Rattle.desk_needs.specs.OfEditNeeds.Told.{put_into, put_with, moved_to, blocks_anew, rows_anew}
+use Rattle.desk_needs.proofs.OfEditNeeds.Added.{needs_into, needs_with}
+use Rattle.desk_needs.proofs.OfEditNeeds.Moved.{needs_in_place, needs_of_key, needs_of_mask}
+use Rattle.desk_needs.proofs.OfEditNeeds.Gone.{needs_gone}
+use Rattle.desk_needs.proofs.OfEditNeeds.Behind.{later_is}
 use Rattle.desk_parts.specs.declared.ways.way.Way.{Way}
 use Rattle.desk_parts.specs.declared.ways.way.Way.TheVariants as ways
 use Rattle.desk_parts.specs.OfWays.Ways.{IntoMask, WithMask, InPlace, OtherKey, OtherMask, OutOfMask, Closes, IsTarget, TakesMasks, IsWay, needs_by}

@@ -21,7 +21,7 @@ use Rattle.desk_masks.specs.OfFilterCommits.Edits.{HasLater}
 use Rattle.desk_needs.specs.declared.needs.Needs.{Needs}
 use Rattle.desk_needs.specs.Live.{count_of}
 use Rattle.desk_needs.specs.Needs.{nothing}
-use Rattle.desk_need_laws.specs.Told.{blocks_anew, rows_anew, put_into, put_with, moved_to}
+use Rattle.desk_needs.specs.OfEditNeeds.Told.{blocks_anew, rows_anew, put_into, put_with, moved_to}
 use Rattle.desk_parts.specs.declared.ways.seeking.Seen.{Seen}
 use Rattle.desk_parts.specs.declared.ways.way.Way.{Way}
 use Rattle.desk_parts.specs.declared.ways.way.Way.TheVariants as ways

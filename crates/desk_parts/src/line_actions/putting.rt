@@ -20,9 +20,9 @@ ghost use Rattle.desk_actions.specs.Places.{AreHere, AreHereFor, slot_of};
 ghost use Rattle.desk_actions.specs.Effects.{IsCounted, KeepsBlocks};
 ghost use Rattle.desk_parts.specs.OfLineActions.Put.{IsOfLine, ArePut, IsPlaced};
 
-use action_roots::put_action;
 use block_codec::StoredAction;
 use desk_actions::ActionPlaces;
+use desk_actions::roots::put_action;
 use desk_pools::Pools;
 use filter_lists::{Edit, Lists};
 use hook_store_law::{HookLaw, HookStore};

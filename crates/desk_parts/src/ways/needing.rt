@@ -3,7 +3,7 @@ ghost use Rattle.std.specs.Prelude.{◌≡◌, ◌≤◌, ◌+◌, ◌/◌};
 ghost use Rattle.flow_mask.specs.Sizes.{size_of};
 ghost use Rattle.filter_state.specs.declared.limits.TheConstants.{FILTERS_MAX, LINE_ACTIONS_MAX};
 ghost use Rattle.block_codec.specs.declared.places.TheConstants.{ROW_BUCKETS};
-ghost use Rattle.desk_need_laws.specs.Told.{blocks_anew, rows_anew, laid, laid_rows, laid_masks, moved_to};
+ghost use Rattle.desk_needs.specs.OfEditNeeds.Told.{blocks_anew, rows_anew, laid, laid_rows, laid_masks, moved_to};
 ghost use Rattle.desk_parts.specs.OfWays.Ways.{AreFew, needs_by};
 
 use crate::ways::way::Way;

@@ -14,12 +14,12 @@ use Rattle.filter_tables.specs.Places.{item_at, place_where}
 use Rattle.filter_tables.specs.Changes.{count_of, has_handle_in, is_table}
 use Rattle.filter_tables.specs.Room.{TableRoom}
 use Rattle.filter_tables.specs.Rows.{tables_on, row_of, rows_of_mask, all_rows}
-use Rattle.row_lookup_laws.proofs.Placed.{place_any}
+use Rattle.row_laws.proofs.OfLookups.Placed.{place_any}
 use Rattle.filter_state.proofs.Free.{length_filter_le}
-use Rattle.row_lookup_laws.proofs.Found.{rows_found, rows_any}
-use Rattle.row_lookup_laws.proofs.Tables.{count_found}
-use Rattle.row_lookup_laws.proofs.Lowest.{lowest_found}
-use Rattle.row_lookup_laws.proofs.Handles.{handle_found, handle_missing}
+use Rattle.row_laws.proofs.OfLookups.Found.{rows_found, rows_any}
+use Rattle.row_laws.proofs.OfLookups.Tables.{count_found}
+use Rattle.row_laws.proofs.OfLookups.Lowest.{lowest_found}
+use Rattle.row_laws.proofs.OfLookups.Handles.{handle_found, handle_missing}
 use Rattle.hook_lists.specs.declared.kept.Kept.{Kept}
 use Rattle.hook_lists.specs.States.{both_of, room_on, state_of, AreKept}
 use Rattle.hook_lists.proofs.Sought.{place_nowhere, its_names}

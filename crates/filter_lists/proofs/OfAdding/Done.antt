@@ -5,7 +5,7 @@ use Rattle.filter_state.specs.Actions.{Made}
 use Rattle.filter_state.specs.Order.{SameRows}
 use Rattle.filter_state.specs.Steps.{raised}
 use Rattle.filter_tables.specs.Rows.{BothHooks, BothWhole, on_hook, all_rows}
-use Rattle.order_laws.proofs.Same.{length_same}
+use Rattle.state_laws.proofs.OfOrder.Same.{length_same}
 use Rattle.action_plan.specs.Plans.{made_of, carried}
 use Rattle.hook_lists.specs.declared.kept.Kept.{Kept}
 use Rattle.hook_lists.specs.States.{both_of, state_of, AreKept}

@@ -7,9 +7,9 @@ use Rattle.filter_state.specs.States.{Row}
 use Rattle.filter_state.specs.Tables.{table_row, mask_row, table_or_next, mask_or_next, free_handle}
 use Rattle.filter_state.specs.Steps.{handle_for, row_of}
 use Rattle.filter_tables.specs.Rows.{all_rows}
-use Rattle.row_lookup_laws.proofs.Tables.{serial_found, row_missing}
-use Rattle.row_lookup_laws.proofs.Masks.{mask_found, mask_some, mask_missing}
-use Rattle.row_lookup_laws.proofs.FreeHandle.{free_found, free_first}
+use Rattle.row_laws.proofs.OfLookups.Tables.{serial_found, row_missing}
+use Rattle.row_laws.proofs.OfLookups.Masks.{mask_found, mask_some, mask_missing}
+use Rattle.row_laws.proofs.OfLookups.FreeHandle.{free_found, free_first}
 use Rattle.hook_lists.specs.declared.kept.Kept.{Kept}
 use Rattle.hook_lists.specs.States.{both_of, room_on, state_of}
 use Rattle.filter_lists.specs.declared.adding.arrival.Arrival.{Arrival}

@@ -23,8 +23,8 @@ use Rattle.filter_tables.specs.Changes.{any_handle, has_handle_in, has_key_in, h
 use Rattle.filter_tables.specs.Room.{TableRoom, masks_spare, filters_spare}
 use Rattle.filter_tables.specs.Rows.{tables_on}
 use Rattle.filter_tables.proofs.Swept.{found_any}
-use Rattle.row_lookup_laws.specs.Asked.{unless_left_out}
-use Rattle.row_lookup_laws.proofs.Placed.{place_any}
+use Rattle.row_laws.specs.OfLookups.Asked.{unless_left_out}
+use Rattle.row_laws.proofs.OfLookups.Placed.{place_any}
 use Rattle.hook_lists.specs.declared.kept.Kept.{Kept}
 use Rattle.hook_lists.specs.States.{both_of, room_on, state_of, AreKept}
 use Rattle.hook_lists.proofs.Sought.{place_passes, its_names}

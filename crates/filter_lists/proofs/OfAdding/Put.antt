@@ -11,13 +11,13 @@ use Rattle.filter_tables.specs.Changes.{new_mask}
 use Rattle.filter_tables.specs.Whole.{HasSome, IsFull}
 use Rattle.filter_tables.specs.Rows.{BothWhole, tables_on, on_hook, row_of, rows_of_mask, rows_of_table, all_rows}
 use Rattle.filter_state.proofs.Pairs.{each_weaker, each_filter, each_front, each_back}
-use Rattle.row_lookup_laws.proofs.Blocks.{each_map, some_map}
-use Rattle.row_lookup_laws.proofs.Found.{rows_found, table_each, some_rows, item_each}
-use Rattle.row_lookup_laws.proofs.Tables.{full_at}
-use Rattle.row_change_laws.proofs.Put.{put_rows}
-use Rattle.row_change_laws.proofs.Whole.{put_whole}
-use Rattle.row_change_laws.proofs.MaskPut.{mask_put_rows, new_mask_whole}
-use Rattle.row_change_laws.proofs.TablePut.{table_put_rows, table_put_whole}
+use Rattle.row_laws.proofs.OfLookups.Blocks.{each_map, some_map}
+use Rattle.row_laws.proofs.OfLookups.Found.{rows_found, table_each, some_rows, item_each}
+use Rattle.row_laws.proofs.OfLookups.Tables.{full_at}
+use Rattle.row_laws.proofs.OfChanges.Put.{put_rows}
+use Rattle.row_laws.proofs.OfChanges.Whole.{put_whole}
+use Rattle.row_laws.proofs.OfChanges.MaskPut.{mask_put_rows, new_mask_whole}
+use Rattle.row_laws.proofs.OfChanges.TablePut.{table_put_rows, table_put_whole}
 use Rattle.hook_lists.specs.declared.kept.Kept.{Kept}
 use Rattle.hook_lists.specs.States.{both_of, state_of, AreKept}
 use Rattle.filter_lists.specs.declared.adding.arrival.Arrival.{Arrival}

@@ -8,8 +8,8 @@ use Rattle.filter_state.specs.Actions.{all_unbound}
 use Rattle.filter_state.specs.Steps.{taken_out}
 use Rattle.filter_state.specs.Order.{SameRows}
 use Rattle.filter_tables.specs.Rows.{BothHooks, all_rows, BothWhole}
-use Rattle.order_laws.proofs.Same.{same_refl}
-use Rattle.row_change_laws.proofs.Filters.{split_count}
+use Rattle.state_laws.proofs.OfOrder.Same.{same_refl}
+use Rattle.row_laws.proofs.OfChanges.Filters.{split_count}
 use Rattle.action_plan.specs.Bound.{AreBound}
 use Rattle.action_plan.specs.Entries.{actions_of}
 use Rattle.hook_lists.specs.declared.kept.Kept.{Kept}

@@ -12,8 +12,8 @@ use Rattle.filter_tables.specs.Places.{item_at}
 use Rattle.filter_tables.specs.Changes.{has_handle_in, removed}
 use Rattle.filter_tables.specs.Rows.{BothHooks, tables_on, on_hook}
 use Rattle.filter_tables.proofs.Moves.{item_there}
-use Rattle.row_change_laws.proofs.FilterTaken.{filter_rows_taken, filter_rows_gone}
-use Rattle.row_change_laws.proofs.Sweeping.{removed_whole}
+use Rattle.row_laws.proofs.OfChanges.FilterTaken.{filter_rows_taken, filter_rows_gone}
+use Rattle.row_laws.proofs.OfChanges.Sweeping.{removed_whole}
 use Rattle.hook_lists.specs.declared.kept.Kept.{Kept}
 use Rattle.hook_lists.specs.States.{both_of, AreKept}
 use Rattle.hook_lists.proofs.Sought.{place_within}

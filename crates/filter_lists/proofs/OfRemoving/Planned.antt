@@ -14,9 +14,9 @@ use Rattle.filter_tables.specs.Plain.{PlainTable}
 use Rattle.filter_tables.specs.Places.{item_at, place_where}
 use Rattle.filter_tables.specs.Changes.{has_handle_in, any_handle, is_table}
 use Rattle.filter_tables.specs.Rows.{tables_on, all_rows}
-use Rattle.row_lookup_laws.proofs.Found.{rows_any}
-use Rattle.row_lookup_laws.proofs.Handles.{handle_found}
-use Rattle.row_lookup_laws.proofs.Placed.{place_any}
+use Rattle.row_laws.proofs.OfLookups.Found.{rows_any}
+use Rattle.row_laws.proofs.OfLookups.Handles.{handle_found}
+use Rattle.row_laws.proofs.OfLookups.Placed.{place_any}
 use Rattle.hook_lists.specs.declared.kept.Kept.{Kept}
 use Rattle.hook_lists.specs.States.{both_of, state_of, AreKept}
 use Rattle.hook_lists.proofs.Sought.{its_names}

@@ -11,8 +11,8 @@ use Rattle.filter_index.specs.declared.filter.Filter.{Filter}
 use Rattle.filter_tables.specs.Plain.{PlainMask, PlainTable}
 use Rattle.filter_tables.specs.Places.{item_at, without_at}
 use Rattle.filter_tables.specs.Rows.{BothHooks, tables_on, on_hook, row_of, rows_of_mask}
-use Rattle.row_change_laws.proofs.TableTaken.{table_rows_taken, table_rows_gone}
-use Rattle.row_change_laws.proofs.Whole.{table_whole}
+use Rattle.row_laws.proofs.OfChanges.TableTaken.{table_rows_taken, table_rows_gone}
+use Rattle.row_laws.proofs.OfChanges.Whole.{table_whole}
 use Rattle.hook_lists.specs.declared.kept.Kept.{Kept}
 use Rattle.hook_lists.specs.States.{both_of, AreKept}
 use Rattle.filter_lists.specs.declared.removing.removal.Removal.TheVariants as removals

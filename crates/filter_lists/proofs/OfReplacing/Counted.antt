@@ -15,12 +15,12 @@ use Rattle.filter_tables.specs.Places.{item_at}
 use Rattle.filter_tables.specs.Whole.{HasSome, IsFull}
 use Rattle.filter_tables.specs.Rows.{BothHooks, tables_on, row_of, rows_of_mask, all_rows, BothWhole}
 use Rattle.filter_state.proofs.Pairs.{each_front, each_back}
-use Rattle.row_change_laws.proofs.Lists.{CutAt, cut_at, each_item}
-use Rattle.row_change_laws.proofs.Filters.{split_count}
-use Rattle.row_change_laws.proofs.Hooks.{ahead_of_mask, after_mask, around_mask}
-use Rattle.row_change_laws.proofs.Whole.{HasFilters, whole_on}
-use Rattle.row_change_laws.proofs.Swept.{removed_rows}
-use Rattle.row_change_laws.proofs.FilterTaken.{filter_rows_taken, filter_rows_gone, row_left}
+use Rattle.row_laws.proofs.OfChanges.Lists.{CutAt, cut_at, each_item}
+use Rattle.row_laws.proofs.OfChanges.Filters.{split_count}
+use Rattle.row_laws.proofs.OfChanges.Hooks.{ahead_of_mask, after_mask, around_mask}
+use Rattle.row_laws.proofs.OfChanges.Whole.{HasFilters, whole_on}
+use Rattle.row_laws.proofs.OfChanges.Swept.{removed_rows}
+use Rattle.row_laws.proofs.OfChanges.FilterTaken.{filter_rows_taken, filter_rows_gone, row_left}
 
 -- ---- serials that were given, and the next one
 pub raised_given : (made serial : ℕ) → serial ≤ made → raised made serial ≡ made

@@ -11,8 +11,8 @@ use Rattle.filter_state.specs.Order.{SameRows}
 use Rattle.filter_index.specs.declared.filter.Filter.{Filter}
 use Rattle.filter_tables.specs.Plain.{PlainMask, PlainTable}
 use Rattle.filter_tables.specs.Rows.{tables_on, on_hook, row_of, all_rows, BothWhole}
-use Rattle.row_change_laws.proofs.FilterTaken.{filter_rows_gone}
-use Rattle.order_laws.proofs.Same.{length_same}
+use Rattle.row_laws.proofs.OfChanges.FilterTaken.{filter_rows_gone}
+use Rattle.state_laws.proofs.OfOrder.Same.{length_same}
 use Rattle.action_plan.specs.Bound.{AreBound}
 use Rattle.action_plan.specs.Entries.{actions_of}
 use Rattle.action_plan.specs.Plans.{made_of, carried}

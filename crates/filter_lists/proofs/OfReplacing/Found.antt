@@ -9,7 +9,7 @@ use Rattle.filter_tables.specs.Places.{item_at, place_where}
 use Rattle.filter_tables.specs.Changes.{has_handle_in, is_table}
 use Rattle.filter_tables.specs.Rows.{tables_on, row_of, all_rows}
 use Rattle.filter_tables.proofs.Moves.{item_there}
-use Rattle.row_lookup_laws.proofs.Handles.{row_found, filter_missing, no_filter}
+use Rattle.row_laws.proofs.OfLookups.Handles.{row_found, filter_missing, no_filter}
 use Rattle.hook_lists.specs.declared.kept.Kept.{Kept}
 use Rattle.hook_lists.specs.States.{both_of, state_of, AreKept}
 use Rattle.hook_lists.proofs.Sought.{place_within, place_nowhere, place_passes, its_names}

@@ -20,10 +20,10 @@ use Rattle.filter_tables.specs.Places.{item_at, place_where}
 use Rattle.filter_tables.specs.Changes.{has_words}
 use Rattle.filter_tables.specs.Room.{masks_spare, filters_spare}
 use Rattle.filter_tables.specs.Rows.{tables_on, row_of, all_rows}
-use Rattle.row_lookup_laws.specs.Asked.{unless_left_out}
-use Rattle.row_lookup_laws.proofs.Masks.{mask_found, mask_some}
-use Rattle.row_lookup_laws.proofs.Tables.{full_at}
-use Rattle.row_lookup_laws.proofs.Together.{bytes_eq_true, table_together}
+use Rattle.row_laws.specs.OfLookups.Asked.{unless_left_out}
+use Rattle.row_laws.proofs.OfLookups.Masks.{mask_found, mask_some}
+use Rattle.row_laws.proofs.OfLookups.Tables.{full_at}
+use Rattle.row_laws.proofs.OfLookups.Together.{bytes_eq_true, table_together}
 use Rattle.hook_lists.specs.declared.kept.Kept.{Kept}
 use Rattle.hook_lists.specs.States.{both_of, room_on, state_of, AreKept}
 use Rattle.hook_lists.specs.Steps.{IsRoomier}

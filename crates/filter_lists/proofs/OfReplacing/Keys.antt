@@ -14,13 +14,13 @@ use Rattle.filter_tables.specs.Places.{item_at}
 use Rattle.filter_tables.specs.Changes.{has_words}
 use Rattle.filter_tables.specs.Whole.{IsFull}
 use Rattle.filter_tables.specs.Rows.{row_of, rows_of_mask, rows_of_table}
-use Rattle.row_lookup_laws.specs.Asked.{unless_left_out}
-use Rattle.row_lookup_laws.proofs.Heads.{head_of, find_head}
+use Rattle.row_laws.specs.OfLookups.Asked.{unless_left_out}
+use Rattle.row_laws.proofs.OfLookups.Heads.{head_of, find_head}
 use Rattle.filter_state.proofs.Pairs.{pairs_filter}
-use Rattle.row_lookup_laws.proofs.Among.{NotBoth, among_at, among_found, one_kept}
-use Rattle.row_lookup_laws.proofs.Matches.{words_apart}
-use Rattle.row_lookup_laws.proofs.Masks.{words_kept}
-use Rattle.row_lookup_laws.proofs.Together.{bytes_eq_true}
+use Rattle.row_laws.proofs.OfLookups.Among.{NotBoth, among_at, among_found, one_kept}
+use Rattle.row_laws.proofs.OfLookups.Matches.{words_apart}
+use Rattle.row_laws.proofs.OfLookups.Masks.{words_kept}
+use Rattle.row_laws.proofs.OfLookups.Together.{bytes_eq_true}
 
 -- ---- masks
 module _ (hook : Hook) (t : PlainTable) (full : IsFull t) (together : EachPair GoTogether (rows_of_table hook t)) where

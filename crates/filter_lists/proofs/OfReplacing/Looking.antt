@@ -20,8 +20,8 @@ use Rattle.filter_tables.specs.Plain.{PlainMask, PlainTable}
 use Rattle.filter_tables.specs.Places.{place_where}
 use Rattle.filter_tables.specs.Changes.{is_table}
 use Rattle.filter_tables.specs.Rows.{tables_on, row_of}
-use Rattle.row_lookup_laws.proofs.Found.{whole_on}
-use Rattle.row_lookup_laws.proofs.Among.{among_found}
+use Rattle.row_laws.proofs.OfLookups.Found.{whole_on}
+use Rattle.row_laws.proofs.OfLookups.Among.{among_found}
 use Rattle.action_plan.specs.declared.planned.PlannedAction.{PlannedAction}
 use Rattle.action_plan.specs.Plans.{carried, serials_of, AreFit, PlanTold}
 use Rattle.hook_lists.specs.declared.kept.Kept.{Kept}

@@ -10,7 +10,7 @@ use Rattle.filter_tables.specs.Plain.{PlainTable}
 use Rattle.filter_tables.specs.Places.{item_at, place_where}
 use Rattle.filter_tables.specs.Room.{AreRising}
 use Rattle.filter_tables.specs.Changes.{comes_before, is_table}
-use Rattle.row_lookup_laws.proofs.Found.{item_each}
+use Rattle.row_laws.proofs.OfLookups.Found.{item_each}
 
 -- ---- a test that some element passes
 found_step : {X : Type 0} (b : Bool) (x : X) (any : Bool) (found : Option X) → (any ≡ true → (y : X) × (found ≡ Some y)) → (b || any) ≡ true → (y : X) × (cond b (Some x) found ≡ Some y)

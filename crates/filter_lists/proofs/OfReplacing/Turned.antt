@@ -6,7 +6,7 @@ use Rattle.filter_state.specs.States.{Row, State}
 use Rattle.filter_state.specs.Sound.{Each, IsRow}
 use Rattle.filter_state.specs.Order.{SameRows}
 use Rattle.filter_state.specs.Steps.{without_row}
-use Rattle.order_laws.proofs.Same.{same_refl}
+use Rattle.state_laws.proofs.OfOrder.Same.{same_refl}
 use Rattle.filter_index.specs.declared.filter.Filter.{Filter}
 use Rattle.filter_index.specs.Listed as listed
 use Rattle.filter_tables.specs.Plain.{PlainMask, PlainTable}
@@ -14,10 +14,10 @@ use Rattle.filter_tables.specs.Places.{item_at}
 use Rattle.filter_tables.specs.Changes.{new_mask}
 use Rattle.filter_tables.specs.Rows.{BothHooks, on_hook, row_of, all_rows, BothWhole}
 use Rattle.filter_state.proofs.Pairs.{each_weaker}
-use Rattle.row_change_laws.proofs.Whole.{actions_whole}
-use Rattle.row_change_laws.proofs.MovedWhole.{moved_whole, moved_out_whole}
-use Rattle.row_change_laws.proofs.FilterTaken.{actions_rows}
-use Rattle.row_change_laws.proofs.Moved.{moved_rows, moved_out_rows}
+use Rattle.row_laws.proofs.OfChanges.Whole.{actions_whole}
+use Rattle.row_laws.proofs.OfChanges.MovedWhole.{moved_whole, moved_out_whole}
+use Rattle.row_laws.proofs.OfChanges.FilterTaken.{actions_rows}
+use Rattle.row_laws.proofs.OfChanges.Moved.{moved_rows, moved_out_rows}
 use Rattle.hook_lists.specs.declared.kept.Kept.{Kept}
 use Rattle.hook_lists.specs.States.{both_of, state_of, AreKept}
 use Rattle.filter_lists.specs.declared.adding.arrival.Arrival.{Arrival}

@@ -13,8 +13,8 @@ use Rattle.filter_state.specs.Order.{of_mask}
 use Rattle.filter_state.specs.Sound.{Each}
 use Rattle.filter_state.proofs.Pairs.{each_weaker, each_map, each_filter, any_filter, any_map}
 use Rattle.state_laws.proofs.Rows.{put_actions}
-use Rattle.row_order_laws.specs.Sorted.{placed, sorted}
-use Rattle.row_order_laws.specs.Rows.{row_before}
+use Rattle.row_laws.specs.OfOrder.Sorted.{placed, sorted}
+use Rattle.row_laws.specs.OfOrder.Rows.{row_before}
 use Rattle.walk_rules.specs.Questions.{Head}
 use Rattle.walk_rules.specs.Heads.{heads_in}
 use Rattle.hook_meaning.proofs.OfEffects.Kept.{last_left, last_kept, either_order}

@@ -11,7 +11,7 @@ use Rattle.filter_state.specs.Order.{of_mask}
 use Rattle.filter_state.specs.Sound.{Each}
 use Rattle.filter_state.proofs.Pairs.{any_first, found}
 use Rattle.state_laws.proofs.Rows.{put_actions}
-use Rattle.row_lookup_laws.proofs.Heads.{head_of, first_head, filter_none}
+use Rattle.row_laws.proofs.OfLookups.Heads.{head_of, first_head, filter_none}
 use Rattle.walk_rules.proofs.Listed.{kept_have, kept_alike}
 use Rattle.hook_meaning.specs.OfEffects.Parts.{Filter, filter_of, words_in, is_handle, without}
 use Rattle.hook_meaning.specs.OfEffects.Effects.{with_actions}

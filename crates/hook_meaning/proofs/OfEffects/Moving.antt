@@ -15,7 +15,7 @@ use Rattle.filter_state.proofs.Pairs.{each_filter, found}
 use Rattle.state_laws.proofs.Room.{found_any}
 use Rattle.state_laws.proofs.Fits.{TableFits, MaskFits}
 use Rattle.state_laws.proofs.Old.{is_old, IsOld, old_found}
-use Rattle.row_lookup_laws.proofs.Heads.{any_left}
+use Rattle.row_laws.proofs.OfLookups.Heads.{any_left}
 use Rattle.filter_tables.specs.Changes.{is_none_left}
 use Rattle.hook_meaning.specs.OfEffects.Parts.{Stands, filter_of, filters_of, without}
 use Rattle.hook_meaning.specs.OfEffects.Effects.{KeepsTables, KeepsMask, HasMask, ChangesHook}

@@ -11,7 +11,7 @@ use Rattle.filter_state.specs.Tables.{first_where}
 use Rattle.filter_state.specs.Sound.{Each, EachPair}
 use Rattle.filter_state.proofs.Pairs.{each_passing, pairs_filter}
 use Rattle.state_laws.proofs.Changes.{put_params}
-use Rattle.row_lookup_laws.proofs.Heads.{head_of, first_head, filter_none}
+use Rattle.row_laws.proofs.OfLookups.Heads.{head_of, first_head, filter_none}
 use Rattle.hook_meaning.proofs.OfEffects.Kept.{last_left, last_kept, either_order}
 
 abbrev pub params_in : List Action → ℕ → Option Params

@@ -6,12 +6,12 @@ use Rattle.std.proofs.lemmas.Bool.{false≢true, eqb-false}
 use Rattle.filter_state.specs.States.{Row}
 use Rattle.filter_state.specs.Order.{of_mask, exchange}
 use Rattle.filter_state.specs.Sound.{Each}
-use Rattle.order_laws.proofs.Same.{or_swap}
-use Rattle.row_order_laws.specs.Sorted.{placed, sorted, InOrder}
-use Rattle.row_order_laws.specs.Rows.{row_before}
-use Rattle.row_order_laws.proofs.Sorting.{sorted_mapped, sorted_in_order}
-use Rattle.row_order_laws.proofs.Orders.{row_order, row_either}
-use Rattle.row_order_laws.proofs.OrderedRows.{sorted_same}
+use Rattle.state_laws.proofs.OfOrder.Same.{or_swap}
+use Rattle.row_laws.specs.OfOrder.Sorted.{placed, sorted, InOrder}
+use Rattle.row_laws.specs.OfOrder.Rows.{row_before}
+use Rattle.row_laws.proofs.OfOrder.Sorting.{sorted_mapped, sorted_in_order}
+use Rattle.row_laws.proofs.OfOrder.Orders.{row_order, row_either}
+use Rattle.row_laws.proofs.OfOrder.OrderedRows.{sorted_same}
 use Rattle.walk_rules.specs.Questions.{Head}
 use Rattle.walk_rules.specs.Heads.{head_with, in_front, with_row, heads_in}
 use Rattle.walk_rules.proofs.Listed.{any_has, each_both, sorted_have}

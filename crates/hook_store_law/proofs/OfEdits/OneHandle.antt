@@ -10,7 +10,7 @@ use Rattle.filter_state.specs.Sound.{Sound, Each, EachPair, GoTogether}
 use Rattle.filter_state.proofs.Pairs.{each_weaker, pairs_all, pairs_weaker, found, any_first}
 use Rattle.state_laws.proofs.Places.{NotBoth, only_one}
 use Rattle.state_laws.proofs.Room.{found_any}
-use Rattle.row_lookup_laws.proofs.Heads.{head_of, filter_and}
+use Rattle.row_laws.proofs.OfLookups.Heads.{head_of, filter_and}
 use Rattle.walk_rules.proofs.Listed.{unkept}
 use Rattle.hook_meaning.specs.OfEffects.Parts.{Filter, filter_of, filters_of, is_handle, without}
 use Rattle.hook_meaning.specs.OfEffects.Effects.{with_actions}

@@ -6,8 +6,8 @@ use Rattle.tc_base.specs.declared.hook.Hook.TheVariants as hooks
 use Rattle.filter_state.specs.States.{State}
 use Rattle.filter_state.specs.Tables.{first_where, in_hook}
 use Rattle.filter_state.specs.Order.{of_mask}
-use Rattle.row_order_laws.specs.Sorted.{sorted}
-use Rattle.row_order_laws.specs.Rows.{row_before}
+use Rattle.row_laws.specs.OfOrder.Sorted.{sorted}
+use Rattle.row_laws.specs.OfOrder.Rows.{row_before}
 use Rattle.walk_rules.specs.Heads.{heads_on, heads_in}
 use Rattle.hook_meaning.specs.OfEffects.Parts.{filter_of, words_in, words_of}
 use Rattle.miniq_pair.specs.Heads.{hook_number}

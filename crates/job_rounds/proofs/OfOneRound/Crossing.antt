@@ -10,7 +10,7 @@ use Rattle.hook_reader.specs.contracts.reader.HookReader as hook_reader
 use Rattle.walk_steps.proofs.walk.Walk.TheSendSync as walk
 use Rattle.worker_rounds.specs.contracts.worker.Worker as worker
 use Rattle.step_counts.proofs.seats.Held.TheSendSync as seat
-use Rattle.walk_logs.proofs.walk_log.WalkLog.TheSendSync as log
+use Rattle.worker_rounds.proofs.logs.walk_log.WalkLog.TheSendSync as log
 use Rattle.job_rounds.specs.contracts.one_round.hands.Hand as hand
 use Rattle.job_rounds.specs.contracts.one_round.hands.Ended as ended
 

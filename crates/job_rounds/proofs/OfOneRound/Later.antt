@@ -12,7 +12,7 @@ use Rattle.run_report.specs.declared.outcomes.Outcome.{Outcome}
 use Rattle.lawful_runs.specs.OfLogs.Logs.{LogRow, ArePointsTo}
 use Rattle.hook_reader.specs.Seats.{HookSeat}
 use Rattle.pin_store.specs.Calls.{pin_of}
-use Rattle.walk_logs.specs.Rows.{numbers_of}
+use Rattle.worker_rounds.specs.OfLogs.Rows.{numbers_of}
 use Rattle.worker_rounds.specs.declared.worker.Worker.{Worker}
 use Rattle.worker_rounds.specs.Worked.{arrivals_of, IsWorked}
 use Rattle.job_rounds.specs.OfRoundState.Rounds.{StoreName}

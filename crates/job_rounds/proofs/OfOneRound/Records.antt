@@ -19,8 +19,8 @@ use Rattle.lawful_runs.specs.Outcomes.{AreWalked}
 use Rattle.lawful_runs.specs.OfLogs.Logs.{LogRow, ArePlaced}
 use Rattle.step_counts.specs.Claims.{HasEachBelow}
 use Rattle.pin_store.specs.Calls.{IsSeatAt}
-use Rattle.walk_logs.specs.Rows.{numbers_of}
-use Rattle.worker_walk.specs.Walked.{journal_of}
+use Rattle.worker_rounds.specs.OfLogs.Rows.{numbers_of}
+use Rattle.worker_rounds.specs.OfWalks.Walked.{journal_of}
 use Rattle.filter_state.specs.States.{no_state}
 use Rattle.filter_state.specs.Journals.{state_from}
 use Rattle.round_terms.specs.LoadedJob.{LoadedJob}

@@ -8,7 +8,7 @@ use Rattle.filter_state.specs.declared.edit.Edit.{Edit}
 use Rattle.lawful_runs.specs.Given.{Arrival}
 use Rattle.lawful_runs.specs.OfLogs.Logs.{LogRow, AreRows, ArePointsTo}
 use Rattle.hook_reader.specs.Seats.{HookSeat}
-use Rattle.worker_walk.specs.Walked.{journal_of}
+use Rattle.worker_rounds.specs.OfWalks.Walked.{journal_of}
 use Rattle.worker_rounds.specs.declared.worker.Worker.{Worker}
 use Rattle.worker_rounds.specs.Worked.{IsWorked}
 use Rattle.job_rounds.specs.OfOneRound.OfOutcomes.Met.{IsSameWorker}

@@ -13,7 +13,7 @@ use Rattle.step_counts.proofs.Numbers.{same_of, times_cons, below_once}
 use Rattle.step_counts.proofs.Sums.{sums_once}
 use Rattle.lawful_runs.specs.OfLogs.Logs.{LogRow, ArePlaced}
 use Rattle.lawful_runs.specs.Cases.{walked_by}
-use Rattle.walk_logs.specs.Rows.{numbers_of}
+use Rattle.worker_rounds.specs.OfLogs.Rows.{numbers_of}
 use Rattle.worker_rounds.specs.Worked.{visits_after}
 use Rattle.job_rounds.specs.Visited.{visits_by}
 

@@ -15,8 +15,8 @@ use Rattle.run_report.specs.declared.outcomes.Outcome.{Outcome}
 use Rattle.step_counts.specs.Seats.{Holding}
 use Rattle.step_counts.specs.Claims.{HasEachBelow}
 use Rattle.lawful_runs.specs.OfLogs.Logs.{LogRow, ArePlaced}
-use Rattle.walk_logs.specs.Rows.{numbers_of}
-use Rattle.worker_walk.specs.Walked.{journal_of}
+use Rattle.worker_rounds.specs.OfLogs.Rows.{numbers_of}
+use Rattle.worker_rounds.specs.OfWalks.Walked.{journal_of}
 use Rattle.worker_rounds.specs.declared.worker.Worker.{Worker}
 use Rattle.worker_rounds.specs.Worked.{arrivals_of, HasDrawn, IsWorked}
 use Rattle.job_rounds.specs.OfRoundState.Rounds.{StoreName}

@@ -14,10 +14,10 @@ use Rattle.hook_lists.specs.declared.kept.Kept.{Kept}
 use Rattle.hook_lists.specs.States.{state_of, AreKept}
 use Rattle.filter_lists.specs.Spells.{Spells}
 use Rattle.filter_lists.specs.Edits.{MayStep}
-use Rattle.order_laws.proofs.Soundness.{sound_same}
+use Rattle.state_laws.proofs.OfOrder.Soundness.{sound_same}
 use Rattle.hook_store_law.specs.OfEdits.Premises.{now}
 use Rattle.hook_meaning.proofs.States.{state_is}
-use Rattle.desk_room_laws.proofs.Lines.{few_made}
+use Rattle.desk_needs.proofs.OfRoom.Lines.{few_made}
 use Rattle.round_terms.specs.MadeAction.{MadeAction}
 use Rattle.round_terms.specs.Made.{later_names, made_since}
 use Rattle.round_terms.specs.Underway.{made_behind}

@@ -17,8 +17,8 @@ use Rattle.round_terms.specs.LoadedJob.{LoadedJob}
 use Rattle.round_terms.specs.Files.{files_of}
 use Rattle.round_terms.specs.Hearing.{EarView, HasHeard}
 use Rattle.round_terms.specs.Underway.{IsMadeSince}
-use Rattle.walk_logs.specs.Rows.{numbers_of}
-use Rattle.worker_walk.specs.Walked.{journal_of}
+use Rattle.worker_rounds.specs.OfLogs.Rows.{numbers_of}
+use Rattle.worker_rounds.specs.OfWalks.Walked.{journal_of}
 use Rattle.worker_rounds.specs.declared.worker.Worker.{Worker}
 use Rattle.worker_rounds.specs.Worked.{arrivals_of, IsWorked}
 use Rattle.job_rounds.specs.OfRoundState.Views.{journal}

@@ -12,7 +12,7 @@ use Rattle.block_chain.specs.Ways.{block_words}
 use Rattle.pin_store.specs.Calls.{IsSeatAt, IsOutside, pin_of}
 use Rattle.step_counts.specs.Seats.{Holding}
 use Rattle.lawful_runs.specs.OfLogs.Logs.{LogRow}
-use Rattle.walk_logs.specs.Rows.{numbers_of}
+use Rattle.worker_rounds.specs.OfLogs.Rows.{numbers_of}
 use Rattle.worker_rounds.specs.declared.worker.Worker.{Worker}
 use Rattle.worker_rounds.specs.Worked.{arrivals_of, HasDrawn, IsWorked}
 use Rattle.job_rounds.specs.OfRoundState.Rounds.{StoreName, store_name}

@@ -13,7 +13,7 @@ use std::sync::Wait;
 use std::thread::{Promise, PromisedHandle};
 use step_counts::{ClaimSeat, ClaimSeats, Claims};
 use tc_base::{Gate, Hook, NoMemory};
-use walk_logs::WalkLog;
+use worker_rounds::logs::WalkLog;
 use worker_rounds::{RoundWork, Worker, work};
 
 /// A worker, with the seat at which it draws packets.

@@ -12,8 +12,8 @@ use std::alloc::Global;
 use std::thread::Threads;
 use step_counts::ClaimSeat;
 use tc_base::NoMemory;
-use walk_logs::WalkLog;
 use worker_rounds::Worker;
+use worker_rounds::logs::WalkLog;
 
 /// What all workers brought back, each at its place.
 #[derive(Drop)]

@@ -13,9 +13,10 @@
 //! - `settle` gives all seats of the claims back into one, and draws one number more. It is past the packets,
 //!   as each worker's last number is. So the workers drew all packets, and each once. Nobody could test that:
 //!   it is a fact about the claim word, seats have no bytes, and the draw is all that it costs.
-//! - `settle` then gives each packet the outcome of the row with its number (`put_together` of `walk_logs`).
-//!   The round's packets are walked (`AreWalked` of `lawful_runs`), where it is known of each worker what its
-//!   reader had seen before the round (`AreBack` in `specs/OfOneRound/OfOutcomes/Met.antt`).
+//! - `settle` then gives each packet the outcome of the row with its number (`put_together` of `logs` of
+//!   `worker_rounds`). The round's packets are walked (`AreWalked` of `lawful_runs`), where it is known of
+//!   each worker what its reader had seen before the round (`AreBack` in
+//!   `specs/OfOneRound/OfOutcomes/Met.antt`).
 //!
 //! A round without workers has no outcomes, and nothing is to be called for it.
 //!

@@ -4,7 +4,7 @@ use Rattle.std.specs.Prelude.{if◌then◌else◌}
 use Rattle.std.proofs.Math.Seq.{drop-append_seam}
 use Rattle.std.proofs.lemmas.List.{length-append, length-drop}
 use Rattle.lawful_runs.specs.declared.loaded.LoadedJob.{LoadedJob}
-use Rattle.line_cut_laws.specs.Cuts.{byte_before, cut, joined}
+use Rattle.report_laws.specs.OfLineCuts.Cuts.{byte_before, cut, joined}
 use Rattle.report_laws.specs.Stands.{Stand, start, Takes}
 use Rattle.report_laws.specs.OfWholePaths.FirstBadLines.{TakesNone, IsOpen}
 use Rattle.report_laws.proofs.Paths.{path_append}

@@ -15,7 +15,7 @@ use Rattle.run_report.specs.declared.events.Event.{Event}
 use Rattle.run_report.specs.declared.events.EventKind.{EventKind}
 use Rattle.run_report.specs.declared.events.EventKind.TheVariants as kinds
 use Rattle.run_report.specs.EventTexts.{edit_place, done_text, kind_line, event_line}
-use Rattle.line_cut_laws.proofs.Digits.{High, digits_high}
+use Rattle.report_laws.proofs.OfLineCuts.Digits.{High, digits_high}
 use Rattle.report_check.specs.OfEvents.Blanks.{HasNo}
 
 -- ---- the first place of a byte

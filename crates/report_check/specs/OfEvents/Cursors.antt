@@ -1,7 +1,7 @@
 -- How far a report has been gone through, and where it gets stuck (this project's own).
 use Rattle.std.specs.Prelude.{◌≡◌, ℕ, ◌+◌, ◌≤◌, List, [], ◌∷◌, ◌++◌, length, drop}
 use Rattle.lawful_runs.specs.declared.loaded.LoadedJob.{LoadedJob}
-use Rattle.line_cut_laws.specs.Cuts.{cut}
+use Rattle.report_laws.specs.OfLineCuts.Cuts.{cut}
 use Rattle.report_laws.specs.Stands.{Stand, start, Takes, IsPath}
 use Rattle.report_laws.specs.OfWholePaths.FirstBadLines.{TakesNone, IsOpen}
 use Rattle.report_check.specs.declared.events.cursor.Cursor.{Cursor}

@@ -1,6 +1,6 @@
 //! How far a report has been gone through.
 
-use report_reading::next_line;
+use crate::reading::next_line;
 
 /// A place in a report's bytes, before a line or at the end.
 #[derive(Clone, Copy)]

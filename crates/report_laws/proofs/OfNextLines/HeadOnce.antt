@@ -18,7 +18,7 @@ use Rattle.walk_rules.specs.Heads.{heads_on}
 use Rattle.walk_rules.specs.Steps.{Place, at_head, at_mask, at_action, ended, Standing, begun, tries, masks_or, first_stop, question_at, question_of, after_list, after_action, after_found, after_at, after, ran, action_at}
 use Rattle.point_walks.specs.Over.{Answering, answered_at, moved_by, one_visit, stands_after}
 use Rattle.point_walks.specs.Visits.{visit_more, visits_over}
-use Rattle.walk_points.specs.Points.{Visit}
+use Rattle.walk_rules.specs.OfPoints.Points.{Visit}
 use Rattle.report_laws.specs.OfNextLines.Walks.{answers_of, AgreesFrom}
 
 abbrev Headless : Place → Type 0

@@ -9,7 +9,7 @@ use Rattle.walk_rules.specs.Walks.{Outcome as WalkOutcome}
 use Rattle.run_report.specs.declared.outcomes.Outcome.{Outcome}
 use Rattle.run_report.specs.declared.rounds.RoundRecord.{RoundRecord}
 use Rattle.lawful_runs.specs.Given.{Arrival, GivenRound}
-use Rattle.walk_points.specs.Points.{Visit, AreLawfulPoints}
+use Rattle.walk_rules.specs.OfPoints.Points.{Visit, AreLawfulPoints}
 use Rattle.lawful_runs.specs.Points.{seen_by}
 use Rattle.lawful_runs.specs.Outcomes.{IsRecordOf, IsWalked}
 use Rattle.lawful_runs.specs.Events.{AreInOrder}

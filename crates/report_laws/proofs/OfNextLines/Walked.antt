@@ -18,7 +18,7 @@ use Rattle.walk_rules.specs.Answers.{answer_of}
 use Rattle.walk_rules.specs.Steps.{Place, at_head, at_mask, at_action, ended, Standing, begun, tries, masks_or, first_stop, question_at, question_of, moved, restarted, after_list, after_action, after_found, after_at, after, ran, action_at}
 use Rattle.walk_rules.specs.Walks.{Outcome as WalkOutcome, outcome_with, outcome_at, outcome_of, IsWalk}
 use Rattle.walk_rules.proofs.Agreeing.{asked_at, asks_or_ended, one_more}
-use Rattle.walk_points.specs.Points.{Visit, IsVisited}
+use Rattle.walk_rules.specs.OfPoints.Points.{Visit, IsVisited}
 use Rattle.point_walks.specs.Over.{Answering, answered_at, moved_by, one_visit, stands_after}
 use Rattle.point_walks.specs.Visits.{visit_more, visits_over}
 use Rattle.report_laws.specs.OfNextLines.Walks.{answers_of}

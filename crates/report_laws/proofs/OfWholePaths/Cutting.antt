@@ -1,7 +1,7 @@
 -- Lines that were cut are joined again.
 use Rattle.std.proofs.Common.{◌≡◌, ◌∙◌, ℕ, ◌==◌, Bool, true, false, List, [], ◌∷◌, refl, ap}
 use Rattle.std.specs.Prelude.{if◌then◌else◌}
-use Rattle.line_cut_laws.specs.Cuts.{byte_before, cut, joined}
+use Rattle.report_laws.specs.OfLineCuts.Cuts.{byte_before, cut, joined}
 
 before_joined : (byte : ℕ) (lines : List (List ℕ)) → joined (byte_before byte lines) ≡ byte ∷ joined lines
 before_joined byte [] = refl

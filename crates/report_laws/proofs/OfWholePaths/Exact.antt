@@ -8,8 +8,8 @@ use Rattle.run_report.specs.Reports.{report_lines}
 use Rattle.lawful_runs.specs.declared.loaded.LoadedJob.{LoadedJob}
 use Rattle.lawful_runs.specs.Given.{IsLoaded}
 use Rattle.lawful_runs.specs.Lawful.{IsLawfulReport}
-use Rattle.line_cut_laws.specs.Cuts.{cut, joined}
-use Rattle.line_cut_laws.proofs.Cutting.{cut_joined}
+use Rattle.report_laws.specs.OfLineCuts.Cuts.{cut, joined}
+use Rattle.report_laws.proofs.OfLineCuts.Cutting.{cut_joined}
 use Rattle.report_laws.proofs.OfWholePaths.Cutting.{joined_cut}
 use Rattle.report_laws.specs.Stands.{Stand, start, closing, IsPath, journal_length}
 use Rattle.report_laws.specs.OfWholePaths.FirstBadLines.{TakesNone, IsOpen}

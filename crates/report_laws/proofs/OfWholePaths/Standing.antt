@@ -15,7 +15,7 @@ use Rattle.walk_rules.proofs.Agreeing.{WalkFrom}
 use Rattle.walk_rules.proofs.Stilled.{leads_to_plain}
 use Rattle.run_report.specs.declared.outcomes.Outcome.{Outcome}
 use Rattle.lawful_runs.specs.Given.{Arrival}
-use Rattle.walk_points.specs.Points.{Visit, IsVisited, AreLawfulPoints}
+use Rattle.walk_rules.specs.OfPoints.Points.{Visit, IsVisited, AreLawfulPoints}
 use Rattle.lawful_runs.specs.Points.{is_by, seen_by}
 use Rattle.lawful_runs.specs.Outcomes.{IsWalked}
 use Rattle.filter_state.proofs.Places.{each_at}

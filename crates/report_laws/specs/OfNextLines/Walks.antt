@@ -11,7 +11,7 @@ use Rattle.run_report.specs.declared.outcomes.Outcome.{Outcome}
 use Rattle.run_report.specs.declared.rounds.RoundRecord.{RoundRecord}
 use Rattle.lawful_runs.specs.Given.{Arrival, GivenRound}
 use Rattle.lawful_runs.specs.Lawful.{outcomes_in}
-use Rattle.walk_points.specs.Points.{AreLawfulPoints}
+use Rattle.walk_rules.specs.OfPoints.Points.{AreLawfulPoints}
 use Rattle.lawful_runs.specs.Points.{seen_by}
 use Rattle.point_walks.specs.Over.{Answering, stands_after}
 use Rattle.point_walks.specs.Visits.{visits_over}

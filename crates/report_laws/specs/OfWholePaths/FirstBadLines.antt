@@ -5,7 +5,7 @@ use Rattle.run_report.specs.declared.record.RunRecord.{RunRecord}
 use Rattle.run_report.specs.Reports.{report_lines}
 use Rattle.lawful_runs.specs.declared.loaded.LoadedJob.{LoadedJob}
 use Rattle.lawful_runs.specs.Lawful.{IsLawfulRun, IsLawfulReport}
-use Rattle.line_cut_laws.specs.Cuts.{cut}
+use Rattle.report_laws.specs.OfLineCuts.Cuts.{cut}
 use Rattle.report_laws.specs.Stands.{Stand, closing, Takes}
 
 -- these are the first lines of some lawful report, or all of them

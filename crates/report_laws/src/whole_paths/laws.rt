@@ -6,7 +6,7 @@ ghost use Rattle.run_report.specs.Reports.{report_lines};
 ghost use Rattle.lawful_runs.specs.declared.loaded.LoadedJob.{LoadedJob};
 ghost use Rattle.lawful_runs.specs.Given.{IsLoaded};
 ghost use Rattle.lawful_runs.specs.Lawful.{IsRunWith, IsLawfulReport};
-ghost use Rattle.line_cut_laws.specs.Cuts.{cut};
+ghost use Rattle.report_laws.specs.OfLineCuts.Cuts.{cut};
 ghost use Rattle.report_laws.specs.Stands.{Stand, start, closing, IsPath, journal_length};
 ghost use Rattle.report_laws.specs.OfWholePaths.FirstBadLines.{IsFirstBadLine, TakesNone, IsOpen};
 

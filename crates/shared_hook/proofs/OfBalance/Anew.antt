@@ -5,7 +5,7 @@ use Rattle.std.proofs.lemmas.Bool.{eqb-false}
 use Rattle.std.proofs.lemmas.List.Sums.{sum_by-cons}
 use Rattle.flow_mask.specs.Sizes.{size_of}
 use Rattle.block_codec.specs.declared.places.TheConstants.{ROW_BUCKETS}
-use Rattle.desk_need_laws.specs.Told.{rows_anew, laid, laid_rows, laid_masks}
+use Rattle.desk_needs.specs.OfEditNeeds.Told.{rows_anew, laid, laid_rows, laid_masks}
 
 -- a mask that had some filters and has some
 some_rows : (n : ℕ) → 1 ≤ n → laid_rows n ≡ size_of n / ROW_BUCKETS

@@ -4,13 +4,13 @@ use Rattle.std.proofs.Common.{◌≡◌, ℕ, ◌+◌, ◌-◌, ◌<◌, ◌≤�
 use Rattle.std.specs.Prelude.{sum_by}
 use Rattle.tc_base.specs.declared.hook.Hook.{Hook}
 use Rattle.filter_state.specs.States.{State}
-use Rattle.number_pools.specs.Numbers.{PoolNumbers}
+use Rattle.desk_pools.specs.OfNumbers.Numbers.{PoolNumbers}
 use Rattle.desk_needs.specs.Live.{count_of, masks_in, rows_of, rows_of_all}
-use Rattle.desk_need_laws.specs.Told.{blocks_anew, rows_anew, laid, laid_rows, laid_masks, put_into, moved_to}
+use Rattle.desk_needs.specs.OfEditNeeds.Told.{blocks_anew, rows_anew, laid, laid_rows, laid_masks, put_into, moved_to}
 use Rattle.desk_pools.specs.declared.pools.Pools.{Pools}
 use Rattle.desk_actions.specs.Effects.{IsCounted}
 use Rattle.shared_hook.specs.OfDeskEdits.Parting.{HaveLeft}
-use Rattle.live_count_laws.specs.Counts.{StayAsMany, FilterComes, MaskComes, FilterMoves, FilterGoes, MasksGo, ActionsStay, ActionComes, ActionGoes}
+use Rattle.desk_needs.specs.OfLiveCounts.Counts.{StayAsMany, FilterComes, MaskComes, FilterMoves, FilterGoes, MasksGo, ActionsStay, ActionComes, ActionGoes}
 use Rattle.shared_hook.proofs.OfBalance.Evens.{GoesOn, AllGoOn, stays}
 use Rattle.shared_hook.proofs.OfBalance.Anew.{rows_even, laid_blocks, sum_with_masks}
 

@@ -11,16 +11,16 @@ use Rattle.filter_state.specs.Tables.{in_table, has_mask}
 use Rattle.state_laws.proofs.Room.{found_any}
 use Rattle.hook_store_law.specs.OfEdits.Premises.{now, IsAccepted, IsOfFilters, IsAddOf}
 use Rattle.hook_store_law.proofs.OfEdits.Accepted.{sound}
-use Rattle.desk_need_laws.specs.Told.{blocks_anew, rows_anew}
+use Rattle.desk_needs.specs.OfEditNeeds.Told.{blocks_anew, rows_anew}
 use Rattle.desk_pools.specs.declared.pools.Pools.{Pools}
 use Rattle.desk_actions.specs.Effects.{IsCounted}
 use Rattle.desk_parts.specs.OfLineActions.Gone.{serials_gone, named_by}
 use Rattle.desk_parts.specs.declared.ways.way.Way.TheVariants as ways
 use Rattle.desk_parts.specs.OfWays.Ways.{IntoMask, WithMask}
 use Rattle.shared_hook.specs.OfDeskEdits.Spent.{made_by, needed}
-use Rattle.live_count_laws.specs.Counts.{FilterComes}
-use Rattle.live_count_laws.proofs.Changes.{some_there}
-use Rattle.live_count_laws.proofs.Coming.{into_mask_led, with_mask_led}
+use Rattle.desk_needs.specs.OfLiveCounts.Counts.{FilterComes}
+use Rattle.desk_needs.proofs.OfLiveCounts.Changes.{some_there}
+use Rattle.desk_needs.proofs.OfLiveCounts.Coming.{into_mask_led, with_mask_led}
 use Rattle.shared_hook.specs.OfBalance.Counts.{AreCounted}
 use Rattle.shared_hook.proofs.OfBalance.Evens.{all_add_up}
 use Rattle.shared_hook.proofs.OfBalance.Balance.{none_went}

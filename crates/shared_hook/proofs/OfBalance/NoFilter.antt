@@ -14,8 +14,8 @@ use Rattle.desk_pools.specs.declared.pools.Pools.{Pools}
 use Rattle.desk_actions.specs.Effects.{IsCounted}
 use Rattle.desk_actions.specs.Kinds.{IsMaking, IsChanging}
 use Rattle.desk_parts.specs.OfPlainEdits.Kinds.{IsOfQdisc}
-use Rattle.live_count_laws.specs.Counts.{StayAsMany, ActionsStay, ActionComes}
-use Rattle.live_count_laws.proofs.NoFilter.{counts_kept, qdisc, added, made_by_change, changed, deleted}
+use Rattle.desk_needs.specs.OfLiveCounts.Counts.{StayAsMany, ActionsStay, ActionComes}
+use Rattle.desk_needs.proofs.OfLiveCounts.NoFilter.{counts_kept, qdisc, added, made_by_change, changed, deleted}
 use Rattle.shared_hook.specs.OfBalance.Counts.{AreCounted}
 use Rattle.shared_hook.proofs.OfBalance.Evens.{all_add_up}
 use Rattle.shared_hook.proofs.OfBalance.ByKind as kinds

@@ -13,9 +13,9 @@ use Rattle.filter_state.specs.States.{State}
 use Rattle.filter_state.specs.Steps.{step}
 use Rattle.hook_store_law.specs.OfEdits.Premises.{now, IsAccepted, IsOfFilters}
 use Rattle.hook_store_law.proofs.OfEdits.Accepted.{sound}
-use Rattle.number_pools.specs.Numbers.{PoolNumbers}
+use Rattle.desk_pools.specs.OfNumbers.Numbers.{PoolNumbers}
 use Rattle.desk_needs.specs.Live.{count_of}
-use Rattle.desk_need_laws.specs.Told.{blocks_anew, rows_anew}
+use Rattle.desk_needs.specs.OfEditNeeds.Told.{blocks_anew, rows_anew}
 use Rattle.desk_pools.specs.declared.pools.Pools.{Pools}
 use Rattle.desk_pools.specs.Steps.{turned}
 use Rattle.desk_actions.specs.Effects.{IsCounted}
@@ -27,8 +27,8 @@ use Rattle.desk_parts.specs.OfWays.Ways.{OutOfMask, Closes, TakesMasks}
 use Rattle.shared_hook.specs.OfDeskEdits.Spent.{made_by, needed, LeftWithActions}
 use Rattle.shared_hook.specs.OfDeskEdits.Goes.{AreGone}
 use Rattle.shared_hook.specs.OfDeskEdits.Parting.{HaveLeft}
-use Rattle.live_count_laws.specs.Counts.{FilterGoes, MasksGo}
-use Rattle.live_count_laws.proofs.Removed.{from_mask, last_of_mask, table}
+use Rattle.desk_needs.specs.OfLiveCounts.Counts.{FilterGoes, MasksGo}
+use Rattle.desk_needs.proofs.OfLiveCounts.Removed.{from_mask, last_of_mask, table}
 use Rattle.shared_hook.specs.OfBalance.Counts.{AreCounted}
 use Rattle.shared_hook.proofs.OfBalance.Evens.{all_add_up}
 use Rattle.shared_hook.proofs.OfBalance.Balance.{went_after, none_made}

@@ -15,16 +15,16 @@ use Rattle.state_laws.proofs.Room.{found_any}
 use Rattle.hook_store_law.specs.OfEdits.Premises.{now, IsAccepted, IsOfFilters}
 use Rattle.hook_store_law.proofs.OfEdits.Accepted.{sound}
 use Rattle.desk_needs.specs.Live.{count_of}
-use Rattle.desk_need_laws.specs.Told.{laid, laid_rows, laid_masks}
+use Rattle.desk_needs.specs.OfEditNeeds.Told.{laid, laid_rows, laid_masks}
 use Rattle.desk_pools.specs.declared.pools.Pools.{Pools}
 use Rattle.desk_actions.specs.Effects.{IsCounted}
 use Rattle.desk_parts.specs.OfLineActions.Gone.{NamesGone}
 use Rattle.desk_parts.specs.declared.ways.way.Way.TheVariants as ways
 use Rattle.desk_parts.specs.OfWays.Ways.{Replaces, InPlace, OtherKey, OtherMask, IsTarget}
 use Rattle.shared_hook.specs.OfDeskEdits.Spent.{made_by, needed, LeftWithActions}
-use Rattle.live_count_laws.specs.Counts.{FilterMoves}
-use Rattle.live_count_laws.proofs.Changes.{some_there, none_yet}
-use Rattle.live_count_laws.proofs.Replaced.{same_mask, other_mask}
+use Rattle.desk_needs.specs.OfLiveCounts.Counts.{FilterMoves}
+use Rattle.desk_needs.proofs.OfLiveCounts.Changes.{some_there, none_yet}
+use Rattle.desk_needs.proofs.OfLiveCounts.Replaced.{same_mask, other_mask}
 use Rattle.shared_hook.specs.OfBalance.Counts.{AreCounted}
 use Rattle.shared_hook.proofs.OfBalance.Evens.{all_add_up}
 use Rattle.shared_hook.proofs.OfBalance.Balance.{went_after}

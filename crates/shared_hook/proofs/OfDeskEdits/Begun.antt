@@ -45,7 +45,7 @@ use Rattle.desk_masks.proofs.OfHeadChains.HeadChains.{small_first, names_in as n
 use Rattle.desk_heads.specs.OfHeadCommits.Listed.{HasSerial}
 use Rattle.desk_heads.proofs.OfHeadCommits.Places.{one_place, root_has, state_has, has_named}
 use Rattle.desk_heads.proofs.OfHeadCommits.Standing.{listed, standing}
-use Rattle.number_pools.specs.Numbers.{PoolNumbers}
+use Rattle.desk_pools.specs.OfNumbers.Numbers.{PoolNumbers}
 use Rattle.desk_pools.specs.declared.pools.Pools.{Pools}
 use Rattle.desk_pools.specs.Pools.{ArePools}
 use Rattle.desk_pools.specs.Steps.{IsInPool, turned}

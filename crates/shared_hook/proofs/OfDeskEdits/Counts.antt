@@ -2,8 +2,8 @@
 use Rattle.std.proofs.Common.{◌≡◌, ◌≢◌, ◌∙◌, ℕ, ◌+◌, ◌-◌, ◌<◌, ◌≤◌, ◌/◌, Bool, length, refl, ap, arith, ne_eqb, eq-eqb}
 use Rattle.std.specs.Prelude.{if◌then◌else◌, not}
 use Rattle.flow_mask.specs.Sizes.{size_of}
-use Rattle.number_pools.specs.Numbers.{PoolNumbers}
-use Rattle.desk_need_laws.specs.Told.{blocks_anew, rows_anew}
+use Rattle.desk_pools.specs.OfNumbers.Numbers.{PoolNumbers}
+use Rattle.desk_needs.specs.OfEditNeeds.Told.{blocks_anew, rows_anew}
 use Rattle.desk_actions.specs.Effects.{IsCounted}
 
 -- ---- a mask that is laid anew, or isn't

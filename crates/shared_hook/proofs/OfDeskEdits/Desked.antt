@@ -21,7 +21,7 @@ use Rattle.desk_pools.specs.declared.pools.Pools.{Pools}
 use Rattle.desk_pools.specs.declared.pools.IdlePlace.{IdlePlace}
 use Rattle.desk_pools.specs.Pools.{ArePools}
 use Rattle.desk_pools.specs.Steps.{IsInPool, turned}
-use Rattle.number_pools.specs.Numbers.{PoolNumbers}
+use Rattle.desk_pools.specs.OfNumbers.Numbers.{PoolNumbers}
 use Rattle.desk_actions.specs.declared.ledgers.ledger.Ledger.{Ledger}
 use Rattle.desk_actions.specs.OfLedgers.Kept.{commits, base, IsWhole}
 use Rattle.desk_actions.specs.Places.{slot_of, AreHere, AreHereFor}

@@ -17,7 +17,7 @@ use Rattle.hook_meaning.specs.Stated.{hook_meaning, filter_stated, filters_at}
 use Rattle.hook_meaning.specs.Blocks.{hook_codec}
 use Rattle.hook_store_law.specs.OfEdits.Premises.{now, next}
 use Rattle.desk_needs.specs.Live.{count_of}
-use Rattle.desk_need_laws.proofs.Counted.{counted}
+use Rattle.desk_needs.proofs.OfEditNeeds.Counted.{counted}
 use Rattle.desk_masks.specs.OfFilterCommits.Edits.{HasLater}
 use Rattle.desk_masks.proofs.OfFilterCommits.Locating.{own_serial}
 use Rattle.desk_actions.specs.OfLedgers.Kept.{commits}

@@ -6,7 +6,7 @@ use Rattle.pin_store.specs.Calls.{IsUnnamed}
 use Rattle.filter_state.specs.declared.edit.Edit.{Edit}
 use Rattle.hook_law.specs.Standing.{IsIn}
 use Rattle.root_pool_laws.specs.Blocks.{IsLeft}
-use Rattle.number_pools.specs.Numbers.{PoolNumbers}
+use Rattle.desk_pools.specs.OfNumbers.Numbers.{PoolNumbers}
 use Rattle.desk_pools.specs.declared.pools.Pools.{Pools}
 use Rattle.desk_pools.specs.Pools.{gone_roots, ArePools}
 use Rattle.desk_pools.specs.Steps.{IsInPool, MayLeave}

@@ -13,7 +13,7 @@ use Rattle.mask_writer.specs.Masks.{Masks}
 use Rattle.mask_writer.specs.Standing.{masks_of, StandsAt}
 use Rattle.hook_law.specs.Standing.{IsIn, IsMaskAt}
 use Rattle.hook_meaning.specs.Blocks.{hook_codec}
-use Rattle.number_pools.specs.Numbers.{PoolNumbers}
+use Rattle.desk_pools.specs.OfNumbers.Numbers.{PoolNumbers}
 use Rattle.root_pool_laws.proofs.Apart.{in_append, in_right}
 use Rattle.desk_pools.specs.declared.pools.Pools.{Pools}
 use Rattle.root_pool_laws.specs.Blocks.{IsLeft}

@@ -12,7 +12,7 @@ use Rattle.hook_law.specs.Standing.{IsIn}
 use Rattle.hook_meaning.specs.Stated.{hook_meaning}
 use Rattle.hook_meaning.proofs.States.{state_is, sound_after}
 use Rattle.hook_store_law.specs.OfEdits.Premises.{now}
-use Rattle.number_pools.specs.Numbers.{PoolNumbers}
+use Rattle.desk_pools.specs.OfNumbers.Numbers.{PoolNumbers}
 use Rattle.desk_pools.specs.Steps.{IsInPool}
 use Rattle.desk_actions.specs.OfLedgers.Kept.{commits, base}
 use Rattle.desk_actions.specs.Places.{Placed, slot_of, AreHereFor}

@@ -16,7 +16,7 @@ use Rattle.filter_state.proofs.Pairs.{found}
 use Rattle.hook_meaning.specs.OfEffects.Parts.{Stands, filters_of, without}
 use Rattle.hook_meaning.proofs.OfEffects.Deleting.{filter_deleted}
 use Rattle.desk_needs.specs.Live.{count_of}
-use Rattle.desk_need_laws.proofs.Counted.{counted, one_less}
+use Rattle.desk_needs.proofs.OfEditNeeds.Counted.{counted, one_less}
 
 some_passes : (test : Row → Bool) (rows : List Row) → 1 ≤ length (filter test rows) → list_any test rows ≡ true
 some_passes test [] many = absurd (omega (arith, many))

@@ -17,7 +17,7 @@ use Rattle.state_laws.proofs.Answers.{not_refused, not_not, neither}
 use Rattle.hook_meaning.proofs.OfEffects.Accepted.{not_unless}
 use Rattle.filter_state.specs.Journals.{state_after}
 use Rattle.hook_store_law.specs.OfEdits.Premises.{now, IsAccepted}
-use Rattle.live_count_laws.proofs.NoFilter.{made_by_change, changed}
+use Rattle.desk_needs.proofs.OfLiveCounts.NoFilter.{made_by_change, changed}
 use Rattle.desk_needs.specs.Needs.{made, nothing, needs_from, needs_of}
 use Rattle.desk_actions.specs.Kinds.{IsMaking, IsChanging}
 use Rattle.desk_parts.specs.OfPlainEdits.Kinds.{IsOfQdisc}

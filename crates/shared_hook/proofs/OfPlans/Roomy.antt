@@ -3,7 +3,7 @@ use Rattle.std.proofs.Common.{◌≡◌, ◌≢◌, ℕ, ◌+◌, ◌-◌, ◌*�
 use Rattle.std.proofs.lemmas.Bool.Decides.{nat_tests}
 use Rattle.std.specs.Prelude.{not, vec_capacity, if◌then◌else◌, nat_le}
 use Rattle.flow_mask.specs.Sizes.{size_of}
-use Rattle.desk_need_laws.specs.Told.{blocks_anew, rows_anew, laid, laid_rows}
+use Rattle.desk_needs.specs.OfEditNeeds.Told.{blocks_anew, rows_anew, laid, laid_rows}
 use Rattle.shared_hook.specs.declared.desk_edits.room.Room.{Room}
 use Rattle.shared_hook.specs.OfDeskEdits.Spent.{HasRoom}
 use Rattle.desk_parts.specs.declared.ways.way.Way.{Way}

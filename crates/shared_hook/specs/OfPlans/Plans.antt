@@ -11,7 +11,7 @@ use Rattle.filter_state.specs.declared.refusal.Done.{Done}
 use Rattle.filter_state.specs.Actions.{is_live}
 use Rattle.filter_lists.specs.Ready.{Ready}
 use Rattle.hook_store_law.specs.OfEdits.Premises.{now, next, IsOfFilters, IsAccepted}
-use Rattle.desk_need_laws.specs.Told.{blocks_anew, rows_anew}
+use Rattle.desk_needs.specs.OfEditNeeds.Told.{blocks_anew, rows_anew}
 use Rattle.desk_actions.specs.Kinds.{IsMaking, IsChanging}
 use Rattle.desk_parts.specs.OfLineActions.Gone.{NamesGone}
 use Rattle.desk_actions.specs.OfLedgers.Kept.{commits, base}

@@ -8,7 +8,7 @@ ghost use Rattle.filter_state.specs.declared.refusal.Done.{Done};
 ghost use Rattle.filter_state.specs.States.{State};
 ghost use Rattle.hook_store_law.specs.OfEdits.Premises.{now, IsAccepted};
 ghost use Rattle.desk_needs.specs.Live.{count_of};
-ghost use Rattle.desk_need_laws.specs.Told.{blocks_anew, rows_anew, laid, laid_rows, laid_masks};
+ghost use Rattle.desk_needs.specs.OfEditNeeds.Told.{blocks_anew, rows_anew, laid, laid_rows, laid_masks};
 ghost use Rattle.desk_pools.specs.declared.pools.Pools.{Pools};
 ghost use Rattle.desk_pools.specs.Steps.{turned};
 ghost use Rattle.desk_actions.specs.Effects.{IsCounted};

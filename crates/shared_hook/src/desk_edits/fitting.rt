@@ -6,7 +6,7 @@ ghost use Rattle.pin_store.specs.Calls.{sheet_of, IsSeatOf};
 ghost use Rattle.flow_mask.specs.Sizes.{size_of};
 ghost use Rattle.mask_table.specs.declared.mirrors.mirror.KeptMask.{KeptMask};
 ghost use Rattle.mask_writer.specs.Standing.{StandsAt};
-ghost use Rattle.desk_need_laws.specs.Told.{blocks_anew, rows_anew};
+ghost use Rattle.desk_needs.specs.OfEditNeeds.Told.{blocks_anew, rows_anew};
 ghost use Rattle.desk_actions.specs.OfLedgers.Kept.{commits};
 ghost use Rattle.desk_actions.specs.Effects.{IsCounted};
 ghost use Rattle.desk_parts.specs.Desk.{IsDesk};

@@ -6,7 +6,7 @@ ghost use Rattle.pin_store.specs.Calls.{sheet_of, IsSeatOf};
 ghost use Rattle.filter_state.specs.Lines.{IsLine};
 ghost use Rattle.filter_state.specs.Steps.{step};
 ghost use Rattle.hook_store_law.specs.OfEdits.Premises.{now, next};
-ghost use Rattle.desk_need_laws.specs.Told.{blocks_anew, rows_anew};
+ghost use Rattle.desk_needs.specs.OfEditNeeds.Told.{blocks_anew, rows_anew};
 ghost use Rattle.desk_actions.specs.OfLedgers.Kept.{commits};
 ghost use Rattle.desk_actions.specs.Effects.{IsCounted};
 ghost use Rattle.desk_parts.specs.OfLineActions.Gone.{NamesGone};

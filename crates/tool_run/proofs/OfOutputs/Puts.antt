@@ -1,7 +1,7 @@
 -- Files that are put behind others.
 use Rattle.std.proofs.Common.{ℕ, List, [], ◌∷◌, ◌++◌, Option, Some, None, refl, sym, subst, inl, inr}
 use Rattle.tc_base.specs.Outside.{Held, OthersStay}
-use Rattle.gen_run.specs.Generated.{MadeFile}
+use Rattle.tool_run.specs.OfGenerated.Generated.{MadeFile}
 use Rattle.tool_run.specs.OfOutputs.Puts.{ArePut, ArePutUpTo}
 
 -- more files are put behind those that were

@@ -4,7 +4,7 @@ use Rattle.std.specs.Prelude.{List, [], ◌∷◌, ◌++◌, drop, Option, Some,
 use Rattle.tc_base.specs.declared.hook.Hook.{Hook}
 use Rattle.pcap_io.specs.declared.capture.Capture.{Capture}
 use Rattle.pcap_io.specs.Written.{capture_bytes}
-use Rattle.gen_run.specs.Generated.{MadeFile}
+use Rattle.tool_run.specs.OfGenerated.Generated.{MadeFile}
 use Rattle.job_lines.specs.declared.job.CaptureName.{CaptureName}
 use Rattle.job_lines.specs.declared.job.Round.{Round}
 use Rattle.run_report.specs.declared.outcomes.Outcome.{Outcome}

@@ -1,7 +1,7 @@
 -- Files that are put one after the other, where two may have one name: then the later stands.
 use Rattle.std.specs.Prelude.{◌≡◌, ◌⊎◌, List, [], ◌∷◌, Option}
 use Rattle.tc_base.specs.Outside.{Held, Stands, OthersStay}
-use Rattle.gen_run.specs.Generated.{MadeFile}
+use Rattle.tool_run.specs.OfGenerated.Generated.{MadeFile}
 
 -- all of them were put, in order: what was held before, and what is held then
 abbrev pub ArePut : Option Held → Option Held → List MadeFile → Type 0

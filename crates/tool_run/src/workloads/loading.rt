@@ -4,9 +4,9 @@ ghost use Rattle.std.specs.Prelude.{◌≡◌, ◌≤◌, IfOk};
 ghost use Rattle.lawful_runs.specs.Given.{IsLoaded};
 ghost use Rattle.tool_run.specs.Workloads.{workload_of};
 
+use crate::generated::capture_of;
 use crate::workloads::job::made_job;
 use gen_files::gen_batch;
-use gen_run::capture_of;
 use lawful_runs::{Captures, LoadedJob};
 use std::alloc::Global;
 use tc_base::{Bytes, Files, NoMemory};

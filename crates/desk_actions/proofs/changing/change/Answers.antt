@@ -19,7 +19,7 @@ use Rattle.desk_actions.specs.OfLedgers.Kept.{commits, base}
 use Rattle.action_plan.specs.Entries.{actions_of}
 use Rattle.block_codec.specs.declared.action.StoredAction.{StoredAction}
 use Rattle.block_codec.specs.Actions.{IsStorableAction}
-use Rattle.action_roots.specs.Records.{action_commit}
+use Rattle.desk_actions.specs.OfRoots.Records.{action_commit}
 use Rattle.hook_store_law.specs.Kept.{KeepsHook}
 use Rattle.root_pool_laws.specs.Blocks.{IsLeft}
 use Rattle.desk_pools.specs.Steps.{IsInPool}

@@ -3,7 +3,7 @@ use Rattle.store_history.specs.declared.history.Commit.{Commit}
 use Rattle.filter_state.specs.declared.edit.Edit.{Edit}
 use Rattle.store_history.specs.History.{edits_of}
 use Rattle.hook_law.proofs.Growing.{edits_more}
-use Rattle.number_pools.specs.Numbers.{PoolNumbers}
+use Rattle.desk_pools.specs.OfNumbers.Numbers.{PoolNumbers}
 use Rattle.desk_actions.specs.Effects.{IsCounted}
 use Rattle.desk_actions.proofs.Counted.{gave}
 use Rattle.filter_state.specs.States.{Action}

@@ -2,8 +2,8 @@ use Rattle.std.proofs.Common.{◌∙◌, ℕ, ◌+◌, List, Some, refl, sym, ap
 use Rattle.store_history.specs.declared.history.Commit.{Commit}
 use Rattle.store_history.specs.History.{edits_of}
 use Rattle.hook_law.proofs.Growing.{edits_more}
-use Rattle.number_pools.specs.Numbers.{PoolNumbers}
-use Rattle.action_roots.specs.Records.{action_commit}
+use Rattle.desk_pools.specs.OfNumbers.Numbers.{PoolNumbers}
+use Rattle.desk_actions.specs.OfRoots.Records.{action_commit}
 use Rattle.desk_actions.specs.Effects.{IsCounted}
 use Rattle.desk_actions.proofs.Counted.{took, blocks_kept}
 use Rattle.pin_store.specs.Calls.{seen_by, sheet_of}

@@ -3,7 +3,7 @@ use Rattle.std.specs.Prelude.{find}
 use Rattle.filter_index.specs.Listed.{FilterRoom, has_key}
 use Rattle.filter_tables.specs.Seen.{plain_table}
 use Rattle.filter_tables.specs.SeenMask.{plain_mask}
-use Rattle.row_lookup_laws.specs.Asked.{unless_left_out}
+use Rattle.row_laws.specs.OfLookups.Asked.{unless_left_out}
 use Rattle.hook_lists.proofs.Asked.{IsAt, existing, exists_found, exists_unmasked, exists_nowhere}
 use Rattle.hook_lists.proofs.Sought.{place_within}
 use Rattle.hook_lists.proofs.questions.check_match.Goals as goal

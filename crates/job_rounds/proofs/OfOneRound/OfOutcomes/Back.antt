@@ -9,7 +9,7 @@ use Rattle.lawful_runs.specs.Given.{Arrival}
 use Rattle.lawful_runs.specs.Outcomes.{AreWalked}
 use Rattle.lawful_runs.specs.OfLogs.Logs.{LogRow, AreRows, AreLogs, ArePlaced}
 use Rattle.lawful_runs.proofs.OfLogs.Logged.{round_walked}
-use Rattle.worker_walk.specs.Walked.{journal_of}
+use Rattle.worker_rounds.specs.OfWalks.Walked.{journal_of}
 use Rattle.job_rounds.specs.OfOneRound.OfOutcomes.Met.{AreBack}
 
 -- over a longer journal

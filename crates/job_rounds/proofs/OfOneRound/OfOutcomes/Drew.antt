@@ -7,7 +7,7 @@ use Rattle.step_counts.specs.Drawn.{Drawn, IsDrawnTo, numbers_in, deeds_in}
 use Rattle.step_counts.proofs.EachOnce.{each_once}
 use Rattle.atomic_table.specs.Seated.{TableId}
 use Rattle.lawful_runs.specs.OfLogs.Logs.{LogRow}
-use Rattle.walk_logs.specs.Rows.{numbers_of}
+use Rattle.worker_rounds.specs.OfLogs.Rows.{numbers_of}
 use Rattle.job_rounds.specs.OfOneRound.OfOutcomes.Draws.{AreDrawn, with_seats, deeds_of}
 use Rattle.job_rounds.proofs.OfOneRound.OfOutcomes.Giving.{AreApart}
 

@@ -4,7 +4,7 @@ use Rattle.std.specs.List.{AllByRecursion, slice_get}
 use Rattle.std.proofs.lemmas.List.{length-map}
 use Rattle.step_counts.specs.Seats.{Holding}
 use Rattle.lawful_runs.specs.OfLogs.Logs.{LogRow}
-use Rattle.walk_logs.specs.Rows.{numbers_of}
+use Rattle.worker_rounds.specs.OfLogs.Rows.{numbers_of}
 use Rattle.worker_rounds.specs.Worked.{HasDrawn}
 use Rattle.job_rounds.specs.OfOneRound.OfOutcomes.Draws.{AreDrawn, IsRising, deeds_of}
 

@@ -4,7 +4,7 @@ use Rattle.std.specs.List.{AllByRecursion, AllZip, flat_map}
 use Rattle.atomic_table.specs.Seated.{TableId}
 use Rattle.step_counts.specs.Seats.{Holding, with_seat}
 use Rattle.lawful_runs.specs.OfLogs.Logs.{LogRow}
-use Rattle.walk_logs.specs.Rows.{numbers_of}
+use Rattle.worker_rounds.specs.OfLogs.Rows.{numbers_of}
 use Rattle.worker_rounds.specs.Worked.{HasDrawn}
 
 -- one of so many seats of a making, with its own share alone

@@ -3,7 +3,7 @@ ghost use Rattle.std.specs.Prelude.{◌≡◌, ℕ, ◌<◌, ◌^◌, List, leng
 ghost use Rattle.std.specs.List.{AllByRecursion, flat_map};
 ghost use Rattle.step_counts.specs.Claims.{HasEachBelow};
 ghost use Rattle.lawful_runs.specs.OfLogs.Logs.{LogRow};
-ghost use Rattle.walk_logs.specs.Rows.{numbers_of};
+ghost use Rattle.worker_rounds.specs.OfLogs.Rows.{numbers_of};
 ghost use Rattle.job_rounds.specs.OfOneRound.OfOutcomes.Draws.{AreAllSeats, AreDrawn, deeds_of, with_seats};
 
 use step_counts::{ClaimSeat, Claims};

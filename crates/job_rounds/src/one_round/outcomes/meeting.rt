@@ -3,7 +3,7 @@ ghost use Rattle.std.specs.Prelude.{◌≡◌, All};
 ghost use Rattle.std.specs.List.{AllZip};
 ghost use mathlib.Core.List.{IsPrefix};
 ghost use Rattle.pin_store.specs.Calls.{seen_by, IsSeatOf};
-ghost use Rattle.worker_walk.specs.Walked.{journal_of};
+ghost use Rattle.worker_rounds.specs.OfWalks.Walked.{journal_of};
 ghost use Rattle.job_rounds.specs.OfRoundState.Views.{journal};
 ghost use Rattle.job_rounds.specs.OfOneRound.OfOutcomes.Met.{IsSameDesk, IsSameWorker};
 

@@ -7,7 +7,7 @@ ghost use Rattle.step_counts.specs.Claims.{HasEachBelow};
 ghost use Rattle.lawful_runs.specs.Given.{Arrival};
 ghost use Rattle.lawful_runs.specs.Outcomes.{AreWalked};
 ghost use Rattle.lawful_runs.specs.OfLogs.Logs.{ArePlaced};
-ghost use Rattle.walk_logs.specs.Rows.{numbers_of};
+ghost use Rattle.worker_rounds.specs.OfLogs.Rows.{numbers_of};
 ghost use Rattle.job_rounds.specs.OfOneRound.OfOutcomes.Draws.{AreAllSeats, AreDrawn, IsRising};
 ghost use Rattle.job_rounds.specs.OfOneRound.OfOutcomes.Met.{AreBack};
 
@@ -16,7 +16,7 @@ use run_report::Outcomes;
 use std::alloc::Global;
 use step_counts::{ClaimSeat, Claims};
 use tc_base::NoMemory;
-use walk_logs::{WalkLog, put_together};
+use worker_rounds::logs::{WalkLog, put_together};
 
 /// The outcomes of a round, from the logs of its workers and the seats at which they drew, which are all the
 /// seats of one set of claims.

@@ -1,7 +1,7 @@
 use Rattle.std.proofs.Common.{◌≡◌, ◌∙◌, slice_set, subst}
 use Rattle.store_history.specs.History.{root_of}
 use Rattle.pin_store.specs.Calls.{seen_by}
-use Rattle.kept_things.specs.Places.{place_of, kept_as}
+use Rattle.kept_records.specs.OfThings.Places.{place_of, kept_as}
 use Rattle.kept_records.proofs.renewing.read_action.Goals as goal
 
 pub returns-clause-places : goal.returns-clause-places

@@ -13,7 +13,7 @@ use Rattle.filter_tables.specs.Room.{AreRising}
 use Rattle.filter_tables.specs.Whole.{AreWhole}
 use Rattle.filter_tables.specs.Rows.{tables_on}
 use Rattle.hook_lists.specs.States.{both_of}
-use Rattle.row_lookup_laws.proofs.Found.{whole_on}
+use Rattle.row_laws.proofs.OfLookups.Found.{whole_on}
 use Rattle.plain_walk.proofs.Following.{heads_from, heads_more, none_behind}
 use Rattle.plain_walk.proofs.chains.walk_chain.Goals as goal
 

@@ -1,5 +1,5 @@
 use Rattle.std.proofs.Common.{◌+◌, length, drop}
-use Rattle.line_cut_laws.specs.Cuts.{cut}
+use Rattle.report_laws.specs.OfLineCuts.Cuts.{cut}
 use Rattle.report_check.proofs.LastLines.{is_lawful, too_many}
 use Rattle.report_check.proofs.rechecking.ended_at.Goals as goal
 

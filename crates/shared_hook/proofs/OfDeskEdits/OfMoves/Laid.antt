@@ -33,7 +33,7 @@ use Rattle.hook_store_law.specs.OfEdits.Premises.{now, next}
 use Rattle.root_pool_laws.proofs.Apart.{in_left}
 use Rattle.desk_heads.specs.OfHeadCommits.Raised.{IsReady, IsSpareRoot, CanRaise}
 use Rattle.desk_heads.specs.OfHeadCommits.Built.{IsBuilt}
-use Rattle.number_pools.specs.Numbers.{PoolNumbers}
+use Rattle.desk_pools.specs.OfNumbers.Numbers.{PoolNumbers}
 use Rattle.desk_pools.specs.declared.pools.Pools.{Pools}
 use Rattle.desk_pools.specs.Pools.{ArePools}
 use Rattle.desk_pools.specs.Steps.{IsInPool}

@@ -10,7 +10,7 @@ use Rattle.filter_tables.specs.Rows.{tables_on, row_of}
 use Rattle.hook_lists.specs.declared.kept.Kept.{Kept}
 use Rattle.hook_lists.specs.States.{both_of, AreKept}
 use Rattle.filter_lists.specs.Spells.{Spells}
-use Rattle.order_laws.proofs.Same.{order_same}
+use Rattle.state_laws.proofs.OfOrder.Same.{order_same}
 use Rattle.head_laws.specs.Heads.{head_of}
 use Rattle.head_laws.proofs.MaskRows.{mask_rows}
 use Rattle.hook_meaning.specs.OfEffects.Parts.{filter_of}

@@ -14,7 +14,7 @@ use Rattle.filter_state.specs.Sound.{Sound, IsRow}
 use Rattle.filter_state.specs.Tables.{mask_row, mask_or_next}
 use Rattle.filter_state.specs.Steps.{step}
 use Rattle.filter_state.proofs.Pairs.{each_weaker}
-use Rattle.row_lookup_laws.proofs.Heads.{filter_none}
+use Rattle.row_laws.proofs.OfLookups.Heads.{filter_none}
 use Rattle.hook_meaning.specs.OfEffects.Parts.{Stands, words_of}
 use Rattle.mask_table.specs.declared.mirrors.mirror.KeptMask.{KeptMask}
 use Rattle.mask_writer.proofs.Standing.{one_mask}

@@ -25,7 +25,7 @@ use Rattle.hook_store_law.specs.OfEdits.Premises.{named_row}
 use Rattle.hook_store_law.proofs.OfEdits.Words.{own_words}
 use Rattle.desk_heads.proofs.OfHeadCommits.Standing.{filters_stand}
 use Rattle.desk_needs.specs.Live.{count_of}
-use Rattle.desk_need_laws.proofs.Counted.{counted, one_more, one_less}
+use Rattle.desk_needs.proofs.OfEditNeeds.Counted.{counted, one_more, one_less}
 use Rattle.shared_hook.proofs.OfDeskEdits.Found.{counts}
 use Rattle.shared_hook.specs.OfDeskEdits.OfMoves.Tells.{IsMaskIn}
 

@@ -4,8 +4,8 @@ use Rattle.std.specs.Prelude.{sum_by, if◌then◌else◌}
 use Rattle.tc_base.specs.declared.hook.Hook.{Hook}
 use Rattle.tc_base.specs.declared.hook.Hook.TheVariants as hooks
 use Rattle.flow_mask.specs.Sizes.{size_of}
-use Rattle.number_pools.specs.Numbers.{PoolNumbers}
-use Rattle.desk_need_laws.specs.Told.{laid, laid_rows, laid_masks}
+use Rattle.desk_pools.specs.OfNumbers.Numbers.{PoolNumbers}
+use Rattle.desk_needs.specs.OfEditNeeds.Told.{laid, laid_rows, laid_masks}
 use Rattle.desk_pools.specs.declared.pools.Pools.{Pools}
 use Rattle.desk_pools.specs.Steps.{turned}
 use Rattle.desk_actions.specs.Effects.{IsCounted}

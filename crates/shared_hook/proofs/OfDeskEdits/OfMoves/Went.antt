@@ -49,7 +49,7 @@ use Rattle.desk_heads.specs.OfHeadCommits.Raised.{IsReady}
 use Rattle.desk_heads.specs.OfHeadCommits.Built.{IsBuilt, IsConcerned}
 use Rattle.desk_heads.proofs.OfHeadCommits.Places.{root_has, has_named}
 use Rattle.desk_heads.proofs.OfHeadCommits.Standing.{standing, stands_on}
-use Rattle.number_pools.specs.Numbers.{PoolNumbers}
+use Rattle.desk_pools.specs.OfNumbers.Numbers.{PoolNumbers}
 use Rattle.desk_pools.specs.declared.pools.Pools.{Pools}
 use Rattle.desk_pools.specs.Pools.{ArePools}
 use Rattle.desk_pools.specs.Steps.{IsInPool, turned}

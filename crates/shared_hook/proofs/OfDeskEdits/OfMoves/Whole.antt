@@ -11,7 +11,7 @@ use Rattle.filter_state.specs.declared.refusal.Done.{Done}
 use Rattle.mask_table.proofs.OfMirrors.Keeping.{same_base}
 use Rattle.miniq_pair.proofs.Placing.{same_cells}
 use Rattle.hook_store_law.specs.OfEdits.Premises.{now}
-use Rattle.number_pools.specs.Numbers.{PoolNumbers}
+use Rattle.desk_pools.specs.OfNumbers.Numbers.{PoolNumbers}
 use Rattle.desk_needs.specs.declared.needs.Needs.{Needs}
 use Rattle.desk_pools.specs.declared.pools.Pools.{Pools}
 use Rattle.desk_pools.specs.Steps.{turned}

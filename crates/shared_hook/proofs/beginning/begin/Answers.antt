@@ -8,7 +8,7 @@ use Rattle.hook_store_law.specs.OfEdits.Premises.{now, next}
 use Rattle.desk_actions.specs.OfLedgers.Kept.{commits}
 use Rattle.desk_parts.specs.declared.parts.Parts.{Parts}
 use Rattle.desk_parts.specs.Desk.{IsDesk}
-use Rattle.desk_room_laws.proofs.Lines.{few_made}
+use Rattle.desk_needs.proofs.OfRoom.Lines.{few_made}
 use Rattle.shared_hook.specs.Begun.{IsBegun}
 use Rattle.shared_hook.proofs.Beginnings.{roomier_desk, accepted_of, no_memory}
 use Rattle.shared_hook.proofs.beginning.begin.Goals as goal

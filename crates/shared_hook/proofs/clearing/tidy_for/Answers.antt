@@ -2,7 +2,7 @@ use Rattle.std.proofs.Common.{◌∙◌, refl, sym, subst}
 use Rattle.pin_store.specs.declared.scan.Scan.{Scan}
 use Rattle.pin_store.specs.Calls.{sheet_of}
 use Rattle.hook_store_law.specs.OfEdits.Premises.{now}
-use Rattle.desk_tidy.specs.Tidied.{IsTwiceIn}
+use Rattle.desk_pools.specs.OfTidying.Tidied.{IsTwiceIn}
 use Rattle.desk_actions.specs.OfLedgers.Kept.{commits}
 use Rattle.shared_hook.specs.declared.counts.PoolCounts.{PoolCounts}
 use Rattle.shared_hook.specs.Short.{IsShort}

@@ -1,6 +1,6 @@
 -- Room for a mask that is laid anew (this project's own).
 use Rattle.std.specs.Prelude.{◌≡◌, ℕ, ◌≤◌, [], vec_capacity}
-use Rattle.desk_need_laws.specs.Told.{laid, laid_rows}
+use Rattle.desk_needs.specs.OfEditNeeds.Told.{laid, laid_rows}
 use Rattle.shared_hook.specs.OfDeskEdits.Spent.{HasRoom}
 use Rattle.shared_hook.specs.declared.desk_edits.moves.mask_room.MaskRoom.{MaskRoom}
 

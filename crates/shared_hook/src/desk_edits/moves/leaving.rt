@@ -2,7 +2,7 @@
 ghost use Rattle.std.specs.Prelude.{◌≡◌, ◌≤◌, ◌<◌, ◌+◌, ◌-◌, ◌^◌, ◌∷◌, ℕ, [], length, true};
 ghost use Rattle.pin_store.specs.Calls.{IsSeatOf};
 ghost use Rattle.filter_state.specs.declared.limits.TheConstants.{FILTERS_MAX};
-ghost use Rattle.desk_need_laws.specs.Told.{laid, laid_rows, laid_masks};
+ghost use Rattle.desk_needs.specs.OfEditNeeds.Told.{laid, laid_rows, laid_masks};
 ghost use Rattle.desk_actions.specs.OfLedgers.Kept.{commits};
 ghost use Rattle.desk_actions.specs.Effects.{IsCounted};
 ghost use Rattle.desk_parts.specs.declared.parts.Parts.{Parts as TheParts};

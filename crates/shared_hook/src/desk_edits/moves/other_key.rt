@@ -7,7 +7,7 @@ ghost use Rattle.filter_state.specs.declared.limits.TheConstants.{FILTERS_MAX};
 ghost use Rattle.filter_state.specs.Lines.{IsLine};
 ghost use Rattle.filter_state.specs.Steps.{step};
 ghost use Rattle.hook_store_law.specs.OfEdits.Premises.{now, next};
-ghost use Rattle.desk_need_laws.specs.Told.{laid, laid_rows, laid_masks};
+ghost use Rattle.desk_needs.specs.OfEditNeeds.Told.{laid, laid_rows, laid_masks};
 ghost use Rattle.desk_pools.specs.Steps.{turned};
 ghost use Rattle.desk_actions.specs.OfLedgers.Kept.{commits};
 ghost use Rattle.desk_actions.specs.Effects.{IsCounted};

@@ -7,7 +7,7 @@ ghost use Rattle.miniq_pair.specs.Heads.{hook_number};
 ghost use Rattle.hook_meaning.specs.Stated.{tables_at};
 ghost use Rattle.hook_store_law.specs.OfEdits.Premises.{next};
 ghost use Rattle.desk_heads.specs.OfHeadCommits.Listed.{HasSerial};
-ghost use Rattle.desk_need_laws.specs.Told.{laid, laid_rows, laid_masks};
+ghost use Rattle.desk_needs.specs.OfEditNeeds.Told.{laid, laid_rows, laid_masks};
 ghost use Rattle.desk_actions.specs.OfLedgers.Kept.{commits};
 ghost use Rattle.desk_actions.specs.Effects.{IsCounted};
 ghost use Rattle.desk_parts.specs.declared.parts.Parts.{Parts as TheParts};

@@ -3,7 +3,7 @@ use Rattle.act_kinds.specs.declared.params.Params.{Params}
 use Rattle.act_registry.specs.Kept as registries
 use Rattle.filter_state.specs.States.{State}
 use Rattle.hook_lists.specs.States.{state_of}
-use Rattle.order_laws.proofs.States.{same_state_refl}
+use Rattle.state_laws.proofs.OfOrder.States.{same_state_refl}
 use Rattle.hook_meaning.specs.OfEffects.Parts.{params_at}
 use Rattle.slot_pasts.specs.Pasts.{stood}
 use Rattle.state_past.specs.Serials.{past_at, serials_from}

@@ -1,7 +1,7 @@
 use Rattle.std.proofs.Common.{◌∙◌, ℕ, sym, ap}
 use Rattle.hook_lists.specs.States.{state_of}
-use Rattle.order_laws.proofs.States.{same_state_refl}
-use Rattle.past_change_laws.specs.Serials.{serial_named}
+use Rattle.state_laws.proofs.OfOrder.States.{same_state_refl}
+use Rattle.state_past_laws.specs.OfChanges.Serials.{serial_named}
 use Rattle.state_past.specs.Told.{named_in}
 use Rattle.state_past.proofs.following.named_before.Goals as goal
 

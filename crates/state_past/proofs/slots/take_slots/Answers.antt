@@ -3,7 +3,7 @@ use Rattle.std.specs.Str.{bytes_eq}
 use Rattle.std.proofs.lemmas.Slice.Eq.{bytes_eq-Decides}
 use Rattle.slot_pasts.specs.Pasts.{stood}
 use Rattle.slot_pasts.specs.Names.{past_of}
-use Rattle.filters_going.specs.declared.going.GoingFilter.{GoingFilter}
+use Rattle.state_past.specs.declared.gone_filters.going.GoingFilter.{GoingFilter}
 use Rattle.state_past.specs.Brought.{Brought}
 use Rattle.state_past.specs.Told.{named_slot}
 use Rattle.state_past.proofs.Bringing.{names, brought_up_to, brought_put, brought_then, brought_keys, map_more}

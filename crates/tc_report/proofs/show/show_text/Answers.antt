@@ -3,7 +3,7 @@ use Rattle.std.specs.Prelude.{if◌then◌else◌}
 use Rattle.std.specs.List.{flat_map}
 use Rattle.action_plan.specs.Entries.{actions_of}
 use Rattle.tc_print.specs.EditWords.{qdisc_words}
-use Rattle.row_order_laws.specs.Sorted.{sorted}
+use Rattle.row_laws.specs.OfOrder.Sorted.{sorted}
 use Rattle.tc_report.specs.Show.{text_line, action_before, action_shown}
 use Rattle.tc_report.proofs.ShownState.{shown_kept}
 use Rattle.tc_report.proofs.show.show_text.Goals as goal

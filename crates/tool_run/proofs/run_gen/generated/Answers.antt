@@ -7,7 +7,7 @@ use Rattle.pcap_io.specs.Written.{capture_bytes}
 use Rattle.walk_texts.specs.declared.summary.Summary.{Summary}
 use Rattle.run_report.specs.declared.rounds.RoundRecord.{RoundRecord}
 use Rattle.run_report.specs.Counts.{events_in, packets_in, summary_of}
-use Rattle.gen_run.specs.Generated.{capture_of}
+use Rattle.tool_run.specs.OfGenerated.Generated.{capture_of}
 use Rattle.tool_run.specs.OfOutputs.Outputs.{passed_capture}
 use Rattle.tool_run.specs.OfOutputs.Ready.{AreWalks}
 use Rattle.tool_run.proofs.MadeRuns.{comes_to, few_in, only_capture, walks_of, same_output, any_refused}

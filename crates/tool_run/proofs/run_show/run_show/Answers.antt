@@ -1,7 +1,7 @@
 use Rattle.std.proofs.Common.{◌∙◌, ℕ, List, Err, inr, sym, ap, subst}
 use Rattle.std.proofs.lemmas.Result.{err_from_is_err_and}
 use Rattle.tool_words.specs.Command.{Show}
-use Rattle.input_files.specs.Holdings.{Holds}
+use Rattle.job_files.specs.OfInputs.Holdings.{Holds}
 use Rattle.tool_run.proofs.Writing.{put_caused, show_ends}
 use Rattle.tool_run.proofs.run_show.run_show.Goals as goal
 

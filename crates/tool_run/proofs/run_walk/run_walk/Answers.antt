@@ -7,7 +7,7 @@ use Rattle.batch_run.specs.Commands.{commands_in}
 use Rattle.batch_walk.specs.Walked.{told_text}
 use Rattle.tool_words.specs.Requests.{names_seen, walk_of}
 use Rattle.tool_words.specs.Ends.{status_after}
-use Rattle.input_files.specs.Holdings.{Holds, HasCapture}
+use Rattle.job_files.specs.OfInputs.Holdings.{Holds, HasCapture}
 use Rattle.tool_run.specs.Holdings.{Gives}
 use Rattle.tool_run.proofs.Walking.{walk_gives, walked_so_far}
 use Rattle.tool_run.proofs.Writing.{walk_ends, delivery_caused}

@@ -2,7 +2,7 @@ use Rattle.std.proofs.Common.{sym, subst, refl}
 use Rattle.pcap_io.specs.Places.{packet_of}
 use Rattle.run_report.specs.Kept.{outcome_seen}
 use Rattle.lawful_runs.specs.Given.{Arrival}
-use Rattle.walk_logs.specs.Rows.{row_of}
+use Rattle.worker_rounds.specs.OfLogs.Rows.{row_of}
 use Rattle.worker_rounds.specs.Worked.{arrivals_of, IsWorked}
 use Rattle.worker_rounds.proofs.Recorded.{walked_of}
 use Rattle.worker_rounds.proofs.Further.{one_more, arrival_at, ok_then}

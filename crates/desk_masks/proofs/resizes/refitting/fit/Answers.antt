@@ -2,7 +2,7 @@ use Rattle.std.proofs.Common.{ℕ, sym, ap, subst, arith}
 use Rattle.pin_store.specs.Sheets.{base_of}
 use Rattle.pin_store.specs.Calls.{seen_by, sheet_of, IsUnnamed}
 use Rattle.hook_law.specs.Standing.{IsIn}
-use Rattle.number_pools.specs.Numbers.{PoolNumbers}
+use Rattle.desk_pools.specs.OfNumbers.Numbers.{PoolNumbers}
 use Rattle.root_pool_laws.specs.Blocks.{IsLeft}
 use Rattle.root_pool_laws.proofs.Apart.{in_right}
 use Rattle.desk_pools.specs.declared.pools.Pools.{Pools}

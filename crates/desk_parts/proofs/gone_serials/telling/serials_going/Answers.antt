@@ -2,7 +2,7 @@ use Rattle.std.proofs.Common.{◌≡◌, ◌∙◌, ℕ, List, Option, Some, Non
 use Rattle.filter_state.specs.States.{State}
 use Rattle.tc_base.specs.declared.hook.Hook.{Hook}
 use Rattle.tc_base.specs.declared.hook.Proto.{Proto}
-use Rattle.order_laws.proofs.First.{pairs_same}
+use Rattle.state_laws.proofs.OfOrder.First.{pairs_same}
 use Rattle.filter_state.specs.Tables.{filter_row}
 use Rattle.hook_lists.specs.declared.kept.Kept.{Kept}
 use Rattle.hook_lists.specs.States.{AreKept}

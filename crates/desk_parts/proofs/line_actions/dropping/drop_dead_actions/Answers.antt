@@ -1,6 +1,6 @@
 use Rattle.std.proofs.Common.{inl, inr, ◌+◌, ◌<◌, length, get_or, refl, sym, ap, subst, arith}
 use Rattle.std.proofs.lemmas.Option.{slice_get-get_or}
-use Rattle.number_pools.specs.Numbers.{PoolNumbers}
+use Rattle.desk_pools.specs.OfNumbers.Numbers.{PoolNumbers}
 use Rattle.desk_pools.specs.declared.pools.Pools.{Pools}
 use Rattle.desk_actions.specs.Places.{Placed}
 use Rattle.desk_parts.proofs.OfLineActions.Going.{DropLoop}

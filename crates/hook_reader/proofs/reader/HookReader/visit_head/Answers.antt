@@ -5,7 +5,7 @@ use Rattle.walk_rules.specs.Questions.{heads_of, told_heads}
 use Rattle.walk_steps.specs.Told.{heads_told}
 use Rattle.miniq_pair.specs.Heads.{head_root}
 use Rattle.hook_law.specs.Meaning.{point_of}
-use Rattle.hook_visit_laws.proofs.Heads.{head_answered, head_masks}
+use Rattle.hook_store_law.proofs.OfVisits.Heads.{head_answered, head_masks}
 use Rattle.hook_reader.specs.Seats.{HookSeat, first_head_of}
 use Rattle.hook_reader.specs.Known.{KnowsMask, KnowsAction}
 use Rattle.hook_reader.specs.Told.{first_of, WalkTold}

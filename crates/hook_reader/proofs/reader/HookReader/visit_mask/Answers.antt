@@ -7,7 +7,7 @@ use Rattle.walk_rules.specs.Questions.{filter_of}
 use Rattle.walk_rules.specs.Answers.{answer_of}
 use Rattle.walk_steps.specs.Told.{filter_told}
 use Rattle.hook_meaning.specs.Told.{state_after_edits}
-use Rattle.hook_visit_laws.specs.Known.{MaskStood, ActionLived}
+use Rattle.hook_store_law.specs.OfVisits.Known.{MaskStood, ActionLived}
 use Rattle.hook_reader.specs.Seats.{HookSeat, first_head_of}
 use Rattle.hook_reader.specs.Known.{KnowsMask, KnowsAction}
 use Rattle.hook_reader.specs.Told.{head_point, WalkTold}

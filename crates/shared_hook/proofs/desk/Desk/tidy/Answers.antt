@@ -4,8 +4,8 @@ use Rattle.pin_store.specs.Calls.{seen_by}
 use Rattle.filter_state.specs.declared.edit.Edit.{Edit}
 use Rattle.hook_store_law.specs.OfEdits.Premises.{now}
 use Rattle.desk_actions.specs.OfLedgers.Kept.{commits}
-use Rattle.desk_tidy.specs.Tidied.{empty_at, emptying}
-use Rattle.desk_tidy.proofs.Emptied.{mapped_at}
+use Rattle.desk_pools.specs.OfTidying.Tidied.{empty_at, emptying}
+use Rattle.desk_pools.proofs.OfTidying.Emptied.{mapped_at}
 use Rattle.shared_hook.specs.Views.{DeskView, count_of, free_in, journal}
 use Rattle.shared_hook.proofs.Rising.{free_rises}
 use Rattle.shared_hook.proofs.Shorts.{counted_on}

@@ -1,6 +1,6 @@
 use Rattle.std.proofs.Common.{◌≡◌, ◌≢◌, ◌∙◌, ℕ, ◌/◌, sym, ap}
 use Rattle.flow_mask.specs.Sizes.{size_of}
-use Rattle.desk_need_laws.specs.Told.{rows_anew}
+use Rattle.desk_needs.specs.OfEditNeeds.Told.{rows_anew}
 use Rattle.shared_hook.proofs.OfDeskEdits.Settled.{desk_settled}
 use Rattle.shared_hook.proofs.OfDeskEdits.Counts.{rows_when, counted_as}
 use Rattle.shared_hook.proofs.desk_edits.fitting.fit_mask.Goals as goal

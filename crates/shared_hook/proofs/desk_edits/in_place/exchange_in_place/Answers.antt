@@ -4,7 +4,7 @@ use Rattle.filter_state.specs.declared.edit.FilterLine.{FilterLine}
 use Rattle.filter_state.specs.States.{State}
 use Rattle.mask_table.proofs.OfMirrors.Keeping.{same_base}
 use Rattle.hook_store_law.specs.OfEdits.Premises.{now, next, named_row}
-use Rattle.number_pools.specs.Numbers.{PoolNumbers}
+use Rattle.desk_pools.specs.OfNumbers.Numbers.{PoolNumbers}
 use Rattle.desk_actions.specs.declared.ledgers.ledger.Ledger.{Ledger}
 use Rattle.desk_actions.specs.OfLedgers.Kept.{commits, base}
 use Rattle.desk_actions.specs.Effects.{IsCounted}

@@ -3,9 +3,9 @@ use Rattle.filter_state.specs.declared.edit.FilterLine.{FilterLine}
 use Rattle.filter_state.specs.States.{State}
 use Rattle.filter_state.specs.Tables.{mask_row}
 use Rattle.flow_mask.specs.Sizes.{size_of}
-use Rattle.number_pools.specs.Numbers.{PoolNumbers}
+use Rattle.desk_pools.specs.OfNumbers.Numbers.{PoolNumbers}
 use Rattle.hook_store_law.specs.OfEdits.Premises.{now, next}
-use Rattle.desk_need_laws.specs.Told.{blocks_anew, rows_anew}
+use Rattle.desk_needs.specs.OfEditNeeds.Told.{blocks_anew, rows_anew}
 use Rattle.desk_actions.specs.OfLedgers.Kept.{commits}
 use Rattle.desk_actions.specs.Effects.{IsCounted}
 use Rattle.shared_hook.specs.OfDeskEdits.Spent.{made_by}

@@ -9,10 +9,10 @@ use Rattle.hook_meaning.specs.OfEffects.Parts.{Stands}
 use Rattle.mask_table.proofs.OfMirrors.Keeping.{same_base}
 use Rattle.hook_meaning.specs.Stated.{filters_at}
 use Rattle.hook_store_law.specs.OfEdits.Premises.{now, next}
-use Rattle.number_pools.specs.Numbers.{PoolNumbers}
+use Rattle.desk_pools.specs.OfNumbers.Numbers.{PoolNumbers}
 use Rattle.desk_masks.specs.OfFilterCommits.Edits.{HasLater}
 use Rattle.desk_needs.specs.Live.{count_of}
-use Rattle.desk_need_laws.specs.Told.{blocks_anew}
+use Rattle.desk_needs.specs.OfEditNeeds.Told.{blocks_anew}
 use Rattle.desk_pools.specs.declared.pools.Pools.{Pools}
 use Rattle.desk_actions.specs.declared.ledgers.ledger.Ledger.{Ledger}
 use Rattle.desk_actions.specs.OfLedgers.Kept.{commits, base}

@@ -1,5 +1,5 @@
 use Rattle.std.proofs.Common.{◌∙◌, ℕ, List, sym, ap, subst}
-use Rattle.number_pools.specs.Numbers.{PoolNumbers}
+use Rattle.desk_pools.specs.OfNumbers.Numbers.{PoolNumbers}
 use Rattle.block_codec.specs.declared.places.TheConstants.{ROW_BUCKETS, BUCKET_ROOTS, MASK_ROOTS}
 use Rattle.pin_store.specs.Calls.{IsUnnamed}
 use Rattle.desk_pools.specs.declared.pools.Pools.{Pools}

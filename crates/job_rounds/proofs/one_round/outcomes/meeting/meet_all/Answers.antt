@@ -3,7 +3,7 @@ use Rattle.std.proofs.lemmas.List.Elements.{All-set}
 use mathlib.Core.List.{IsPrefix}
 use Rattle.pin_store.specs.Calls.{seen_by, IsSeatOf}
 use Rattle.worker_rounds.specs.declared.worker.Worker.{Worker}
-use Rattle.worker_walk.proofs.Reading.{edits_prefix}
+use Rattle.worker_rounds.proofs.OfWalks.Reading.{edits_prefix}
 use Rattle.job_rounds.specs.OfOneRound.OfOutcomes.Met.{IsSameWorker}
 use Rattle.job_rounds.proofs.OfOneRound.OfOutcomes.Meets.{same_desk_self, same_desk_on, same_all, same_set, met_next}
 use Rattle.job_rounds.proofs.one_round.outcomes.meeting.meet_all.Goals as goal

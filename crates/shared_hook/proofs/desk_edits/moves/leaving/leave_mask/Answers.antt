@@ -1,7 +1,7 @@
 use Rattle.std.proofs.Common.{◌≡◌, ℕ, ◌+◌, ◌-◌, ◌≤◌, List, [], ◌∷◌, refl, sym, ap, subst, arith}
 use Rattle.visit_room.specs.declared.names.MaskName.{MaskName}
 use Rattle.hook_store_law.specs.OfEdits.Premises.{now}
-use Rattle.desk_need_laws.specs.Told.{laid, laid_rows, laid_masks}
+use Rattle.desk_needs.specs.OfEditNeeds.Told.{laid, laid_rows, laid_masks}
 use Rattle.desk_actions.specs.OfLedgers.Kept.{commits}
 use Rattle.desk_needs.specs.Live.{count_of}
 use Rattle.shared_hook.proofs.OfDeskEdits.Counts.{counted_as}

@@ -3,8 +3,8 @@ use Rattle.visit_room.specs.declared.names.MaskName.{MaskName}
 use Rattle.filter_state.specs.declared.edit.FilterLine.{FilterLine}
 use Rattle.filter_state.specs.States.{State}
 use Rattle.hook_store_law.specs.OfEdits.Premises.{now}
-use Rattle.number_pools.specs.Numbers.{PoolNumbers}
-use Rattle.desk_need_laws.specs.Told.{laid, laid_rows, laid_masks}
+use Rattle.desk_pools.specs.OfNumbers.Numbers.{PoolNumbers}
+use Rattle.desk_needs.specs.OfEditNeeds.Told.{laid, laid_rows, laid_masks}
 use Rattle.desk_actions.specs.OfLedgers.Kept.{commits}
 use Rattle.desk_actions.specs.Effects.{IsCounted}
 use Rattle.desk_needs.specs.Live.{count_of}

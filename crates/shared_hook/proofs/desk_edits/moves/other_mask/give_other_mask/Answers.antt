@@ -1,8 +1,8 @@
 use Rattle.std.proofs.Common.{◌≡◌, ℕ, ◌+◌, ◌-◌, [], length, Some, sym, ap, subst, arith}
 use Rattle.filter_state.specs.declared.edit.FilterLine.{FilterLine}
 use Rattle.hook_store_law.specs.OfEdits.Premises.{now, named_row}
-use Rattle.number_pools.specs.Numbers.{PoolNumbers}
-use Rattle.desk_need_laws.specs.Told.{laid, laid_rows, laid_masks}
+use Rattle.desk_pools.specs.OfNumbers.Numbers.{PoolNumbers}
+use Rattle.desk_needs.specs.OfEditNeeds.Told.{laid, laid_rows, laid_masks}
 use Rattle.desk_actions.specs.OfLedgers.Kept.{commits}
 use Rattle.desk_actions.specs.Effects.{IsCounted}
 use Rattle.desk_parts.specs.declared.parts.Parts.{Parts as TheParts}

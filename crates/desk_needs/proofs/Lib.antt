@@ -1,0 +1,3 @@
+pub mod OfEditNeeds
+pub mod OfLiveCounts
+pub mod OfRoom

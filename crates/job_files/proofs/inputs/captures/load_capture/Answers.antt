@@ -1,0 +1,10 @@
+use Rattle.std.proofs.lemmas.Result.{IfErr-weaker}
+use Rattle.job_files.proofs.OfInputs.TooMany.{too_many_told}
+use Rattle.job_files.proofs.inputs.captures.load_capture.Goals as goal
+
+pub returns-in-Ok-clause-cause : goal.returns-in-Ok-clause-cause
+returns-in-Ok-clause-cause g c =
+    IfErr-weaker c.within_room.result _ _
+    (too_many_told g.S.Shelf.held g.S.Shelf.read_faults g.S.Shelf.failed_name c.args.shelf.now
+    c.load.new.shelf c.args.room c.args.name.now c.in_ok-bytes.bytes.items c.in-Ok.capture c.in_ok-bytes.ensures.bytes
+    c.in-Ok.ensures.capture) c.within_room.ensures.many

@@ -1,7 +1,0 @@
-use Rattle.std.proofs.Common.{◌≡◌, None, replicate}
-use Rattle.kept_things.proofs.things.KeptThings.with_room.Given as goal
-
-abbrev pub invariant-loop : goal.invariant-loop
-invariant-loop g l = record {
-  empty : l.places.items ≡ replicate l.counter None;
-}

@@ -1,8 +1,0 @@
-use Rattle.live_count_laws.proofs.NoFilter.{rows_kept, counts_kept}
-use Rattle.live_count_laws.proofs.apart.filters_apart.Goals as goal
-
-pub returns-clause-kept : goal.returns-clause-kept
-returns-clause-kept c = rows_kept
-
-pub returns-clause-counts : goal.returns-clause-counts
-returns-clause-counts c = counts_kept

@@ -1,8 +1,0 @@
-use Rattle.std.proofs.Common.{◌≡◌, ◌++◌, take, vec_capacity}
-use Rattle.number_pools.proofs.pool.Pool.free_all.Given as goal
-
-abbrev pub invariant-loop-at : goal.invariant-loop-at
-invariant-loop-at l = record {
-  items : l.free.items ≡ l.initial.free.items ++ take l.at l.left.items;
-  capacity : vec_capacity l.free ≡ vec_capacity l.initial.free;
-}

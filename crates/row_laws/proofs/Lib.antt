@@ -1,0 +1,3 @@
+pub mod OfOrder
+pub mod OfLookups
+pub mod OfChanges

@@ -1,0 +1,2 @@
+pub mod OfOrder
+pub mod OfLookups

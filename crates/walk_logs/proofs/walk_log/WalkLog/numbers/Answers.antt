@@ -1,8 +1,0 @@
-use Rattle.std.proofs.Common.{◌∙◌, sym, ap}
-use Rattle.walk_logs.specs.Rows.{numbers_of}
-use Rattle.walk_logs.proofs.Logged.{numbers_are}
-use Rattle.walk_logs.proofs.walk_log.WalkLog.numbers.Goals as goal
-
-pub returns : goal.returns
-returns c =
-    c.deref.ensures.value ∙ sym (numbers_are c.self.inside.numbers.items c.self.inside.outcomes c.self.invariant) ∙ ap numbers_of c.self.view_is

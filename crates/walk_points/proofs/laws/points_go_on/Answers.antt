@@ -1,8 +1,0 @@
-use Rattle.walk_points.proofs.Pushing.{no_points, points_pushed}
-use Rattle.walk_points.proofs.laws.points_go_on.Goals as goal
-
-pub returns-clause-none : goal.returns-clause-none
-returns-clause-none c = no_points
-
-pub returns-clause-more : goal.returns-clause-more
-returns-clause-more c = points_pushed
