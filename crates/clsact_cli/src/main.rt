@@ -18,6 +18,8 @@ mod gen_job;
 mod run_cases;
 mod run_job;
 #[cfg(test)]
+mod same;
+#[cfg(test)]
 mod tests;
 mod tool;
 mod words;

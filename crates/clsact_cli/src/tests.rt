@@ -4,6 +4,7 @@ mod fault_table;
 mod faults;
 mod gateway;
 
+use crate::same::same;
 use crate::tool::tool;
 use std::alloc::{AllocError, Global};
 use std::sync::Wait;
@@ -103,10 +104,27 @@ fn walk<R: AllocGlobal + Threads + Wait + Sync>(
     batch: &str,
     capture: &[u8],
 ) -> Result<(String, MemShelf, MemSink), Fail> {
+    let fails = numbers(rt.alloc(), &[])?;
     let mut held = shelf(rt.alloc(), batch, capture, &[])?;
-    let mut out = MemSink::new(rt.alloc(), numbers(rt.alloc(), &[])?);
-    let status = run(rt, &WALK, &mut held, &mut out)?;
-    Ok((status, held, out))
+    let mut out = MemSink::new(rt.alloc(), fails);
+    match run(rt, &WALK, &mut held, &mut out) {
+        Ok(status) => Ok((status, held, out)),
+        Err(fail) => {
+            drop((held, out));
+            Err(fail)
+        }
+    }
+}
+
+// The status alone.
+fn status_of<R: AllocGlobal + Threads + Wait + Sync>(
+    rt: &R,
+    batch: &str,
+    capture: &[u8],
+) -> Result<String, Fail> {
+    let (status, held, out) = walk(rt, batch, capture)?;
+    drop((held, out));
+    Ok(status)
 }
 
 // Packet 2 as it stands in a capture.
@@ -116,26 +134,45 @@ fn second(alloc: Global, big: bool) -> Result<Vec<u8>, AllocError> {
     Ok(bytes)
 }
 
+// Whether an output is there, and has this header and these packets.
+fn is_output(output: Option<&[u8]>, header: &[u8], packets: &[u8]) -> bool {
+    output.is_some_and(|output| {
+        output.len() == header.len().saturating_add(packets.len())
+            && output.starts_with(header)
+            && output.ends_with(packets)
+    })
+}
+
+// Whether a walk ends well, with this text, and with an output of this header and these packets.
+fn walks_to<R: AllocGlobal + Threads + Wait + Sync>(
+    rt: &R,
+    batch: &str,
+    capture: &[u8],
+    text: &str,
+    (header, packets): (&[u8], &[u8]),
+) -> Result<bool, Fail> {
+    let (status, held, out) = walk(rt, batch, capture)?;
+    let is_right = status.as_str() == "0 "
+        && out.bytes() == text.as_bytes()
+        && is_output(held.get("output"), header, packets);
+    drop((status, held, out));
+    Ok(is_right)
+}
+
+// Whether the walk of two packets drops the first one.
+fn two_are_walked<R: AllocGlobal + Threads + Wait + Sync>(rt: &R, big: bool) -> Result<bool, Fail> {
+    let capture = two_packets(rt.alloc(), big)?;
+    let packets = second(rt.alloc(), big)?;
+    let header = if big { BIG } else { EMPTY };
+    walks_to(rt, DROP, &capture, TWO, (&header, &packets))
+}
+
 #[test]
 fn walks_write_text_and_capture(rt: HostRuntime) -> Result<(), Fail> {
     let none = "summary edits 1 refused 0 packets 0 passed 0 dropped 0\nend\n";
-    let small = two_packets(rt.alloc(), false)?;
-    let big = two_packets(rt.alloc(), true)?;
-    let small_second = second(rt.alloc(), false)?;
-    let big_second = second(rt.alloc(), true)?;
-    let rows: [(&str, &[u8], &str, &[u8], &[u8]); 3] = [
-        (HOOK, &EMPTY, none, &EMPTY, &[]),
-        (DROP, &small, TWO, &EMPTY, &small_second),
-        (DROP, &big, TWO, &BIG, &big_second),
-    ];
-    for (batch, capture, text, header, packets) in rows {
-        let (status, held, out) = walk(&rt, batch, capture)?;
-        assert_eq!(rt; status.as_str(), "0 ");
-        assert_eq!(rt; out.bytes(), text.as_bytes());
-        let output = held.get("output").ok_or("no output")?;
-        assert!(rt; output.starts_with(header) && output.ends_with(packets));
-        assert_eq!(rt; output.len(), header.len().saturating_add(packets.len()));
-    }
+    assert!(rt; walks_to(&rt, HOOK, &EMPTY, none, (&EMPTY, &[]))?);
+    assert!(rt; two_are_walked(&rt, false)?);
+    assert!(rt; two_are_walked(&rt, true)?);
     Ok(())
 }
 
@@ -149,24 +186,38 @@ fn told_of_cut(alloc: Global, length: usize) -> Result<String, AllocError> {
     }
 }
 
+// Whether a cut capture is told as it has to be, with an output and a text or with none of both.
+fn is_told<R: AllocGlobal + Threads + Wait + Sync>(rt: &R, bytes: &[u8]) -> Result<bool, Fail> {
+    let told = told_of_cut(rt.alloc(), bytes.len())?;
+    let (status, held, out) = walk(rt, DROP, bytes)?;
+    let is_told = status == told && held.get("output").is_none() == out.bytes().is_empty();
+    drop((status, held, out));
+    Ok(is_told)
+}
+
 #[test]
 fn cut_captures_are_told(rt: HostRuntime) -> Result<(), Fail> {
     let bytes = two_packets(rt.alloc(), false)?;
     for length in 0..bytes.len() + 1 {
-        let (status, held, out) = walk(&rt, DROP, &bytes[..length])?;
-        assert_eq!(rt; status.as_str(), told_of_cut(rt.alloc(), length)?.as_str());
-        assert_eq!(rt; held.get("output").is_none(), out.bytes().is_empty());
+        assert!(rt; is_told(&rt, &bytes[..length])?, "cut at {length}");
     }
     Ok(())
 }
 
+// The status for a capture of so many packets without bytes.
+fn status_of_many<R: AllocGlobal + Threads + Wait + Sync>(
+    rt: &R,
+    packets: usize,
+) -> Result<String, Fail> {
+    let mut many = EMPTY.to_vec(rt.alloc())?;
+    many.resize(packets.saturating_mul(16).saturating_add(24), 0)?;
+    status_of(rt, HOOK, &many)
+}
+
 #[test]
 fn many_packets_are_told(rt: HostRuntime) -> Result<(), Fail> {
-    let mut many = EMPTY.to_vec(rt.alloc())?;
-    many.resize(24 + 16 * 1_048_576, 0)?;
-    assert_eq!(rt; walk(&rt, HOOK, &many)?.0.as_str(), "0 ");
-    many.resize(24 + 16 * 1_048_577, 0)?;
+    same(&rt, status_of_many(&rt, 1_048_576)?.as_str(), "0 ");
     let told = "3 bad input capture at 0: TooManyPackets";
-    assert_eq!(rt; walk(&rt, HOOK, &many)?.0.as_str(), told);
+    same(&rt, status_of_many(&rt, 1_048_577)?.as_str(), told);
     Ok(())
 }

@@ -23,8 +23,14 @@ pub(crate) fn new_hook(alloc: Global) -> Result<(HookStore, Desk, HookReader), T
 {
     let (store, desk, mut passes) = make_hook(alloc)?;
     match passes.take() {
-        Some(reader) => Ok((store, desk, reader)),
-        None => Err(Trouble::NoReader),
+        Some(reader) => {
+            drop(passes);
+            Ok((store, desk, reader))
+        }
+        None => {
+            drop((store, desk, passes));
+            Err(Trouble::NoReader)
+        }
     }
 }
 

@@ -17,7 +17,8 @@ use walk_rules::Verdict;
 fn count_taken(mut passes: Passes) -> u32 {
     let mut count = 0u32;
     for _ in 0..9 {
-        if passes.take().is_some() {
+        if let Some(reader) = passes.take() {
+            drop(reader);
             count = count.saturating_add(1);
         }
     }
@@ -25,8 +26,10 @@ fn count_taken(mut passes: Passes) -> u32 {
 }
 
 fn count_readers(alloc: Global) -> Result<u32, Trouble> {
-    let (_store, _desk, passes) = make_hook(alloc)?;
-    Ok(count_taken(passes))
+    let (store, desk, passes) = make_hook(alloc)?;
+    let count = count_taken(passes);
+    drop((store, desk));
+    Ok(count)
 }
 
 // A hook has eight.

@@ -55,23 +55,41 @@ fn edit_once(
     Ok(())
 }
 
-// Applies many random edits, and says when that is over.
+// Applies many random edits.
+fn edit_all(
+    alloc: Global,
+    editor: &mut Editor<'_>,
+    lists: &mut Lists,
+    edited: &mut Edited,
+) -> Result<(), Trouble> {
+    let mut dice = Dice { seed: 7 };
+    for _ in 0..EDITS {
+        edit_once(alloc, &mut dice, editor, lists, edited)?;
+    }
+    Ok(())
+}
+
+// The same, and says when it is over.
 fn edit_often(
     alloc: Global,
     mut editor: Editor<'_>,
     is_over: &AtomicBool,
 ) -> Result<Edited, Trouble> {
-    let mut dice = Dice { seed: 7 };
     let mut lists = Lists::new(alloc);
     let mut edited = Edited {
         journal: Vec::new(alloc),
         agrees: true,
     };
-    for _ in 0..EDITS {
-        edit_once(alloc, &mut dice, &mut editor, &mut lists, &mut edited)?;
-    }
+    let all = edit_all(alloc, &mut editor, &mut lists, &mut edited);
+    drop((editor, lists));
     is_over.store(true, Ordering::SeqCst);
-    Ok(edited)
+    match all {
+        Ok(()) => Ok(edited),
+        Err(trouble) => {
+            drop(edited);
+            Err(trouble)
+        }
+    }
 }
 
 // From 10.0.0.254 or 10.0.1.254 to one of 40 hosts, by UDP to one of three ports.
@@ -125,23 +143,36 @@ fn walk_once<'a>(recorder: Recorder<'a>, walk: &mut Walk, dice: &mut Dice) -> Op
 }
 
 // Takes many random frames through the hook.
-fn walk_often(
-    alloc: Global,
-    mut recorder: Recorder<'_>,
+fn walk_all<'a>(
+    mut recorder: Recorder<'a>,
+    walk: &mut Walk,
     is_over: &AtomicBool,
-) -> Result<Log, Trouble> {
+) -> Option<Recorder<'a>> {
     let mut dice = Dice { seed: 8 };
-    let mut walk = Walk::with_room(alloc)?;
     for _ in 0..WALKS {
         if is_over.load(Ordering::SeqCst) {
             break;
         }
-        match walk_once(recorder, &mut walk, &mut dice) {
+        match walk_once(recorder, walk, &mut dice) {
             Some(next) => recorder = next,
-            None => return Err(Trouble::TooFar),
+            None => return None,
         }
     }
-    Ok(recorder.log)
+    Some(recorder)
+}
+
+// The same, with what was written down.
+fn walk_often(alloc: Global, recorder: Recorder<'_>, is_over: &AtomicBool) -> Result<Log, Trouble> {
+    let Ok(mut walk) = Walk::with_room(alloc) else {
+        drop(recorder);
+        return Err(Trouble::NoMemory);
+    };
+    let walked = walk_all(recorder, &mut walk, is_over);
+    drop(walk);
+    match walked {
+        Some(recorder) => Ok(recorder.into_log()),
+        None => Err(Trouble::TooFar),
+    }
 }
 
 // Goes through the journal with plain lists, and says whether each answer is theirs at its point.
@@ -204,7 +235,20 @@ fn edit_and_walk<R: Threads + Sync>(rt: &R, alloc: Global) -> Result<(Edited, Lo
         pins: 0,
     };
     let (edited, log) = work(rt, alloc, editor, recorder);
-    Ok((edited?, log?))
+    drop(store);
+    match edited {
+        Ok(edited) => match log {
+            Ok(log) => Ok((edited, log)),
+            Err(trouble) => {
+                drop(edited);
+                Err(trouble)
+            }
+        },
+        Err(trouble) => {
+            drop(log);
+            Err(trouble)
+        }
+    }
 }
 
 #[test]

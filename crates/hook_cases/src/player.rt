@@ -75,8 +75,15 @@ impl<'a> Player<'a> {
     /// Its walk, which has to have come to its end; it is outside then.
     pub(crate) fn into_walk(self) -> Result<Walk, Trouble> {
         match self {
-            Player::Outside(_, walk, Progress::Ended) => Ok(walk),
-            _ => Err(Trouble::NotEnded),
+            Player::Outside(recorder, walk, progress) => {
+                drop(recorder);
+                if let Progress::Ended = progress {
+                    return Ok(walk);
+                }
+                drop(walk);
+            }
+            other => drop(other),
         }
+        Err(Trouble::NotEnded)
     }
 }

@@ -151,12 +151,15 @@ fn all_agree(alloc: Global, editor: &mut Editor<'_>, tens: u32) -> Result<(bool,
 }
 
 fn edit_alone(alloc: Global, tens: u32) -> Result<(bool, u32), Trouble> {
-    let (store, desk, _reader) = new_hook(alloc)?;
+    let (store, desk, reader) = new_hook(alloc)?;
     let mut editor = Editor {
         store: &store,
         desk,
     };
-    all_agree(alloc, &mut editor, tens)
+    let agree = all_agree(alloc, &mut editor, tens);
+    drop(editor);
+    drop((store, reader));
+    agree
 }
 
 // Nobody is inside, so no edit is held. Of 6,000 edits many are refused, and more than 2,000 accepted.

@@ -43,17 +43,25 @@ pub(crate) struct Recording<'a> {
 const FEW_PINS: u64 = 1 << 62;
 
 impl<'a> Recorder<'a> {
+    /// What was written down.
+    pub(crate) fn into_log(self) -> Log {
+        let Recorder { reader, log, .. } = self;
+        drop(reader);
+        log
+    }
+
     /// Goes inside, or not where the reader has been there too often.
     pub(crate) fn enter(self) -> Option<Recording<'a>> {
+        if self.pins >= FEW_PINS {
+            drop(self);
+            return None;
+        }
         let Recorder {
             store,
             mut reader,
             log,
             pins,
         } = self;
-        if pins >= FEW_PINS {
-            return None;
-        }
         reader.enter_walk(store);
         Some(Recording {
             store,

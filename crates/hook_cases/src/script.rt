@@ -137,5 +137,8 @@ pub(crate) fn play<R: Threads + Sync>(
         pins: 0,
     };
     let player = Player::Outside(recorder, walk, Progress::Ended);
-    play_to_end(rt, alloc, &mut editor, player, turns)
+    let walk = play_to_end(rt, alloc, &mut editor, player, turns);
+    drop(editor);
+    drop(store);
+    walk
 }

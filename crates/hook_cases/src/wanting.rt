@@ -217,7 +217,13 @@ fn edit_new_hook(alloc: Global) -> Result<usize, Trouble> {
     let lines = read_lines(alloc)?;
     let mut plain = Plain::new(alloc)?;
     let walk = Walk::with_room(alloc)?;
-    let (store, desk, reader) = new_hook(alloc)?;
+    let (store, desk, reader) = match new_hook(alloc) {
+        Ok(made) => made,
+        Err(trouble) => {
+            drop((lines, plain, walk));
+            return Err(trouble);
+        }
+    };
     let mut editor = Editor {
         store: &store,
         desk,
@@ -228,7 +234,10 @@ fn edit_new_hook(alloc: Global) -> Result<usize, Trouble> {
         walk,
         pins: 0,
     };
-    count_alike(&mut editor, &mut outside, &mut plain, &lines)
+    let count = count_alike(&mut editor, &mut outside, &mut plain, &lines);
+    drop((editor, outside));
+    drop((store, plain, lines));
+    count
 }
 
 #[test]

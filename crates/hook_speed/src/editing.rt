@@ -66,17 +66,30 @@ fn pairs(alloc: Global) -> Result<Vec<Line>, Fail> {
     Ok(lines)
 }
 
-fn edit_lists(alloc: Global, filters: u32, rounds: u32) -> Result<(), Fail> {
-    let pairs = pairs(alloc)?;
-    let mut lists = Lists::new(alloc);
-    step_all(&mut lists, &begin(alloc, filters)?)?;
+// Does the lines of a beginning, and then those in which filters come and go so often.
+fn step_often(
+    lists: &mut Lists,
+    beginning: &[Line],
+    pairs: &[Line],
+    rounds: u32,
+) -> Result<(), Fail> {
+    step_all(lists, beginning)?;
     for _ in 0..rounds {
-        step_all(&mut lists, &pairs)?;
+        step_all(lists, pairs)?;
     }
     Ok(())
 }
 
-// Does the lines of a beginning, and then those in which filters come and go so often.
+fn edit_lists(alloc: Global, filters: u32, rounds: u32) -> Result<(), Fail> {
+    let beginning = begin(alloc, filters)?;
+    let pairs = pairs(alloc)?;
+    let mut lists = Lists::new(alloc);
+    let done = step_often(&mut lists, &beginning, &pairs, rounds);
+    drop((lists, beginning, pairs));
+    done
+}
+
+// The same by a desk.
 fn edit_often(
     desk: &mut Desk,
     store: &HookStore,
@@ -97,8 +110,11 @@ fn edit_often(
 fn edit_hook(alloc: Global, filters: u32, rounds: u32) -> Result<(), Fail> {
     let beginning = begin(alloc, filters)?;
     let pairs = pairs(alloc)?;
-    let (store, mut desk, _) = make_hook(alloc)?;
-    edit_often(&mut desk, &store, &beginning, &pairs, rounds)
+    let (store, mut desk, passes) = make_hook(alloc)?;
+    let done = edit_often(&mut desk, &store, &beginning, &pairs, rounds);
+    drop((store, desk, passes));
+    drop((beginning, pairs));
+    done
 }
 
 #[test]

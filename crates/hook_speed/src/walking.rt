@@ -61,22 +61,36 @@ fn frame_at(frames: &[[u8; LENGTH]], number: u32) -> &[u8]
     &frames[number as usize % frames.len()]
 }
 
+// Lists behind the rules.
+fn ruled_lists(alloc: Global) -> Result<Lists, Fail> {
+    let rules = rules(alloc)?;
+    let mut lists = Lists::new(alloc);
+    let done = step_all(&mut lists, &rules);
+    drop(rules);
+    match done {
+        Ok(()) => Ok(lists),
+        Err(fail) => {
+            drop(lists);
+            Err(fail)
+        }
+    }
+}
+
 fn walk_lists(alloc: Global, count: u32) -> Result<(), Fail> {
     let frames = frames(alloc)?;
-    let mut lists = Lists::new(alloc);
-    step_all(&mut lists, &rules(alloc)?)?;
     let mut walk = PlainWalk::with_room(alloc)?;
+    let lists = ruled_lists(alloc)?;
     for number in 0..count {
         walk.run(&lists, Hook::Ingress, frame_at(&frames, number));
     }
+    drop((lists, walk, frames));
     Ok(())
 }
 
 fn visit_lists(alloc: Global, count: u32) -> Result<(), Fail> {
     let frames = frames(alloc)?;
-    let mut lists = Lists::new(alloc);
-    step_all(&mut lists, &rules(alloc)?)?;
     let mut walk = Walk::with_room(alloc)?;
+    let lists = ruled_lists(alloc)?;
     for number in 0..count {
         walk_still(
             &mut walk,
@@ -86,6 +100,7 @@ fn visit_lists(alloc: Global, count: u32) -> Result<(), Fail> {
             frame_at(&frames, number),
         );
     }
+    drop((lists, walk, frames));
     Ok(())
 }
 
@@ -98,8 +113,14 @@ fn new_hook(alloc: Global) -> Result<(HookStore, Desk, HookReader), Fail>
 {
     let (store, desk, mut passes) = make_hook(alloc)?;
     match passes.take() {
-        Some(reader) => Ok((store, desk, reader)),
-        None => Err(Fail::new("no reader")),
+        Some(reader) => {
+            drop(passes);
+            Ok((store, desk, reader))
+        }
+        None => {
+            drop((store, desk, passes));
+            Err(Fail::new("no reader"))
+        }
     }
 }
 
@@ -195,7 +216,7 @@ fn walk_hook(alloc: Global, count: u32) -> Result<(), Fail> {
     let frames = frames(alloc)?;
     let mut walk = Walk::with_room(alloc)?;
     let (store, mut desk, mut reader) = new_hook(alloc)?;
-    learn_and_walk(
+    let done = learn_and_walk(
         &mut desk,
         &store,
         &rules,
@@ -203,7 +224,10 @@ fn walk_hook(alloc: Global, count: u32) -> Result<(), Fail> {
         &mut walk,
         &frames,
         count,
-    )
+    );
+    drop((store, desk, reader));
+    drop((rules, frames, walk));
+    done
 }
 
 #[test]

@@ -1,4 +1,5 @@
 //! Blocks whose words were written down by hand.
+use crate::same::same;
 use act_kinds::{Control, Params, VlanOp};
 use block_codec::{
     read_action, read_filter, read_mask, read_table, write_action, write_filter, write_mask,
@@ -47,25 +48,27 @@ fn filter(rt: HostRuntime) -> Result<(), Fail> {
     let Some((stored, link)) = read_filter(&words) else {
         return Err(Fail::new("no filter"));
     };
-    assert_eq!(rt; (stored.handle, link), (7, Some(8)));
-    assert_eq!(rt;
+    same(&rt, (stored.handle, link), (7, Some(8)));
+    same(
+        &rt,
         stored.key.words,
-        [10, 11, 12, 13, 14, 15, 16, 17, 18, 19, 20, 21, 22, 23]
+        [10, 11, 12, 13, 14, 15, 16, 17, 18, 19, 20, 21, 22, 23],
     );
-    assert_eq!(rt;
+    same(
+        &rt,
         stored.actions.actions(),
         [
             ActionName { serial: 5, slot: 2 },
             ActionName {
                 serial: 16_384,
-                slot: 2_047
-            }
+                slot: 2_047,
+            },
         ]
-        .as_slice()
+        .as_slice(),
     );
     let mut again = [1; 40];
     write_filter(&stored, link, &mut again);
-    assert_eq!(rt; again, words);
+    same(&rt, again, words);
     Ok(())
 }
 
@@ -94,15 +97,16 @@ fn mask(rt: HostRuntime) -> Result<(), Fail> {
     let Some((stored, link)) = read_mask(&words) else {
         return Err(Fail::new("no mask"));
     };
-    assert_eq!(rt; (stored.serial, stored.size, link), (6, 32, Some(8)));
-    assert_eq!(rt;
+    same(&rt, (stored.serial, stored.size, link), (6, 32, Some(8)));
+    same(
+        &rt,
         stored.mask.words,
-        [1, 2, 3, 4, 5, 6, 7, 8, 9, 10, 11, 12, 13, 14]
+        [1, 2, 3, 4, 5, 6, 7, 8, 9, 10, 11, 12, 13, 14],
     );
-    assert_eq!(rt; stored.rows.items(), [300, 8_191].as_slice());
+    same(&rt, stored.rows.items(), [300, 8_191].as_slice());
     let mut again = [1; 40];
     write_mask(&stored, link, &mut again);
-    assert_eq!(rt; again, words);
+    same(&rt, again, words);
     Ok(())
 }
 
@@ -118,22 +122,24 @@ fn table(rt: HostRuntime) -> Result<(), Fail> {
     let Some((stored, link)) = read_table(&words) else {
         return Err(Fail::new("no table"));
     };
-    assert_eq!(rt;
+    same(
+        &rt,
         (stored.serial, stored.pref, stored.chain),
-        (4, 65_535, 268_435_455)
+        (4, 65_535, 268_435_455),
     );
-    assert_eq!(rt; (stored.protocol, link), (Proto::All, Some(8)));
-    assert_eq!(rt;
+    same(&rt, (stored.protocol, link), (Proto::All, Some(8)));
+    same(
+        &rt,
         stored.masks.items(),
         [MaskName {
             serial: 6,
-            slot: 8_191
+            slot: 8_191,
         }]
-        .as_slice()
+        .as_slice(),
     );
     let mut again = [1; 40];
     write_table(&stored, link, &mut again);
-    assert_eq!(rt; again, words);
+    same(&rt, again, words);
     Ok(())
 }
 
@@ -158,53 +164,56 @@ fn params_in(words: [u64; 5]) -> Option<Params> {
     }
 }
 
+const PUSH: VlanOp = VlanOp::Push {
+    tpid: 0x88A8,
+    id: 100,
+    priority: 5,
+};
+
+const MODIFY: VlanOp = VlanOp::Modify {
+    tpid: 0x8100,
+    id: 7,
+    priority: None,
+};
+
+const MARKS: Params = Params::Skbedit {
+    priority: None,
+    mark: Some(0),
+    queue: Some(9),
+    control: Control::Unspec,
+};
+
+// Words with the parameters in them. A push has a priority, a place has no control but jump and goto, and what
+// isn't given is 0.
+const PARAMS: &[([u64; 5], Option<Params>)] = &[
+    ([1, 2, 0, 0, 0], Some(Params::Gact(Control::Shot))),
+    (
+        [1, 6 + 3 * HIGH, 0, 0, 0],
+        Some(Params::Gact(Control::Jump(3))),
+    ),
+    ([1, 7, 0, 0, 0], Some(Params::Gact(Control::Goto(0)))),
+    (
+        [2, 5, 1, 100 + 0x88A8 * HIGH, 6],
+        Some(Params::Vlan(PUSH, Control::Reclassify)),
+    ),
+    (
+        [2, 4, 2, 0, 0],
+        Some(Params::Vlan(VlanOp::Pop, Control::Pipe)),
+    ),
+    (
+        [2, 1, 3, 7 + 0x8100 * HIGH, 0],
+        Some(Params::Vlan(MODIFY, Control::Accept)),
+    ),
+    ([3, 3, 6, 0, 9], Some(MARKS)),
+    ([2, 5, 1, 100, 0], None),
+    ([1, 2 + 3 * HIGH, 0, 0, 0], None),
+    ([3, 3, 2, 1, 0], None),
+    ([4, 1, 0, 0, 0], None),
+];
+
 #[test]
 fn actions(rt: HostRuntime) {
-    assert_eq!(rt;
-        params_in([1, 2, 0, 0, 0]),
-        Some(Params::Gact(Control::Shot))
-    );
-    assert_eq!(rt;
-        params_in([1, 6 + 3 * HIGH, 0, 0, 0]),
-        Some(Params::Gact(Control::Jump(3)))
-    );
-    assert_eq!(rt;
-        params_in([1, 7, 0, 0, 0]),
-        Some(Params::Gact(Control::Goto(0)))
-    );
-    let push = VlanOp::Push {
-        tpid: 0x88A8,
-        id: 100,
-        priority: 5,
-    };
-    assert_eq!(rt;
-        params_in([2, 5, 1, 100 + 0x88A8 * HIGH, 6]),
-        Some(Params::Vlan(push, Control::Reclassify))
-    );
-    assert_eq!(rt;
-        params_in([2, 4, 2, 0, 0]),
-        Some(Params::Vlan(VlanOp::Pop, Control::Pipe))
-    );
-    let modify = VlanOp::Modify {
-        tpid: 0x8100,
-        id: 7,
-        priority: None,
-    };
-    assert_eq!(rt;
-        params_in([2, 1, 3, 7 + 0x8100 * HIGH, 0]),
-        Some(Params::Vlan(modify, Control::Accept))
-    );
-    let marks = Params::Skbedit {
-        priority: None,
-        mark: Some(0),
-        queue: Some(9),
-        control: Control::Unspec,
-    };
-    assert_eq!(rt; params_in([3, 3, 6, 0, 9]), Some(marks));
-
-    // A push has a priority, a place has no control but jump and goto, and what isn't given is 0.
-    assert_eq!(rt; params_in([2, 5, 1, 100, 0]), None);
-    assert_eq!(rt; params_in([1, 2 + 3 * HIGH, 0, 0, 0]), None);
-    assert_eq!(rt; params_in([3, 3, 2, 1, 0]), None);
-    assert_eq!(rt; params_in([4, 1, 0, 0, 0]), None);
+    for (words, params) in PARAMS {
+        same(&rt, params_in(*words), *params);
+    }
 }

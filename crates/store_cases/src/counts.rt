@@ -1,6 +1,7 @@
 //! Numbers that threads draw, and totals of what they count.
 ghost use Rattle.std.specs.Prelude.{◌≡◌, ◌<◌, ◌≤◌, [], length};
 
+use crate::same::same;
 use std::test::Fail;
 use std::thread::{Threads, join};
 use step_counts::{ClaimSeat, Claims, CounterSeat, Counters, make_claims, make_counters};
@@ -62,12 +63,12 @@ fn threads_draw_each_number_once(rt: HostRuntime) -> Result<(), Fail> {
     numbers.extend_from_slice(&four.0)?;
     numbers.sort()?;
     for (at, number) in numbers.iter().enumerate() {
-        assert_eq!(rt; *number, at as u64);
+        same(&rt, *number, at as u64);
     }
     claims.give_back(&mut all, two.1);
     claims.give_back(&mut all, three.1);
     claims.give_back(&mut all, four.1);
-    assert_eq!(rt; claims.draw(&mut all), 200);
+    same(&rt, claims.draw(&mut all), 200);
     Ok(())
 }
 
@@ -125,8 +126,8 @@ fn threads_add_up(rt: HostRuntime) -> Result<(), Fail> {
     counters.give_back(&mut one, two);
     counters.give_back(&mut one, three);
     counters.give_back(&mut one, four);
-    assert_eq!(rt; counters.totals(&mut one, 1), (200, 81_200));
-    assert_eq!(rt; counters.totals(&mut one, 2), (0, 0));
-    assert_eq!(rt; counters.totals(&mut one, 16_384), (200, 1_800_000));
+    same(&rt, counters.totals(&mut one, 1), (200, 81_200));
+    same(&rt, counters.totals(&mut one, 2), (0, 0));
+    same(&rt, counters.totals(&mut one, 16_384), (200, 1_800_000));
     Ok(())
 }

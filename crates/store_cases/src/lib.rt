@@ -23,4 +23,6 @@ mod masks;
 #[cfg(test)]
 mod readers;
 #[cfg(test)]
+mod same;
+#[cfg(test)]
 mod stores;

@@ -1,4 +1,5 @@
 //! Captures, read, written and kept in part.
+use crate::same::same;
 use pcap_io::{Capture, CaptureFault, Excerpt, PacketView, Packets, read, read_whole, write};
 use std::alloc::{AllocError, Global};
 use std::test::Fail;
@@ -53,88 +54,103 @@ fn count_when_cut(length: usize) -> Result<usize, CaptureFault> {
     }
 }
 
-#[test]
-fn is_cut_at_every_length(rt: HostRuntime) -> Result<(), Fail> {
-    let bytes = two_packets(rt.alloc())?;
-    assert_eq!(rt; bytes.len(), 176);
-    for length in 0..=bytes.len() {
-        let count = packet_count(rt.alloc(), &bytes[..length]);
-        assert_eq!(rt; count, count_when_cut(length), "cut at {length}");
-    }
-    Ok(())
+// The length at which a cut capture is told otherwise.
+fn other_cut(alloc: Global, bytes: &[u8]) -> Option<usize> {
+    (0..=bytes.len()).find(|length| {
+        let length = (*length).min(bytes.len());
+        packet_count(alloc, &bytes[..length]) != count_when_cut(length)
+    })
 }
 
 #[test]
+fn is_cut_at_every_length(rt: HostRuntime) -> Result<(), Fail> {
+    let bytes = two_packets(rt.alloc())?;
+    same(&rt, bytes.len(), 176);
+    same(&rt, other_cut(rt.alloc(), &bytes), None);
+    Ok(())
+}
+
+// Places in the header with another byte, and what they are told as.
+const OTHER_HEADERS: &[(usize, u8, CaptureFault)] = &[
+    (3, 0xa2, CaptureFault::BadMagic),
+    (6, 3, CaptureFault::BadVersion),
+    (20, 2, CaptureFault::NotEthernet),
+];
+
+#[test]
 fn refuses_other_headers(rt: HostRuntime) {
-    for (place, byte, fault) in [
-        (3, 0xa2, CaptureFault::BadMagic),
-        (6, 3, CaptureFault::BadVersion),
-        (20, 2, CaptureFault::NotEthernet),
-    ] {
+    for (place, byte, fault) in OTHER_HEADERS {
         let mut bytes = EMPTY;
-        if place < bytes.len() {
-            bytes[place] = byte;
+        if *place < bytes.len() {
+            bytes[*place] = *byte;
         }
-        assert_eq!(rt; packet_count(rt.alloc(), &bytes), Err(fault), "at {place}");
+        same(&rt, packet_count(rt.alloc(), &bytes), Err(*fault));
     }
+}
+
+// How many packets a capture has, of which one has this length, in bytes little end first.
+fn count_with(alloc: Global, length: [u8; 4]) -> Result<Result<usize, CaptureFault>, AllocError> {
+    let content = vec![in alloc; 0u8; 262_144]?;
+    let mut bytes = EMPTY.to_vec(alloc)?;
+    put_record(&mut bytes, 0, length, &content)?;
+    Ok(packet_count(alloc, &bytes))
 }
 
 #[test]
 fn takes_the_longest_packet_alone(rt: HostRuntime) -> Result<(), Fail> {
-    let content = vec![in rt.alloc(); 0u8; 262_144]?;
-    let mut longest = EMPTY.to_vec(rt.alloc())?;
-    put_record(&mut longest, 0, [0, 0, 4, 0], &content)?;
-    assert_eq!(rt; packet_count(rt.alloc(), &longest), Ok(1));
-    let mut longer = EMPTY.to_vec(rt.alloc())?;
-    put_record(&mut longer, 0, [1, 0, 4, 0], &content)?;
+    same(&rt, count_with(rt.alloc(), [0, 0, 4, 0])?, Ok(1));
     let fault = CaptureFault::TooLong {
         offset: 24,
         length: 262_145,
     };
-    assert_eq!(rt; packet_count(rt.alloc(), &longer), Err(fault));
+    same(&rt, count_with(rt.alloc(), [1, 0, 4, 0])?, Err(fault));
     Ok(())
+}
+
+fn read_and_written(alloc: Global, bytes: &[u8]) -> Result<Vec<u8>, CaptureFault> {
+    let capture = read(alloc, bytes)?;
+    Ok(write(alloc, &capture)?)
 }
 
 #[test]
 fn gives_back_what_it_read(rt: HostRuntime) -> Result<(), Fail> {
-    let bytes = two_packets(rt.alloc())?;
-    for bytes in [&EMPTY[..], &EMPTY_BIG_NANOS[..], bytes.as_slice()] {
-        let capture = read(rt.alloc(), bytes)?;
-        let Ok(written) = write(rt.alloc(), &capture) else {
-            return Err("no memory")?;
-        };
-        assert_eq!(rt; written.as_slice(), bytes);
+    let packets = two_packets(rt.alloc())?;
+    for bytes in [&EMPTY[..], &EMPTY_BIG_NANOS[..], packets.as_slice()] {
+        same(&rt, read_and_written(rt.alloc(), bytes)?.as_slice(), bytes);
     }
     Ok(())
 }
 
-#[test]
-fn writes_a_packet_in_big_order(rt: HostRuntime) -> Result<(), Fail> {
-    let mut packets = Packets::new(rt.alloc());
-    assert!(rt; packets.is_empty());
-    let packet = PacketView {
+// How many packets there are, and bytes in them, and whether each had 7 bytes at first.
+fn counts_of(packets: &Packets) -> (usize, usize, bool) {
+    let are_such = packets.iter().all(|packet| packet.original == 7);
+    (packets.iter().count(), packets.byte_count(), are_such)
+}
+
+// A capture of a big-endian host with one packet, and what is counted of it.
+fn write_big(alloc: Global) -> Result<((usize, usize, bool), Vec<u8>), NoMemory> {
+    let mut packets = Packets::new(alloc);
+    packets.push(PacketView {
         seconds: 0x0102_0304,
         fraction: 5,
         original: 7,
         bytes: &[0xee],
-    };
-    assert!(rt; packets.push(packet).is_ok());
-    assert_eq!(rt; packets.byte_count(), 1);
-    assert_eq!(rt; packets.iter().count(), 1);
-    for packet in &packets {
-        assert_eq!(rt; packet.original, 7);
-    }
+    })?;
+    let counts = counts_of(&packets);
     let capture = Capture {
         big: true,
         nanos: true,
         packets,
     };
-    let Ok(written) = write(rt.alloc(), &capture) else {
-        return Err("no memory")?;
-    };
+    Ok((counts, write(alloc, &capture)?))
+}
+
+#[test]
+fn writes_a_packet_in_big_order(rt: HostRuntime) -> Result<(), Fail> {
+    let (counts, written) = write_big(rt.alloc())?;
+    same(&rt, counts, (1, 1, true));
     let record = [1, 2, 3, 4, 0, 0, 0, 5, 0, 0, 0, 1, 0, 0, 0, 7, 0xee];
-    assert_eq!(rt; written.len(), 41);
-    assert_eq!(rt; &written[24..], &record[..]);
+    same(&rt, written.get(24..), Some(record.as_slice()));
     Ok(())
 }
 
@@ -153,15 +169,17 @@ fn last_and_another(alloc: Global, capture: &Capture) -> Result<Vec<u8>, NoMemor
     excerpt.into_pieces().joined()
 }
 
+fn output_of_two(alloc: Global) -> Result<Vec<u8>, CaptureFault> {
+    let capture = read_whole(alloc, two_packets(alloc)?)?;
+    Ok(last_and_another(alloc, &capture)?)
+}
+
 #[test]
 fn makes_an_output_of_its_input(rt: HostRuntime) -> Result<(), Fail> {
-    let capture = read_whole(rt.alloc(), two_packets(rt.alloc())?)?;
-    let Ok(output) = last_and_another(rt.alloc(), &capture) else {
-        return Err("no memory")?;
-    };
     let mut expected = EMPTY.to_vec(rt.alloc())?;
     put_record(&mut expected, 8, [60, 0, 0, 0], &[0xa5; 60])?;
     put_record(&mut expected, 7, [1, 0, 0, 0], &[0xee])?;
-    assert_eq!(rt; output, expected);
+    let output = output_of_two(rt.alloc())?;
+    same(&rt, output.as_slice(), expected.as_slice());
     Ok(())
 }

@@ -1,5 +1,6 @@
 //! Job files, and the lines of their faults.
-use job_lines::{BatchName, CaptureName, JobFault, JobKind, Round, read_job};
+use crate::same::same;
+use job_lines::{BatchName, CaptureName, Job, JobFault, JobKind, Round, read_job};
 use std::alloc::{AllocError, Global};
 use tc_base::Hook;
 
@@ -14,57 +15,74 @@ fn bad_line(alloc: Global, file: &[u8]) -> u64 {
     }
 }
 
+// Files with the lines of their faults.
+const FILES: &[(&[u8], u64)] = &[
+    (b"", 1),
+    (b"clsact job 2\n", 1),
+    (b"clsact job 1\nworkers 9\n", 2),
+    (b"clsact job 1\nworkers 0\n", 2),
+    (b"clsact job 1\nworkers 1\ncontrols 1\n", 4),
+    (b"# a job\nclsact job 1\n\nworkers 01\n", 4),
+];
+
+// The same, behind the three lines of the head.
+const RESTS: &[(&[u8], u64)] = &[
+    (b"end\n\n# over\n", 0),
+    (b"end\n\n# over\nround\n", 7),
+    (b"round\nbatch 2 a\nbatch 1 b\nend\n", 6),
+    (b"round\nbatch 1 a\nbatch 1 b\nend\n", 6),
+    (b"round\nbatch 3 a\nend\n", 5),
+    (b"round\nbatch 0 a\nend\n", 5),
+    (b"round\nbatch 01 a\nend\n", 5),
+    (b"round\nbatch 0x1 a\nend\n", 5),
+    (b"round\nbatch 1 a b\nend\n", 5),
+    (b"round\nbatch 1 \x7f\nend\n", 5),
+    (b"round\ncapture ingress a b\nbatch 1 a\nend\n", 6),
+    (b"batch 1 a\nend\n", 4),
+    (b"round\nround\n", 6),
+];
+
+// The line of the fault of a file with this behind the head.
+fn bad_line_behind(alloc: Global, rest: &[u8]) -> Result<u64, AllocError> {
+    let mut file = HEAD.to_vec(alloc)?;
+    file.extend_from_slice(rest)?;
+    Ok(bad_line(alloc, &file))
+}
+
 #[test]
 fn lines_of_faults(rt: HostRuntime) -> Result<(), AllocError> {
-    let files: [(&[u8], u64); 6] = [
-        (b"", 1),
-        (b"clsact job 2\n", 1),
-        (b"clsact job 1\nworkers 9\n", 2),
-        (b"clsact job 1\nworkers 0\n", 2),
-        (b"clsact job 1\nworkers 1\ncontrols 1\n", 4),
-        (b"# a job\nclsact job 1\n\nworkers 01\n", 4),
-    ];
-    for (file, line) in files {
-        assert_eq!(rt; bad_line(rt.alloc(), file), line);
+    for (file, line) in FILES {
+        same(&rt, bad_line(rt.alloc(), file), *line);
     }
-    // Behind the three lines of the head.
-    let rests: [(&[u8], u64); 13] = [
-        (b"end\n\n# over\n", 0),
-        (b"end\n\n# over\nround\n", 7),
-        (b"round\nbatch 2 a\nbatch 1 b\nend\n", 6),
-        (b"round\nbatch 1 a\nbatch 1 b\nend\n", 6),
-        (b"round\nbatch 3 a\nend\n", 5),
-        (b"round\nbatch 0 a\nend\n", 5),
-        (b"round\nbatch 01 a\nend\n", 5),
-        (b"round\nbatch 0x1 a\nend\n", 5),
-        (b"round\nbatch 1 a b\nend\n", 5),
-        (b"round\nbatch 1 \x7f\nend\n", 5),
-        (b"round\ncapture ingress a b\nbatch 1 a\nend\n", 6),
-        (b"batch 1 a\nend\n", 4),
-        (b"round\nround\n", 6),
-    ];
-    for (rest, line) in rests {
-        let mut file = HEAD.to_vec(rt.alloc())?;
-        file.extend_from_slice(rest)?;
-        assert_eq!(rt; bad_line(rt.alloc(), &file), line);
+    for (rest, line) in RESTS {
+        same(&rt, bad_line_behind(rt.alloc(), rest)?, *line);
     }
     Ok(())
+}
+
+// So many rounds, without an end.
+fn rounds(alloc: Global, count: u32) -> Result<Vec<u8>, AllocError> {
+    let mut file = HEAD.to_vec(alloc)?;
+    for _ in 0..count {
+        file.extend_from_slice(b"round\n")?;
+    }
+    Ok(file)
+}
+
+fn fault_of(alloc: Global, file: &[u8]) -> Option<JobFault> {
+    read_job(alloc, file).err()
 }
 
 // 1,024 rounds, and then one more.
 #[test]
 fn too_many_rounds(rt: HostRuntime) -> Result<(), AllocError> {
-    let mut file = HEAD.to_vec(rt.alloc())?;
-    for _ in 0..1024 {
-        file.extend_from_slice(b"round\n")?;
-    }
-    assert_eq!(rt; bad_line(rt.alloc(), &file), 1028);
-    file.extend_from_slice(b"round\n")?;
+    same(&rt, bad_line(rt.alloc(), &rounds(rt.alloc(), 1024)?), 1028);
     let fault = JobFault::Form {
         line: 1028,
         kind: JobKind::TooManyRounds,
     };
-    assert_eq!(rt; read_job(rt.alloc(), &file).err(), Some(fault));
+    let found = fault_of(rt.alloc(), &rounds(rt.alloc(), 1025)?);
+    same(&rt, found, Some(fault));
     Ok(())
 }
 
@@ -88,6 +106,16 @@ fn is_first_round(round: &Round) -> bool {
         && is_capture(capture, Hook::Egress, b"c", b"d")
 }
 
+fn is_job(job: &Job) -> bool {
+    let [first, second] = job.rounds.as_slice() else {
+        return false;
+    };
+    job.workers == 8
+        && job.controls == 4
+        && is_first_round(first)
+        && second.batches.as_slice().is_empty()
+}
+
 #[test]
 fn parts_of_a_job(rt: HostRuntime) -> Result<(), JobFault> {
     let job = read_job(
@@ -95,14 +123,6 @@ fn parts_of_a_job(rt: HostRuntime) -> Result<(), JobFault> {
         b"clsact job 1\nworkers 8\ncontrols 4\nround # one\n\tbatch 1 force\r\nbatch 2 b force\n\
         capture egress c d\nround\nend",
     )?;
-    assert_eq!(rt; (job.workers, job.controls), (8, 4));
-    let rounds = job.rounds.as_slice();
-    assert_eq!(rt; rounds.len(), 2);
-    assert!(rt; rounds.first().is_some_and(is_first_round));
-    assert!(rt;
-        rounds
-            .last()
-            .is_some_and(|round| round.batches.as_slice().is_empty())
-    );
+    assert!(rt; is_job(&job));
     Ok(())
 }

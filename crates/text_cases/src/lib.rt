@@ -22,6 +22,8 @@ mod outside;
 #[cfg(test)]
 mod reports;
 #[cfg(test)]
+mod same;
+#[cfg(test)]
 mod statuses;
 #[cfg(test)]
 mod words;

@@ -1,4 +1,5 @@
 //! Shelves and sinks, in memory and of the system.
+use crate::same::same;
 use std::alloc::Global;
 use std::fmt::Display;
 use std::io::{self, Print};
@@ -21,10 +22,10 @@ const BUFFER: usize = 64 * 1024;
 fn a_shelf_in_memory_holds_what_was_put(rt: HostRuntime) -> Result<(), Fail> {
     let mut shelf = MemShelf::new(rt.alloc(), Numbers::from_vec(Vec::new(rt.alloc())));
     shelf.insert("a", b"one")?;
-    assert_eq!(rt; shelf.get("a"), Some(b"one".as_slice()));
+    same(&rt, shelf.get("a"), Some(b"one".as_slice()));
     shelf.put("a", b"two")?;
     let read = shelf.fetch("a")?;
-    assert_eq!(rt; read.as_slice(), b"two".as_slice());
+    same(&rt, read.as_slice(), b"two".as_slice());
     Ok(())
 }
 
@@ -33,9 +34,9 @@ fn a_shelf_in_memory_fails_when_it_is_told(rt: HostRuntime) -> Result<(), Fail> 
     let second = Numbers::from_vec(vec![in rt.alloc(); 2u32]?);
     let mut shelf = MemShelf::new(rt.alloc(), second);
     shelf.put("a", b"one")?;
-    assert_eq!(rt; shelf.fetch("a").err(), Some(Fetch::Failed), "call 2");
-    assert_eq!(rt; shelf.fetch("b").err(), Some(Fetch::Missing), "call 3");
-    assert_eq!(rt; shelf.get("a"), Some(b"one".as_slice()));
+    same(&rt, shelf.fetch("a").err(), Some(Fetch::Failed));
+    same(&rt, shelf.fetch("b").err(), Some(Fetch::Missing));
+    same(&rt, shelf.get("a"), Some(b"one".as_slice()));
     Ok(())
 }
 
@@ -44,7 +45,7 @@ fn a_sink_in_memory_has_what_was_written(rt: HostRuntime) -> Result<(), Fail> {
     let mut sink = MemSink::new(rt.alloc(), Numbers::from_vec(Vec::new(rt.alloc())));
     sink.write_all(b"th")?;
     sink.write_all(b"ree")?;
-    assert_eq!(rt; sink.bytes(), b"three".as_slice());
+    same(&rt, sink.bytes(), b"three".as_slice());
     Ok(())
 }
 
@@ -79,7 +80,7 @@ fn a_file_is_read_as_it_was_put(rt: HostRuntime) -> Result<(), Fail> {
     let mut shelf = FileShelf::new(&rt);
     for bytes in [b"longer than the next".as_slice(), b"bytes".as_slice()] {
         shelf.put(path.as_str(), bytes)?;
-        assert_eq!(rt; shelf.fetch(path.as_str())?.as_slice(), bytes);
+        same(&rt, shelf.fetch(path.as_str())?.as_slice(), bytes);
     }
     fs::remove_file(&rt, path.as_path())?;
     Ok(())
@@ -100,10 +101,10 @@ fn pieces_are_put_in_order(rt: HostRuntime) -> Result<(), Fail> {
     let path = own_path(&rt, "pieces")?;
     let mut shelf = FileShelf::new(&rt);
     let pieces = pieces(rt.alloc())?;
-    assert_eq!(rt; pieces.len(), 3);
+    same(&rt, pieces.len(), 3);
     shelf.put_pieces(path.as_str(), &pieces)?;
     let read = shelf.fetch(path.as_str())?;
-    assert_eq!(rt; read.as_slice(), b"inpt-own".as_slice());
+    same(&rt, read.as_slice(), b"inpt-own".as_slice());
     fs::remove_file(&rt, path.as_path())?;
     Ok(())
 }
@@ -117,7 +118,7 @@ fn bad_files_are_told(rt: HostRuntime) -> Result<(), Fail> {
     let mut shelf = FileShelf::new(&rt);
     fs::create(&rt, path.as_path())?.set_len(MOST_BYTES + 1)?;
     for bad in [path.as_str(), missing.as_str(), folder.as_str()] {
-        assert_eq!(rt; shelf.fetch(bad).err(), Some(Fetch::Failed), "{bad}");
+        same(&rt, shelf.fetch(bad).err(), Some(Fetch::Failed));
     }
     fs::remove_file(&rt, path.as_path())?;
     Ok(())
@@ -127,11 +128,12 @@ fn bad_files_are_told(rt: HostRuntime) -> Result<(), Fail> {
 fn a_folder_is_no_file_to_put(rt: HostRuntime) -> Result<(), Fail> {
     let folder = env::temp_dir(&rt)?;
     let mut shelf = FileShelf::new(&rt);
-    assert_eq!(rt; shelf.put(folder.as_str(), b""), Err(Put::Failed));
+    same(&rt, shelf.put(folder.as_str(), b""), Err(Put::Failed));
     let pieces = pieces(rt.alloc())?;
-    assert_eq!(rt;
+    same(
+        &rt,
         shelf.put_pieces(folder.as_str(), &pieces),
-        Err(Put::Failed)
+        Err(Put::Failed),
     );
     Ok(())
 }
@@ -159,7 +161,7 @@ fn an_output_that_takes_nothing_is_told(rt: HostRuntime) -> Result<(), Fail> {
     let long = vec![in rt.alloc(); b'x'; BUFFER + 1]?;
     let mut sink = StdSink::new(&Closed, rt.alloc())?;
     sink.write_all(b"short")?;
-    assert_eq!(rt; sink.flush(), Err(Put::Failed));
-    assert_eq!(rt; sink.write_all(&long), Err(Put::Failed));
+    same(&rt, sink.flush(), Err(Put::Failed));
+    same(&rt, sink.write_all(&long), Err(Put::Failed));
     Ok(())
 }

@@ -2,6 +2,7 @@
 ghost use Rattle.std.specs.Prelude.{◌≡◌, ◌<◌, ◌^◌, length, IfOk};
 ghost use Rattle.run_report.specs.Counts.{events_in, packets_in};
 
+use crate::same::same;
 use act_kinds::Kind;
 use filter_state::Done;
 use frame_edit::Meta;
@@ -100,6 +101,6 @@ fn edit_between_two_visits(rt: HostRuntime) -> Result<(), Fail> {
     };
     let mut out = MemSink::new(rt.alloc(), Numbers::from_vec(Vec::new(rt.alloc())));
     write_report(rt.alloc(), &run, &mut out)?;
-    assert_eq!(rt; out.bytes(), REPORT);
+    same(&rt, out.bytes(), REPORT);
     Ok(())
 }

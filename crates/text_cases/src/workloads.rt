@@ -1,4 +1,5 @@
 //! What is generated for four filters, written down by hand.
+use crate::same::same;
 use gen_files::{gen_batch, gen_job, gen_packets};
 use std::test::Fail;
 
@@ -23,8 +24,8 @@ end
 
 #[test]
 fn four_filters_are_made(rt: HostRuntime) -> Result<(), Fail> {
-    assert_eq!(rt; gen_batch(rt.alloc(), 4)?.as_slice(), BATCH.as_bytes());
-    assert_eq!(rt; gen_job(rt.alloc(), "a/b")?.as_slice(), JOB.as_bytes());
+    same(&rt, gen_batch(rt.alloc(), 4)?.as_slice(), BATCH.as_bytes());
+    same(&rt, gen_job(rt.alloc(), "a/b")?.as_slice(), JOB.as_bytes());
     Ok(())
 }
 
@@ -32,11 +33,15 @@ fn four_filters_are_made(rt: HostRuntime) -> Result<(), Fail> {
 fn packets_go_to_twice_as_many_addresses(rt: HostRuntime) -> Result<(), Fail> {
     // So the capture has 24 bytes, and 76 a packet: 7,471,128.
     let packets = gen_packets(rt.alloc(), 4096)?;
-    assert_eq!(rt; packets.len(), 98_304);
-    assert_eq!(rt; packets.byte_count(), 98_304 * 60);
+    same(&rt, packets.len(), 98_304);
+    same(&rt, packets.byte_count(), 98_304 * 60);
     // Packet 8,195 is the fourth of the second turn.
     let packet = packets.iter().nth(8195).ok_or("no packet")?;
-    assert_eq!(rt; packet.seconds, 8195);
-    assert_eq!(rt; packet.bytes.get(30..34), Some([10, 0, 0, 3].as_slice()));
+    same(&rt, packet.seconds, 8195);
+    same(
+        &rt,
+        packet.bytes.get(30..34),
+        Some([10, 0, 0, 3].as_slice()),
+    );
     Ok(())
 }

@@ -32,6 +32,8 @@ mod plain_frame;
 #[cfg(test)]
 mod random;
 #[cfg(test)]
+mod same;
+#[cfg(test)]
 mod tags;
 #[cfg(test)]
 mod twin;

@@ -1,7 +1,7 @@
 //! Jobs in memory.
 
 use std::alloc::{AllocError, Global};
-use tc_base::{MemShelf, Numbers};
+use tc_base::{MemShelf, NoMemory, Numbers};
 
 // A little-endian capture in microseconds, without packets.
 const NO_PACKET: [u8; 24] = [
@@ -32,4 +32,15 @@ pub(crate) fn capture_to(alloc: Global, hosts: &[u8]) -> Result<Vec<u8>, AllocEr
 /// No files. None that is put there will fail to be read.
 pub(crate) fn no_files(alloc: Global) -> MemShelf {
     MemShelf::new(alloc, Numbers::from_vec(Vec::new(alloc)))
+}
+
+/// A shelf that was filled.
+pub(crate) fn filled(shelf: MemShelf, filled: Result<(), NoMemory>) -> Result<MemShelf, NoMemory> {
+    match filled {
+        Ok(()) => Ok(shelf),
+        Err(fault) => {
+            drop(shelf);
+            Err(fault)
+        }
+    }
 }

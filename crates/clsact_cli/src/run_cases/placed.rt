@@ -1,6 +1,6 @@
 //! A job whose lines come at given places of walks, judged by a plain twin.
 
-use crate::run_cases::jobs::{capture_to, no_files};
+use crate::run_cases::jobs::{capture_to, filled, no_files};
 use crate::run_cases::random::are_counted;
 use crate::run_cases::running::{Ran, run_held};
 use crate::run_cases::schedule::{Schedule, Turn, Watch};
@@ -11,7 +11,7 @@ use run_report::{EventKind, OutcomeView, RoundRecord};
 use std::alloc::Global;
 use std::sync::Wait;
 use std::thread::Threads;
-use tc_base::{MemShelf, Point};
+use tc_base::{MemShelf, NoMemory, Point};
 use walk_rules::Verdict;
 
 /// A job of two rounds. In the first one a base is applied. In the second one control 1 applies lines,
@@ -26,6 +26,15 @@ pub(crate) struct Placed<'a> {
 }
 
 impl Placed<'_> {
+    fn fill(&self, alloc: Global, shelf: &mut MemShelf, job: &str) -> Result<(), NoMemory> {
+        let mut hosts = self.hosts.to_vec(alloc)?;
+        hosts.extend_from_slice(self.hosts)?;
+        shelf.insert("job", job.as_bytes())?;
+        shelf.insert("base", whole_batch(alloc, self.base)?.as_bytes())?;
+        shelf.insert("lines", whole_batch(alloc, self.lines)?.as_bytes())?;
+        shelf.insert("in", &capture_to(alloc, &hosts)?)
+    }
+
     // The files of the job.
     fn files(&self, alloc: Global) -> Result<MemShelf, Trouble> {
         let job = format!(in alloc;
@@ -33,14 +42,9 @@ impl Placed<'_> {
             batch 1 lines force\ncapture ingress in out\nend\n",
             self.hosts.len()
         )?;
-        let mut hosts = self.hosts.to_vec(alloc)?;
-        hosts.extend_from_slice(self.hosts)?;
         let mut shelf = no_files(alloc);
-        shelf.insert("job", job.as_bytes())?;
-        shelf.insert("base", whole_batch(alloc, self.base)?.as_bytes())?;
-        shelf.insert("lines", whole_batch(alloc, self.lines)?.as_bytes())?;
-        shelf.insert("in", &capture_to(alloc, &hosts)?)?;
-        Ok(shelf)
+        let all = self.fill(alloc, &mut shelf, &job);
+        Ok(filled(shelf, all)?)
     }
 
     /// Runs the job, and judges what is reported.
@@ -55,12 +59,23 @@ impl Placed<'_> {
             line: 0,
             turns: 0,
         };
-        let ran = run_held(rt, alloc, &mut self.files(alloc)?, &schedule, &mut watch)?;
+        let mut shelf = self.files(alloc)?;
+        let ran = run_held(rt, alloc, &mut shelf, &schedule, &mut watch);
+        drop(shelf);
+        let ran = ran?;
+        let judged = self.judge_ran(alloc, &schedule, &ran);
+        drop(ran);
+        judged
+    }
+
+    fn judge_ran(&self, alloc: Global, schedule: &Schedule<'_>, ran: &Ran) -> Result<(), Trouble> {
         if !schedule.is_done() {
             return Err(Trouble::Late);
         }
         let past = Past::new(alloc, self.base, self.lines)?;
-        self.judge_run(alloc, &schedule, &past, &ran)
+        let judged = self.judge_run(alloc, schedule, &past, ran);
+        drop(past);
+        judged
     }
 
     fn judge_run<'a>(

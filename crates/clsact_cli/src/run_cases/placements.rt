@@ -9,7 +9,9 @@ use crate::run_cases::placement_cases::{
     Case, FULL_MASK, ONE_FILTER, TWO_ACTIONS, TWO_CHAINS, TWO_MASKS, TWO_TABLES,
 };
 use crate::run_cases::trouble::Trouble;
+use crate::same::same;
 use std::alloc::{AllocError, Global};
+use std::process::Abort;
 use std::sync::Wait;
 use std::test::Fail;
 use std::thread::Threads;
@@ -151,69 +153,87 @@ fn many<R: Threads + Wait + Sync>(
 }
 
 // None, then 8 × 4 + 28 × 10; and 8 × 20.
+// What was wrong stops the test, and so does another number than so many.
+fn judged(rt: &impl Abort, judged: (u32, Option<String>), due: u32) -> Result<(), Fail> {
+    let (judged, wrong) = judged;
+    if let Some(wrong) = wrong {
+        return Err(Fail::from(wrong));
+    }
+    same(rt, judged, due);
+    Ok(())
+}
+
+// Judges so many placements of none, one or two lines.
+fn judge_few<R: AllocGlobal + Threads + Wait + Sync + Abort>(
+    rt: &R,
+    case: &Case<'_>,
+    due: u32,
+) -> Result<(), Fail> {
+    judged(rt, few(rt, rt.alloc(), case)?, due)
+}
+
+// And of three lines.
+fn judge_many<R: AllocGlobal + Threads + Wait + Sync + Abort>(
+    rt: &R,
+    case: &Case<'_>,
+    due: u32,
+) -> Result<(), Fail> {
+    judged(rt, many(rt, rt.alloc(), case)?, due)
+}
+
 #[test]
 fn lines_around_three_visits(rt: HostRuntime) -> Result<(), Fail> {
-    assert_eq!(rt; few(&rt, rt.alloc(), &ONE_FILTER)?, (313, None));
-    assert_eq!(rt; many(&rt, rt.alloc(), &ONE_FILTER)?, (160, None));
-    Ok(())
+    judge_few(&rt, &ONE_FILTER, 313)?;
+    judge_many(&rt, &ONE_FILTER, 160)
 }
 
 // None, then 8 × 5 + 28 × 15; and 8 × 35.
 #[test]
 fn lines_around_four_visits(rt: HostRuntime) -> Result<(), Fail> {
-    assert_eq!(rt; few(&rt, rt.alloc(), &TWO_MASKS)?, (461, None));
-    assert_eq!(rt; many(&rt, rt.alloc(), &TWO_MASKS)?, (280, None));
-    Ok(())
+    judge_few(&rt, &TWO_MASKS, 461)?;
+    judge_many(&rt, &TWO_MASKS, 280)
 }
 
 // None, then 8 × 6 + 28 × 21; as in the other cases of five visits.
 #[test]
 fn few_lines_around_two_tables(rt: HostRuntime) -> Result<(), Fail> {
-    assert_eq!(rt; few(&rt, rt.alloc(), &TWO_TABLES)?, (637, None));
-    Ok(())
+    judge_few(&rt, &TWO_TABLES, 637)
 }
 
 // 8 × 56.
 #[test]
 fn three_lines_around_two_tables(rt: HostRuntime) -> Result<(), Fail> {
-    assert_eq!(rt; many(&rt, rt.alloc(), &TWO_TABLES)?, (448, None));
-    Ok(())
+    judge_many(&rt, &TWO_TABLES, 448)
 }
 
 #[test]
 fn few_lines_around_two_chains(rt: HostRuntime) -> Result<(), Fail> {
-    assert_eq!(rt; few(&rt, rt.alloc(), &TWO_CHAINS)?, (637, None));
-    Ok(())
+    judge_few(&rt, &TWO_CHAINS, 637)
 }
 
 #[test]
 fn three_lines_around_two_chains(rt: HostRuntime) -> Result<(), Fail> {
-    assert_eq!(rt; many(&rt, rt.alloc(), &TWO_CHAINS)?, (448, None));
-    Ok(())
+    judge_many(&rt, &TWO_CHAINS, 448)
 }
 
 #[test]
 fn few_lines_around_a_full_mask(rt: HostRuntime) -> Result<(), Fail> {
-    assert_eq!(rt; few(&rt, rt.alloc(), &FULL_MASK)?, (637, None));
-    Ok(())
+    judge_few(&rt, &FULL_MASK, 637)
 }
 
 #[test]
 fn three_lines_around_a_full_mask(rt: HostRuntime) -> Result<(), Fail> {
-    assert_eq!(rt; many(&rt, rt.alloc(), &FULL_MASK)?, (448, None));
-    Ok(())
+    judge_many(&rt, &FULL_MASK, 448)
 }
 
 // None, then 8 × 7 + 28 × 28.
 #[test]
 fn few_lines_around_two_actions(rt: HostRuntime) -> Result<(), Fail> {
-    assert_eq!(rt; few(&rt, rt.alloc(), &TWO_ACTIONS)?, (841, None));
-    Ok(())
+    judge_few(&rt, &TWO_ACTIONS, 841)
 }
 
 // 8 × 84.
 #[test]
 fn three_lines_around_two_actions(rt: HostRuntime) -> Result<(), Fail> {
-    assert_eq!(rt; many(&rt, rt.alloc(), &TWO_ACTIONS)?, (672, None));
-    Ok(())
+    judge_many(&rt, &TWO_ACTIONS, 672)
 }

@@ -76,8 +76,12 @@ fn judge<R: Threads + Wait + Sync>(
     alloc: Global,
     mut shelf: MemShelf,
 ) -> Result<(bool, usize), Trouble> {
-    let ran = run_held(rt, alloc, &mut shelf, &Courtesy, &mut NoTender)?;
-    Ok((ran.is_lawful && are_counted(&ran.run), walked_in(&ran.run)))
+    let ran = run_held(rt, alloc, &mut shelf, &Courtesy, &mut NoTender);
+    drop(shelf);
+    let ran = ran?;
+    let judged = (ran.is_lawful && are_counted(&ran.run), walked_in(&ran.run));
+    drop(ran);
+    Ok(judged)
 }
 
 // Whether all of many jobs are run as they have to be, and how many packets they have.

@@ -134,21 +134,40 @@ fn add_capture(
     Ok(())
 }
 
+// Adds rounds to a job, and their files to a shelf.
+fn add_rounds(
+    alloc: Global,
+    dice: &mut Dice,
+    shelf: &mut MemShelf,
+    job: &mut String,
+    controls: u32,
+) -> Result<(), Trouble> {
+    for round in 0..dice.below(5) {
+        job.push_str("round\n")?;
+        add_batches(alloc, dice, shelf, job, round, controls)?;
+        add_capture(alloc, dice, shelf, job, round)?;
+    }
+    job.push_str("end\n")?;
+    shelf.insert("base", BASE.as_bytes())?;
+    shelf.insert("job", job.as_bytes())?;
+    Ok(())
+}
+
 /// The files of a job, which is named `job`: 1 to 8 workers, 1 to 4 controls, and up to five rounds.
 pub(crate) fn random_job(alloc: Global, dice: &mut Dice) -> Result<MemShelf, Trouble> {
     let workers = 1 + dice.below(8);
     let controls = 1 + dice.below(4);
-    let mut shelf = no_files(alloc);
-    shelf.insert("base", BASE.as_bytes())?;
     let mut job = format!(in alloc;
         "clsact job 1\nworkers {workers}\ncontrols {controls}\nround\nbatch 1 base\n"
     )?;
-    for round in 0..dice.below(5) {
-        job.push_str("round\n")?;
-        add_batches(alloc, dice, &mut shelf, &mut job, round, controls)?;
-        add_capture(alloc, dice, &mut shelf, &mut job, round)?;
+    let mut shelf = no_files(alloc);
+    let added = add_rounds(alloc, dice, &mut shelf, &mut job, controls);
+    drop(job);
+    match added {
+        Ok(()) => Ok(shelf),
+        Err(trouble) => {
+            drop(shelf);
+            Err(trouble)
+        }
     }
-    job.push_str("end\n")?;
-    shelf.insert("job", job.as_bytes())?;
-    Ok(shelf)
 }

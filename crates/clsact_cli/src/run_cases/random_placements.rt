@@ -5,6 +5,7 @@ use crate::run_cases::placed::Placed;
 use crate::run_cases::placement_cases::{CASES, Case};
 use crate::run_cases::schedule::Turn;
 use crate::run_cases::trouble::Trouble;
+use crate::same::same;
 use std::alloc::{AllocError, Global};
 use std::sync::Wait;
 use std::test::Fail;
@@ -117,24 +118,24 @@ fn judge_many<R: Threads + Wait + Sync>(
 
 #[test]
 fn lines_around_two_walks_first(rt: HostRuntime) -> Result<(), Fail> {
-    assert_eq!(rt; judge_many(&rt, rt.alloc(), 1)?, None);
+    same(&rt, judge_many(&rt, rt.alloc(), 1)?, None);
     Ok(())
 }
 
 #[test]
 fn lines_around_two_walks_second(rt: HostRuntime) -> Result<(), Fail> {
-    assert_eq!(rt; judge_many(&rt, rt.alloc(), 2)?, None);
+    same(&rt, judge_many(&rt, rt.alloc(), 2)?, None);
     Ok(())
 }
 
 #[test]
 fn lines_around_two_walks_third(rt: HostRuntime) -> Result<(), Fail> {
-    assert_eq!(rt; judge_many(&rt, rt.alloc(), 3)?, None);
+    same(&rt, judge_many(&rt, rt.alloc(), 3)?, None);
     Ok(())
 }
 
 #[test]
 fn lines_around_two_walks_fourth(rt: HostRuntime) -> Result<(), Fail> {
-    assert_eq!(rt; judge_many(&rt, rt.alloc(), 4)?, None);
+    same(&rt, judge_many(&rt, rt.alloc(), 4)?, None);
     Ok(())
 }

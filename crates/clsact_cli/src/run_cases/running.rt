@@ -1,8 +1,12 @@
 //! A job that is run at a gate.
+ghost use Rattle.std.specs.Prelude.{IfOk};
+ghost use Rattle.lawful_runs.specs.Given.{IsLoaded};
+ghost use Rattle.lawful_runs.specs.Lawful.{IsLawfulRun};
 
 use crate::run_cases::trouble::Trouble;
 use job_files::load_job;
 use job_rounds::{make_hooks, run_job_heard};
+use lawful_runs::LoadedJob;
 use report_check::{Check, recheck};
 use run_report::{RunRecord, write_report};
 use std::alloc::Global;
@@ -18,6 +22,65 @@ pub(crate) struct Ran {
     pub(crate) is_lawful: bool,
 }
 
+impl Ran {
+    /// The report alone.
+    pub(crate) fn into_report(self) -> MemSink {
+        let Ran { run, report, .. } = self;
+        drop(run);
+        report
+    }
+}
+
+// Runs a loaded job over a hook of its own.
+fn run_loaded<R: Threads + Wait + Sync, G: Gate, T: Tender>(
+    rt: &R,
+    alloc: Global,
+    job: &LoadedJob,
+    gates: &G,
+    tender: &mut T,
+) -> Result<RunRecord, Trouble>
+    requires { IsLoaded job.now }
+    ensures { IfOk result (λ run. IsLawfulRun job.now run) }
+{
+    let hooks = make_hooks(alloc, job.job.workers)?;
+    let (run, hooks, _) = run_job_heard(rt, alloc, hooks, job, gates, NoEar, tender)?;
+    drop(hooks);
+    Ok(run)
+}
+
+// Writes the report of a run. Whether `recheck` finds it lawful.
+fn judge(
+    alloc: Global,
+    job: &LoadedJob,
+    run: &RunRecord,
+    report: &mut MemSink,
+) -> Result<bool, Trouble>
+    requires job { IsLoaded job.now }
+    requires run { IsLawfulRun job.now run.now }
+{
+    write_report(alloc, run, report)?;
+    Ok(recheck(alloc, job, report.bytes())? == Check::Lawful)
+}
+
+// A run with its report.
+fn reported(alloc: Global, job: &LoadedJob, run: RunRecord) -> Result<Ran, Trouble>
+    requires job { IsLoaded job.now }
+    requires run { IsLawfulRun job.now run }
+{
+    let mut report = MemSink::new(alloc, Numbers::from_vec(Vec::new(alloc)));
+    match judge(alloc, job, &run, &mut report) {
+        Ok(is_lawful) => Ok(Ran {
+            run,
+            report,
+            is_lawful,
+        }),
+        Err(trouble) => {
+            drop((run, report));
+            Err(trouble)
+        }
+    }
+}
+
 /// Runs the job that a shelf holds.
 pub(crate) fn run_held<R: Threads + Wait + Sync, G: Gate, T: Tender>(
     rt: &R,
@@ -29,14 +92,10 @@ pub(crate) fn run_held<R: Threads + Wait + Sync, G: Gate, T: Tender>(
     let Ok(job) = load_job(alloc, shelf, "job") else {
         return Err(Trouble::NotLoaded);
     };
-    let hooks = make_hooks(alloc, job.job.workers)?;
-    let (run, _, _) = run_job_heard(rt, alloc, hooks, &job, gates, NoEar, tender)?;
-    let mut report = MemSink::new(alloc, Numbers::from_vec(Vec::new(alloc)));
-    write_report(alloc, &run, &mut report)?;
-    let is_lawful = recheck(alloc, &job, report.bytes())? == Check::Lawful;
-    Ok(Ran {
-        run,
-        report,
-        is_lawful,
-    })
+    let ran = match run_loaded(rt, alloc, &job, gates, tender) {
+        Ok(run) => reported(alloc, &job, run),
+        Err(trouble) => Err(trouble),
+    };
+    drop(job);
+    ran
 }

@@ -42,19 +42,25 @@ pub(crate) struct Track {
     behind: Vec<AtomicUsize>,
 }
 
+// Nothing noted, for each visit.
+fn notes(alloc: Global) -> Result<Vec<AtomicUsize>, Trouble> {
+    let mut notes = Vec::new(alloc);
+    for _ in 0..NOTED {
+        notes.push(AtomicUsize::new(0))?;
+    }
+    Ok(notes)
+}
+
 impl Track {
     fn new(alloc: Global) -> Result<Track, Trouble> {
-        let mut track = Track {
+        let before = notes(alloc)?;
+        let behind = notes(alloc)?;
+        Ok(Track {
             come: AtomicUsize::new(0),
             is_over: AtomicBool::new(false),
-            before: Vec::new(alloc),
-            behind: Vec::new(alloc),
-        };
-        for _ in 0..NOTED {
-            track.before.push(AtomicUsize::new(0))?;
-            track.behind.push(AtomicUsize::new(0))?;
-        }
-        Ok(track)
+            before,
+            behind,
+        })
     }
 
     /// How many lines were met before a visit, and how many were begun when it was over.

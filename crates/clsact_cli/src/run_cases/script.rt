@@ -1,6 +1,6 @@
 //! A round whose threads meet in a given order.
 
-use crate::run_cases::jobs::{capture_to, no_files};
+use crate::run_cases::jobs::{capture_to, filled, no_files};
 use crate::run_cases::order::{Order, Step, Turns};
 use crate::run_cases::running::run_held;
 use crate::run_cases::trouble::Trouble;
@@ -8,7 +8,7 @@ use std::alloc::Global;
 use std::str;
 use std::sync::Wait;
 use std::thread::Threads;
-use tc_base::{MemShelf, MemSink};
+use tc_base::{MemShelf, MemSink, NoMemory};
 
 /// A job of two rounds, and the order in which the threads of the second one meet. In the first round control
 /// 4 applies a batch. In the second one controls 1 and 2 apply one each, while packets to some hosts of
@@ -37,9 +37,10 @@ fn report_in<R: Threads + Wait + Sync>(
     let mut turns = Turns { order: &order };
     let ran = run_held(rt, alloc, shelf, &order, &mut turns)?;
     if !order.is_done() {
+        drop(ran);
         return Err(Trouble::Late);
     }
-    Ok(ran.report)
+    Ok(ran.into_report())
 }
 
 // What a report tells of the second round, and its counters.
@@ -50,6 +51,14 @@ fn told_in(report: &[u8]) -> Option<&str> {
 }
 
 impl Script<'_> {
+    fn fill(&self, shelf: &mut MemShelf, job: &str, capture: &[u8]) -> Result<(), NoMemory> {
+        shelf.insert("job", job.as_bytes())?;
+        shelf.insert("base", self.base.as_bytes())?;
+        shelf.insert("first", self.first.as_bytes())?;
+        shelf.insert("second", self.second.as_bytes())?;
+        shelf.insert("in", capture)
+    }
+
     // The files of the job.
     fn files(&self, alloc: Global) -> Result<MemShelf, Trouble> {
         let job = format!(in alloc;
@@ -57,13 +66,10 @@ impl Script<'_> {
             batch 1 first\nbatch 2 second\ncapture ingress in out\nend\n",
             self.workers
         )?;
+        let capture = capture_to(alloc, self.hosts)?;
         let mut shelf = no_files(alloc);
-        shelf.insert("job", job.as_bytes())?;
-        shelf.insert("base", self.base.as_bytes())?;
-        shelf.insert("first", self.first.as_bytes())?;
-        shelf.insert("second", self.second.as_bytes())?;
-        shelf.insert("in", &capture_to(alloc, self.hosts)?)?;
-        Ok(shelf)
+        let all = self.fill(&mut shelf, &job, &capture);
+        Ok(filled(shelf, all)?)
     }
 
     /// Runs the job, and says whether the report tells what it has to.
@@ -73,10 +79,14 @@ impl Script<'_> {
         alloc: Global,
     ) -> Result<bool, Trouble> {
         let mut shelf = self.files(alloc)?;
-        let report = report_in(rt, alloc, &mut shelf, self.order)?;
-        Ok(match told_in(report.bytes()) {
+        let report = report_in(rt, alloc, &mut shelf, self.order);
+        drop(shelf);
+        let report = report?;
+        let fits = match told_in(report.bytes()) {
             Some(told) => self.told.contains(&told),
             None => false,
-        })
+        };
+        drop(report);
+        Ok(fits)
     }
 }

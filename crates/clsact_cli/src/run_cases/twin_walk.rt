@@ -22,22 +22,45 @@ impl Past {
         for _ in base {
             point = point.saturating_add(1);
         }
+        let states = vec![in alloc; Plain::behind(alloc, base, &[])?]?;
         let mut past = Past {
             first: point,
-            states: vec![in alloc; Plain::behind(alloc, base, &[])?]?,
+            states,
             points: Vec::new(alloc),
         };
+        let followed = past.follow(alloc, base, lines);
+        match followed {
+            Ok(()) => Ok(past),
+            Err(trouble) => {
+                drop(past);
+                Err(trouble)
+            }
+        }
+    }
+
+    // Does lines behind a base, of which some may be refused.
+    fn follow(&mut self, alloc: Global, base: &[&str], lines: &[&str]) -> Result<(), Trouble> {
         let mut accepted = Vec::new(alloc);
+        let mut point = self.first;
         for line in lines {
-            let mut next = Plain::behind(alloc, base, &accepted)?;
-            if next.accepts(line)? {
+            if self.takes(Plain::behind(alloc, base, &accepted)?, line)? {
                 accepted.push(*line)?;
-                past.states.push(next)?;
                 point = point.saturating_add(1);
             }
-            past.points.push(point)?;
+            self.points.push(point)?;
         }
-        Ok(past)
+        Ok(())
+    }
+
+    // Whether a device accepts a line. Then it is the next one.
+    fn takes(&mut self, mut next: Plain, line: &str) -> Result<bool, Trouble> {
+        let accepts = next.accepts(line);
+        if let Ok(true) = accepts {
+            self.states.push(next)?;
+        } else {
+            drop(next);
+        }
+        accepts
     }
 
     /// The point behind the first lines, so many of them.
@@ -118,11 +141,21 @@ pub(crate) fn walk(
             visits: 0,
         },
     };
-    walker.run()?;
-    Ok(walker.met)
+    match walker.run() {
+        Ok(()) => Ok(walker.into_met()),
+        Err(trouble) => {
+            drop(walker);
+            Err(trouble)
+        }
+    }
 }
 
 impl<'a> Walker<'a> {
+    fn into_met(self) -> Met {
+        let Walker { met, .. } = self;
+        met
+    }
+
     // Makes a visit, and tells its points: the least that may answer it, and the last.
     fn visit(&mut self) -> Result<(Point, Point), Trouble> {
         let visit = self.met.visits;

@@ -3,6 +3,7 @@
 //! The shelf fails at its first call, then at its second, and so on, up to the command that has no further
 //! call and succeeds; and so does the sink.
 
+use crate::same::same;
 use crate::tests::fault_table::{CASES, Call, Case, Held, Written};
 use crate::tests::{EMPTY, gateway, numbers, run, two_packets};
 use std::alloc::{AllocError, Global};
@@ -20,6 +21,11 @@ struct Left {
     status: String,
     shelf: MemShelf,
     out: MemSink,
+}
+
+// The number of the call at a place.
+fn number_of(place: usize) -> u32 {
+    u32::try_from(place).unwrap_or(u32::MAX).saturating_add(1)
 }
 
 impl Written<'_> {
@@ -47,8 +53,8 @@ impl Written<'_> {
 }
 
 impl Case<'_> {
-    fn shelf(&self, alloc: Global, fails: &[u32]) -> Result<MemShelf, NoMemory> {
-        let mut shelf = MemShelf::new(alloc, numbers(alloc, fails)?);
+    // Puts the files of the case into a shelf, and old ones under the names of outputs.
+    fn fill(&self, alloc: Global, shelf: &mut MemShelf) -> Result<(), NoMemory> {
         for (name, held) in self.files {
             match held {
                 Held::Text(text) => shelf.insert(name, text.as_bytes())?,
@@ -62,7 +68,18 @@ impl Case<'_> {
                 shelf.insert(name, OLD)?;
             }
         }
-        Ok(shelf)
+        Ok(())
+    }
+
+    fn shelf(&self, alloc: Global, fails: &[u32]) -> Result<MemShelf, NoMemory> {
+        let mut shelf = MemShelf::new(alloc, numbers(alloc, fails)?);
+        match self.fill(alloc, &mut shelf) {
+            Ok(()) => Ok(shelf),
+            Err(fault) => {
+                drop(shelf);
+                Err(fault)
+            }
+        }
     }
 
     // What the command leaves where these calls of the shelf and of the sink fail.
@@ -72,10 +89,16 @@ impl Case<'_> {
         shelf_fails: &[u32],
         sink_fails: &[u32],
     ) -> Result<Left, Fail> {
+        let fails = numbers(rt.alloc(), sink_fails)?;
         let mut shelf = self.shelf(rt.alloc(), shelf_fails)?;
-        let mut out = MemSink::new(rt.alloc(), numbers(rt.alloc(), sink_fails)?);
-        let status = run(rt, self.words, &mut shelf, &mut out)?;
-        Ok(Left { status, shelf, out })
+        let mut out = MemSink::new(rt.alloc(), fails);
+        match run(rt, self.words, &mut shelf, &mut out) {
+            Ok(status) => Ok(Left { status, shelf, out }),
+            Err(fail) => {
+                drop((shelf, out));
+                Err(fail)
+            }
+        }
     }
 
     // What is told of the call of the shelf that fails.
@@ -126,42 +149,95 @@ impl Case<'_> {
         None
     }
 
+    // What is wrong where the shelf fails at the call of this place, or at none behind the last one.
+    fn wrong_at_shelf<R: AllocGlobal + Threads + Wait + Sync>(
+        &self,
+        rt: &R,
+        whole: &Left,
+        call: usize,
+    ) -> Result<Option<&'static str>, Fail> {
+        let told = self.told(rt.alloc(), call)?;
+        let left = self.left(rt, &[number_of(call)], &[])?;
+        let writes = if call == self.calls.len() {
+            self.written.calls()
+        } else {
+            0
+        };
+        let wrong = self.wrong_in(&left, whole, told.as_str(), call, writes);
+        drop((left, told));
+        Ok(wrong)
+    }
+
+    // The same of the sink. All files are put before.
+    fn wrong_at_sink<R: AllocGlobal + Threads + Wait + Sync>(
+        &self,
+        rt: &R,
+        whole: &Left,
+        write: usize,
+    ) -> Result<Option<&'static str>, Fail> {
+        let told = if write == self.written.calls() {
+            self.status
+        } else {
+            "5 cannot write"
+        };
+        let left = self.left(rt, &[], &[number_of(write)])?;
+        let wrong = self.wrong_in(&left, whole, told, self.calls.len(), write);
+        drop(left);
+        Ok(wrong)
+    }
+
     // The shelf fails at each call, and then at none. Tells how often it failed.
-    fn fail_at_shelf<R: AllocGlobal + Threads + Wait + Sync>(&self, rt: &R) -> Result<u32, Fail> {
-        let whole = self.left(rt, &[], &[])?;
+    fn fail_at_shelf<R: AllocGlobal + Threads + Wait + Sync>(
+        &self,
+        rt: &R,
+        whole: &Left,
+    ) -> Result<u32, Fail> {
         let mut failed = 0u32;
         for call in 0..=self.calls.len() {
-            let left = self.left(rt, &[failed.saturating_add(1)], &[])?;
-            let told = self.told(rt.alloc(), call)?;
-            let is_last = call == self.calls.len();
-            let writes = if is_last { self.written.calls() } else { 0 };
-            if let Some(wrong) = self.wrong_in(&left, &whole, told.as_str(), call, writes) {
+            if let Some(wrong) = self.wrong_at_shelf(rt, whole, call)? {
                 return Err(self.fail(rt.alloc(), call, wrong)?);
             }
-            failed = failed.saturating_add(u32::from(!is_last));
+            failed = failed.saturating_add(u32::from(call < self.calls.len()));
         }
         Ok(failed)
     }
 
-    // So does the sink. All files are put before.
-    fn fail_at_sink<R: AllocGlobal + Threads + Wait + Sync>(&self, rt: &R) -> Result<u32, Fail> {
-        let whole = self.left(rt, &[], &[])?;
-        let (calls, writes) = (self.calls.len(), self.written.calls());
+    // So does the sink.
+    fn fail_at_sink<R: AllocGlobal + Threads + Wait + Sync>(
+        &self,
+        rt: &R,
+        whole: &Left,
+    ) -> Result<u32, Fail> {
+        let writes = self.written.calls();
         let mut failed = 0u32;
         for write in 0..=writes {
-            let left = self.left(rt, &[], &[failed.saturating_add(1)])?;
-            let is_last = write == writes;
-            let told = if is_last {
-                self.status
-            } else {
-                "5 cannot write"
-            };
-            if let Some(wrong) = self.wrong_in(&left, &whole, told, calls, write) {
+            if let Some(wrong) = self.wrong_at_sink(rt, whole, write)? {
                 return Err(self.fail(rt.alloc(), write, wrong)?);
             }
-            failed = failed.saturating_add(u32::from(!is_last));
+            failed = failed.saturating_add(u32::from(write < writes));
         }
         Ok(failed)
+    }
+
+    fn fail_at_both<R: AllocGlobal + Threads + Wait + Sync>(
+        &self,
+        rt: &R,
+        whole: &Left,
+    ) -> Result<(u32, u32), Fail> {
+        let at_shelf = self.fail_at_shelf(rt, whole)?;
+        let at_sink = self.fail_at_sink(rt, whole)?;
+        Ok((at_shelf, at_sink))
+    }
+
+    // Both fail, beside what the command leaves where nothing does.
+    fn fail_at_each<R: AllocGlobal + Threads + Wait + Sync>(
+        &self,
+        rt: &R,
+    ) -> Result<(u32, u32), Fail> {
+        let whole = self.left(rt, &[], &[])?;
+        let failed = self.fail_at_both(rt, &whole);
+        drop(whole);
+        failed
     }
 
     // Says which call of which command failed with what.
@@ -174,25 +250,17 @@ impl Case<'_> {
     }
 }
 
-// By commands: 1 + 1 of show, 3 + 3 + 3 of walk, 7 + 5 of run, 6 + 6 of recheck, and 4 of gen.
+// Of the shelf, by commands: 1 + 1 of show, 3 + 3 + 3 of walk, 7 + 5 of run, 6 + 6 of recheck, and 4 of gen. Of
+// the sink, by lines: 5 + 3 of show, 5 + 20 + 5 of walk, and 4 of gen. All others write by one call: two runs and
+// two rechecks.
 #[test]
-fn each_call_of_the_shelf_fails(rt: HostRuntime) -> Result<(), Fail> {
-    let mut failed = 0u32;
+fn each_call_outside_fails(rt: HostRuntime) -> Result<(), Fail> {
+    let mut failed = (0u32, 0u32);
     for case in CASES {
-        failed = failed.saturating_add(case.fail_at_shelf(&rt)?);
+        let (at_shelf, at_sink) = case.fail_at_each(&rt)?;
+        failed.0 = failed.0.saturating_add(at_shelf);
+        failed.1 = failed.1.saturating_add(at_sink);
     }
-    assert_eq!(rt; failed, 39);
-    Ok(())
-}
-
-// Lines: 5 + 3 of show, 5 + 20 + 5 of walk, and 4 of gen. All others write by one call: two runs and two
-// rechecks.
-#[test]
-fn each_call_of_the_sink_fails(rt: HostRuntime) -> Result<(), Fail> {
-    let mut failed = 0u32;
-    for case in CASES {
-        failed = failed.saturating_add(case.fail_at_sink(&rt)?);
-    }
-    assert_eq!(rt; failed, 46);
+    same(&rt, failed, (39, 46));
     Ok(())
 }
