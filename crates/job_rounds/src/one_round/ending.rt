@@ -49,7 +49,12 @@ fn record_round<N: RoundName, E: Ear, G: Gate>(
     } = back;
     meet_all(round.store, &mut desk, &mut workers);
     let count = round.packets.len() as u32;
-    let outcomes = settle(alloc, round.claims, seats, logs, count)?;
+    let Ok(outcomes) = settle(alloc, round.claims, seats, logs, count) else {
+        drop((desk, ear));
+        drop((workers, events));
+        drop(made);
+        return Err(NoMemory);
+    };
     Ok(RoundEnd {
         desk,
         ear,
@@ -83,7 +88,10 @@ pub(crate) fn end_round<N: RoundName, E: Ear, G: Gate, T: Tender, R: Wait>(
     ensures end { IfOk result (IsRoundEnd E.name E.heard E.spare N.store N.job N.number round.now.hook
         round.now.packets.now N.before N.ear (map (λ hand. hand.worker) hands.value.items)) }
 {
-    finish_all(rt, &mut state, round.store, job, number, round.gates)?;
+    let Ok(()) = finish_all(rt, &mut state, round.store, job, number, round.gates) else {
+        drop((state, back));
+        return Err(NoMemory);
+    };
     tender.turn();
     record_round(alloc, state, job, number, round, hands, back)
 }

@@ -80,7 +80,10 @@ impl<N: RoundName, E: Ear> RoundState<N, E> {
         requires job { IsLoaded N.job }
         ensures begun { IfOk result (λ s. (s.desk ≡ desk) × (s.events ≡ []) × (s.made ≡ []) × (s.ear ≡ ear)) }
     {
-        let places = vec![in alloc; Place::start(); controls as usize]?;
+        let Ok(places) = vec![in alloc; Place::start(); controls as usize] else {
+            drop((desk, ear));
+            return Err(NoMemory);
+        };
         Ok(RoundState {
             desk,
             events: Vec::new(alloc),

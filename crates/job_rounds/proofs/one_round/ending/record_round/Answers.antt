@@ -58,14 +58,14 @@ returns g c =
     let closed = c.close_with_made-desk in
     let met = c.meet_all in
     let seen = c.deref_mut.ensures.value in
-    let settled = c.in_ok-outcomes.ensures in
+    let settled = c.in-Ok.ensures in
     let count = c.len-count.ensures in
     let long = zip_long IsSameWorker c.deref_mut.result.now met.new.workers met.ensures.same_workers ∙ ap length seen ∙ sym c.args.back.workers.ok.0 in
     let end : RoundEnd g.row.E.Denot = record {
       desk = met.new.desk;
       ear = closed.result.2;
       workers = with_items c.args.back.workers met.new.workers;
-      round = record { events = closed.result.1; outcomes = c.in_ok-outcomes.outcomes };
+      round = record { events = closed.result.1; outcomes = c.in-Ok.outcomes };
       made = closed.result.3;
     } in
     recorded g.E.Ear.name g.E.Ear.heard g.E.Ear.spare n.store n.job n.number n.before n.ear c.args.round.now.hook c.args.round.now.packets.now c.args.hands.value.items c.args.back c.args.state closed.result.0 end c.deref_mut.result.now met.new.workers
