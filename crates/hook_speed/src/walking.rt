@@ -61,36 +61,22 @@ fn frame_at(frames: &[[u8; LENGTH]], number: u32) -> &[u8]
     &frames[number as usize % frames.len()]
 }
 
-// Lists behind the rules.
-fn ruled_lists(alloc: Global) -> Result<Lists, Fail> {
-    let rules = rules(alloc)?;
-    let mut lists = Lists::new(alloc);
-    let done = step_all(&mut lists, &rules);
-    drop(rules);
-    match done {
-        Ok(()) => Ok(lists),
-        Err(fail) => {
-            drop(lists);
-            Err(fail)
-        }
-    }
-}
-
 fn walk_lists(alloc: Global, count: u32) -> Result<(), Fail> {
     let frames = frames(alloc)?;
+    let mut lists = Lists::new(alloc);
+    step_all(&mut lists, &rules(alloc)?)?;
     let mut walk = PlainWalk::with_room(alloc)?;
-    let lists = ruled_lists(alloc)?;
     for number in 0..count {
         walk.run(&lists, Hook::Ingress, frame_at(&frames, number));
     }
-    drop((lists, walk, frames));
     Ok(())
 }
 
 fn visit_lists(alloc: Global, count: u32) -> Result<(), Fail> {
     let frames = frames(alloc)?;
+    let mut lists = Lists::new(alloc);
+    step_all(&mut lists, &rules(alloc)?)?;
     let mut walk = Walk::with_room(alloc)?;
-    let lists = ruled_lists(alloc)?;
     for number in 0..count {
         walk_still(
             &mut walk,
@@ -100,7 +86,6 @@ fn visit_lists(alloc: Global, count: u32) -> Result<(), Fail> {
             frame_at(&frames, number),
         );
     }
-    drop((lists, walk, frames));
     Ok(())
 }
 
