@@ -20,15 +20,18 @@ use Rattle.batch_run.specs.declared.made_action.MadeAction.{MadeAction}
 use Rattle.run_report.specs.declared.counters.CounterLine.{CounterLine}
 use Rattle.run_report.specs.declared.rounds.RoundRecord.{RoundRecord}
 use Rattle.lawful_runs.specs.declared.loaded.LoadedJob.{LoadedJob}
-use Rattle.lawful_runs.specs.Given.{IsLoaded, given_rounds, rounds_from, capture_count, command_count, packet_count}
-use Rattle.lawful_runs.specs.Lawful.{AreRounds, counter_of, executed_in, outcomes_in, made_by, counters_of}
-use Rattle.round_terms.specs.Hearing.{ear_of}
+use Rattle.lawful_runs.specs.Given.{GivenRound, IsLoaded, given_rounds, rounds_from, capture_count, command_count, packet_count}
+use Rattle.lawful_runs.specs.Lawful.{AreRounds, IsRunWith, counter_of, executed_in, outcomes_in, made_by, counters_of}
+use Rattle.round_terms.specs.Hearing.{EarView, ear_of}
 use Rattle.worker_rounds.specs.declared.worker.Worker.{Worker}
 use Rattle.job_rounds.specs.OfRoundState.Views.{journal}
 use Rattle.job_rounds.specs.OfRoundState.Rounds.{StoreName, IsDeskOf}
 use Rattle.run_counts.specs.Counting.{count_of, counted_in}
 use Rattle.job_rounds.specs.declared.course.Course.{Course}
 use Rattle.job_rounds.specs.Hooks.{AreWorkersOf}
+use Rattle.job_rounds.specs.declared.running.JobEnd.{JobEnd}
+use Rattle.job_rounds.specs.Runs.{IsJobEnd}
+use Rattle.job_rounds.proofs.Beginning.{many_mapped}
 use Rattle.job_rounds.specs.SoFar.{IsSoFar, IsBetween, all_made}
 use Rattle.job_rounds.specs.Left.{packets_left}
 use Rattle.job_rounds.specs.Visited.{visits_by, HaveVisited}
@@ -73,6 +76,32 @@ pub readers_stay : (store : StoreName) (left : ℕ) (earlier : List Outcome) (wo
     → All (λ (reader : HookSeat). IsSeatAt store.table store.shape reader.place × IsOutside reader.place) (map (λ (worker : Worker). worker.reader) workers)
 readers_stay store left earlier workers between = each_reader (λ (reader : HookSeat). IsSeatAt store.table store.shape reader.place × IsOutside reader.place) workers
     (λ at worker there. let own = between at worker there in (own.own, own.outside))
+
+-- ---- what it comes to
+module _ {E : Type 0} (name : E → ℕ) (heard : E → Option (List EventName)) (spare : E → ℕ) (store : StoreName) (loaded : LoadedJob) (first : EarView) (course : Course E)
+    (far : IsSoFar name heard spare store loaded first (length loaded.job.rounds) course) (rounds : List RoundRecord) (same : course.past.rounds.items ≡ rounds) where
+  lawful_run : (counters : List CounterLine) (counts : List Count) → AreCounted (outcomes_in course.past.rounds.items) counts
+      → counters ≡ lines_of counts (all_made (map (λ (m : Vec MadeAction Global). m.items) course.past.made.items)) → IsRunWith loaded (record { rounds = rounds; counters = counters }) (journal course.desk)
+  lawful_run counters counts counted lines = record {
+    rounds = subst (λ (rs : List RoundRecord). AreRounds loaded.job.workers (given_rounds loaded) [] [] rs (journal course.desk)) same
+        (subst (λ (gs : List GivenRound). AreRounds loaded.job.workers gs [] [] course.past.rounds.items (journal course.desk)) (all_rounds loaded) far.lawful);
+    counters = lines ∙ counters_are (journal course.desk) course.past.rounds.items (all_made (map (λ (m : Vec MadeAction Global). m.items) course.past.made.items)) counts far.made counted ∙ ap (counters_of (journal course.desk)) same;
+  }
+
+  pub job_ends : (counters : List CounterLine) (readers : Vec HookSeat Global) (counts : List Count) → AreCounted (outcomes_in course.past.rounds.items) counts
+      → counters ≡ lines_of counts (all_made (map (λ (m : Vec MadeAction Global). m.items) course.past.made.items)) → readers.items ≡ map (λ (worker : Worker). worker.reader) course.workers.items
+      → IsJobEnd name heard store loaded first (record { run = record { rounds = rounds; counters = counters }; desk = course.desk; readers = readers; ear = course.ear })
+  job_ends counters readers counts counted lines own = record {
+    run = lawful_run counters counts counted lines;
+    desk = far.desk;
+    many = ap length own ∙ many_mapped (λ (worker : Worker). worker.reader) course.workers.items ∙ far.many;
+    readers = subst (All (λ (reader : HookSeat). IsSeatAt store.table store.shape reader.place × IsOutside reader.place)) (sym own)
+        (readers_stay store (packets_left loaded (length loaded.job.rounds)) (outcomes_in course.past.rounds.items) course.workers.items far.workers);
+    visited = subst (λ (rs : List HookSeat). HaveVisited rounds rs) (sym own) (subst (λ (rs : List RoundRecord). HaveVisited rs (map (λ (worker : Worker). worker.reader) course.workers.items)) same
+        (have_visited course.past.rounds.items course.workers.items (λ at worker there. (far.workers at worker there).visited)));
+    name_is = far.name_is;
+    heard_is = far.heard_is ∙ ap (λ (rs : List RoundRecord). option_map (λ names. names ++ names_in rs) first.heard) same;
+  }
 
 -- ---- the beginning
 none_more : (heard : Option (List EventName)) → heard ≡ option_map (λ (names : List EventName). names ++ []) heard

@@ -86,7 +86,10 @@ fn apply_as<E: Edited>(
         Err(refusal) => return Err(ApplyFault::Refused(refusal)),
     };
     match make_room(parts, store, &begun.needs) {
-        Some(hindrance) => Err(held(hindrance)),
+        Some(hindrance) => {
+            drop(begun);
+            Err(held(hindrance))
+        }
         None => Ok(do_edit::<E>(parts, store, edit, begun)),
     }
 }

@@ -40,7 +40,13 @@ pub(crate) fn begin(alloc: Global, parts: &mut Parts, edit: &Edit) -> Result<Beg
         → IsCause refusal (step (now (commits parts.old.ledger)) edit.now) }
 {
     let prepared = parts.ledger.lists.prepare(edit)?;
-    let plan = Plan::of(alloc, parts, edit)?;
+    let plan = match Plan::of(alloc, parts, edit) {
+        Ok(plan) => plan,
+        Err(refused) => {
+            drop(prepared);
+            return Err(Refusal::from(refused));
+        }
+    };
     let needs = plan.needs(prepared.made());
     Ok(Begun {
         prepared,

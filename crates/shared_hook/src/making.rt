@@ -34,8 +34,15 @@ pub fn make_hook(alloc: Global) -> Result<(HookStore, Desk, Passes), NoMemory>
     ensures unused { IfOk result (λ made. All IsUnused made.2.left.items) }
 {
     let (store, writer, readers) = make_store::<HookLaw>(alloc, HOOK_SHAPE)?;
-    let parts = Parts::new(alloc, writer)?;
-    let left = readers_of(alloc, &store, readers)?;
+    let Ok(parts) = Parts::new(alloc, writer) else {
+        // Here and below in one call: part by part it is long to prove.
+        drop((store, readers));
+        return Err(NoMemory);
+    };
+    let Ok(left) = readers_of(alloc, &store, readers) else {
+        drop((store, parts));
+        return Err(NoMemory);
+    };
     Ok((store, Desk { parts, alloc }, Passes { left }))
 }
 

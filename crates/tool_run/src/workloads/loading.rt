@@ -22,10 +22,12 @@ pub fn load_workload(alloc: Global, filters: u32) -> Result<LoadedJob, NoMemory>
     ensures loaded { IfOk result IsLoaded }
 {
     let batch = Bytes::from_vec(gen_batch(alloc, filters)?);
+    let batches = Files::from_vec(Vec::from_array(alloc, [batch])?);
     let capture = capture_of(alloc, filters)?;
+    let captures = Captures::from_vec(Vec::from_array(alloc, [capture])?);
     Ok(LoadedJob {
         job: made_job(alloc)?,
-        batches: Files::from_vec(Vec::from_array(alloc, [batch])?),
-        captures: Captures::from_vec(Vec::from_array(alloc, [capture])?),
+        batches,
+        captures,
     })
 }
