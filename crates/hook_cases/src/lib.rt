@@ -1,11 +1,19 @@
-//! The live hook in use: a desk that edits, and a reader that walks meanwhile in a thread of its own.
+//! The shared store and the live hook in use: threads that hand each other what they have seen, a desk that
+//! edits, and a reader that walks meanwhile in a thread of its own.
 //!
-//! The contracts of `shared_hook` and `hook_reader` say what each call answers. What is added here: that
-//! memory, where it is there, is enough; that edits at random are answered as plain lists, kept apart, answer
-//! them (`random`); that a reader that walks while such edits are made is told, at each visit, what plain
-//! lists at the visit's point say (`meanwhile`); that edits between two given visits give a walk the points
-//! that were worked out by hand (`scripts`); and that a reader that stays inside holds edits up, by the
-//! answer that was worked out by hand, and no longer than it stays (`holding`).
+//! The contracts of the crates below say what each call answers. What is added here: that memory, where it is
+//! there, is enough; that edits at random are answered as plain lists, kept apart, answer them (`random`);
+//! that a reader that walks while such edits are made is told, at each visit, what plain lists at the visit's
+//! point say (`meanwhile`); that edits between two given visits give a walk the points that were worked out
+//! by hand (`scripts`); that a reader that stays inside holds edits up, by the answer that was worked out by
+//! hand, and no longer than it stays (`holding`); and that an edit that found no memory changes nothing
+//! (`wanting`).
+//!
+//! Below the hook: that the words of a block are the ones meant, which were written down by hand (`blocks`);
+//! that a store, its writer and its readers get on in threads that are joined (`stores`), as do threads that
+//! draw numbers and count (`counts`); that a store with the hook's law answers before any commit (`laws`),
+//! and that a reader of a new hook enters, visits a head, leaves and learns (`readers`); and the rooms of a
+//! writer of masks (`masks`).
 //!
 //! # How it is tried
 //!
@@ -23,6 +31,10 @@
 #![tactic(auto)]
 
 #[cfg(test)]
+mod blocks;
+#[cfg(test)]
+mod counts;
+#[cfg(test)]
 mod dice;
 #[cfg(test)]
 mod editor;
@@ -31,9 +43,13 @@ mod frames;
 #[cfg(test)]
 mod holding;
 #[cfg(test)]
+mod laws;
+#[cfg(test)]
 mod lines;
 #[cfg(test)]
 mod log;
+#[cfg(test)]
+mod masks;
 #[cfg(test)]
 mod meanwhile;
 #[cfg(test)]
@@ -43,11 +59,17 @@ mod random;
 #[cfg(test)]
 mod random_lines;
 #[cfg(test)]
+mod readers;
+#[cfg(test)]
 mod recorder;
+#[cfg(test)]
+mod same;
 #[cfg(test)]
 mod script;
 #[cfg(test)]
 mod scripts;
+#[cfg(test)]
+mod stores;
 #[cfg(test)]
 mod trouble;
 #[cfg(test)]
