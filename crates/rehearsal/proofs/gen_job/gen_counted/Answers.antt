@@ -1,5 +1,5 @@
 use Rattle.tool_run.proofs.Generating.{nothing_made}
-use Rattle.clsact_cli.proofs.gen_job.gen_counted.Goals as goal
+use Rattle.rehearsal.proofs.gen_job.gen_counted.Goals as goal
 
 pub returns-in_err-loaded-clause-so_far : goal.returns-in_err-loaded-clause-so_far
 returns-in_err-loaded-clause-so_far g c =

@@ -4,8 +4,8 @@ mod fault_table;
 mod faults;
 mod gateway;
 
+use crate::commands::tool;
 use crate::same::same;
-use crate::tool::tool;
 use std::alloc::{AllocError, Global};
 use std::sync::Wait;
 use std::test::Fail;

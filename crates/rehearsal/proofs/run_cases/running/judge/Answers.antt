@@ -1,6 +1,6 @@
 use Rattle.std.proofs.Common.{arith}
 use Rattle.report_laws.proofs.ShortRuns.{events_few, packets_few}
-use Rattle.clsact_cli.proofs.run_cases.running.judge.Goals as goal
+use Rattle.rehearsal.proofs.run_cases.running.judge.Goals as goal
 
 pub write_report-requires-clause-events : goal.write_report-requires-clause-events
 write_report-requires-clause-events c = let few = events_few c.args.job.now c.args.run.now c.requires.job c.requires.run in omega (arith, few)

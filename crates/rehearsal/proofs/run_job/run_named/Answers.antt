@@ -6,7 +6,7 @@ use Rattle.tool_run.specs.Runs.{IsRunOfHeld, status_of_run}
 use Rattle.tool_run.specs.Work.{Ends}
 use Rattle.tool_run.proofs.Writing.{delivery_caused}
 use Rattle.report_laws.proofs.ShortRuns.{events_few, packets_few}
-use Rattle.clsact_cli.proofs.run_job.run_named.Goals as goal
+use Rattle.rehearsal.proofs.run_job.run_named.Goals as goal
 
 pub returns-in_err-deliver-clause-cause : goal.returns-in_err-deliver-clause-cause
 returns-in_err-deliver-clause-cause g c =

@@ -4,9 +4,9 @@ use Rattle.tool_words.specs.Command.{Request, Run, Gen, texts, request_of}
 use Rattle.tool_words.specs.Requests.{request}
 use Rattle.tool_run.specs.Causes.{CausedIn}
 use Rattle.tool_run.proofs.Exact.{exact, complete}
-use Rattle.clsact_cli.proofs.tool.tool.Given as given
-use Rattle.clsact_cli.proofs.tool.tool.Goals as goal
-use Rattle.clsact_cli.proofs.tool.tool.Goals.{In-Some-Run, In-Some-Gen}
+use Rattle.rehearsal.proofs.commands.tool.Given as given
+use Rattle.rehearsal.proofs.commands.tool.Goals as goal
+use Rattle.rehearsal.proofs.commands.tool.Goals.{In-Some-Run, In-Some-Gen}
 
 -- the words ask for the run of this job
 asked : (g : given.Over) (c : In-Some-Run g) → Some (Run c.in-Some-Run.job.now) ≡ request_of (texts c.args.words.now)

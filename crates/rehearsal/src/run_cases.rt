@@ -8,19 +8,18 @@
 //! by itself after a while, and the test fails. And there are jobs at random, with as many threads as a job
 //! can have (`random`): each report is judged as one of a lawful run, and each counter is counted again.
 //!
-//! A lawful run may be a stale one: nothing is promised of when a walk sees an edit. So lines are also
-//! placed before and behind each visit of a walk, in all ways (`placements`), and at random between the
-//! visits of two walks (`random_placements`). Another gate (`Schedule`) has walks and lines take turns.
-//! What they lead to is worked out by a plain twin: `twin` has the device, and `twin_walk` a packet's walk
-//! while it changes.
+//! A lawful run may be a stale one: nothing is promised of when a walk sees an edit. So lines are also placed
+//! before and behind each visit of a walk, in all ways (`placements`), and at random between the visits of
+//! two walks (`random_placements`). Another gate (`Schedule`) has walks and lines take turns. What they lead
+//! to is worked out by a plain twin: `twin` has the device, and `twin_walk` a packet's walk while it changes.
 //!
 //! # How it is tried
 //!
 //! All files of a job are held in memory (`jobs`), so a test runs as the program does: from a job's text to
 //! the text of its report. What a test finds is the same whatever the schedule.
 //!
-//! These tests stand in the program's crate, at the top, where no other crate's proof waits for theirs. There
-//! is nothing to call.
+//! These tests stand at the top, where only the program's own proof waits for theirs. There is nothing to
+//! call.
 //!
 //! Not promised: anything of time.
 mod dice;

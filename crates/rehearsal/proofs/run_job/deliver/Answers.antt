@@ -1,6 +1,6 @@
 use Rattle.std.proofs.Common.{arith}
 use Rattle.report_laws.proofs.ShortRuns.{events_few, packets_few}
-use Rattle.clsact_cli.proofs.run_job.deliver.Goals as goal
+use Rattle.rehearsal.proofs.run_job.deliver.Goals as goal
 
 pub write_report-requires-clause-events : goal.write_report-requires-clause-events
 write_report-requires-clause-events g c =
