@@ -1,6 +1,6 @@
 """Reads files of worked cases: each case goes from a line `== NAME` to the next, and has sections from lines `-- NAME`.
 
-.ci/cases says which sections there are and what they mean.
+.ci/cases says which sections there are and what they mean. A text is held here to those that speak of it.
 """
 import os
 import re
@@ -36,7 +36,7 @@ def cases_of(path):
                 cases.append((line[3:], [], {}))
                 section = None
             elif line.startswith("-- "):
-                section, *more = re.match(r"((?:file|given) \S+|\S+)(?: (.*))?$", line[3:]).groups("")
+                section, *more = re.match(r"((?:file|given|holds) \S+|\S+)(?: (.*))?$", line[3:]).groups("")
                 cases[-1][2][section] = ("".join(more), [])
             elif cases and section:
                 cases[-1][2][section][1].append(line)
@@ -74,3 +74,22 @@ def put_inputs(sections, room):
     for name, data in [("batch", batch(sections.get("batch", ("", []))[1])), ("capture", made), *given]:
         with open(os.path.join(room, name), "wb") as file:
             file.write(data)
+
+
+def text_faults(sections, written):
+    """What differs between the text that is wanted and the one that was written."""
+    wanted = {name: (how, "".join(f"{it}\n" for it in lines)) for name, (how, lines) in sections.items()}
+    begins, text = wanted.get("text", ("", ""))
+    in_parts = begins or "last" in wanted
+    if (written[: len(text)] if in_parts else written) != text:
+        yield "writes another text:\n" + written[:2000]
+    if not written.endswith(wanted.get("last", ("", ""))[1]):
+        yield "ends with another text:\n" + written[-2000:]
+    for name in wanted:
+        if name.startswith("holds ") and "\n" + wanted[name][1] not in written:
+            yield f"its text doesn't have the lines of {name}"
+    lines = written.splitlines()
+    for count, pattern in (it.split(" ", 1) for it in sections.get("counts", ("", []))[1]):
+        found = sum(bool(re.fullmatch(pattern, line)) for line in lines)
+        if found != int(count):
+            yield f"has {found} lines, not {count}, of {pattern}"

@@ -44,7 +44,7 @@ _clsact_place() {
 
 _clsact() {
     local word=${COMP_WORDS[COMP_CWORD]} command at
-    local commands="walk show gen run recheck check json text export picture sum help"
+    local commands="walk show gen run recheck trace check explain json text export import convert picture sum package help"
     COMPREPLY=()
     if [[ $word == *\$* ]]; then
         compopt -o default 2>/dev/null
@@ -60,19 +60,24 @@ _clsact() {
         return
     fi
     case $command:$at in
-        walk:2) _clsact_words "$word" ingress egress ;;
-        walk:3 | show:2 | export:2) _clsact_files "$word" .tc ;;
-        walk:4 | walk:5) _clsact_files "$word" .pcap ;;
+        walk:2 | trace:2 | explain:2) _clsact_words "$word" ingress egress ;;
+        walk:3 | trace:3 | explain:3 | show:2 | export:2) _clsact_files "$word" .tc ;;
+        walk:4 | walk:5 | trace:4 | explain:4) _clsact_files "$word" .pcap ;;
         check:2 | check:3)
-            case $word in
+            case $word:$at in
                 -*) _clsact_words "$word" --no-warnings ;;
-                *) _clsact_files "$word" .tc ;;
+                *:3) _clsact_files "$word" .tc ;;
+                *)
+                    _clsact_words "$word" ingress egress
+                    _clsact_files "$word"
+                    ;;
             esac
             ;;
+        check:4) _clsact_files "$word" .pcap ;;
         run:2 | recheck:2 | picture:2) _clsact_files "$word" .job ;;
         picture:4) _clsact_files "$word" .svg ;;
-        gen:3) _clsact_files "$word" / ;;
-        recheck:3 | picture:3 | sum:*) _clsact_files "$word" ;;
+        gen:3 | package:2) _clsact_files "$word" / ;;
+        recheck:3 | picture:3 | sum:* | import:* | convert:*) _clsact_files "$word" ;;
         help:2) _clsact_words "$word" batch job report "$commands" ;;
     esac
 }

@@ -1,5 +1,5 @@
 #!/usr/bin/env python3
-"""Makes the captures of the examples gateway, vlan, refused and overlap: what comes in, and what is to go out by the rules of docs/FORMATS.md.
+"""Makes the captures of the examples gateway, vlan, refused, overlap and leak: what comes in, and what is to go out by the rules of docs/FORMATS.md.
 
 It shares no code with the program: the packets that pass were picked by hand.
 """
@@ -56,6 +56,17 @@ CAPTURES = {
     "overlap/passed.pcap": [
         (3, "udp 10.0.0.1"),
     ],
+    "leak/input.pcap": [
+        (1, "udp 10.0.0.1"),
+        (2, "udp 10.0.0.1"),
+        (3, "udp 10.0.0.1"),
+        (4, "udp 10.0.0.1"),
+    ],
+    "leak/passed.pcap": [
+        (2, "udp 10.0.0.1"),
+        (3, "udp 10.0.0.1"),
+    ],
+    "leak/none.pcap": [],
     "refused/input.pcap": [
         (1, "udp 10.0.0.1"),
         (2, "udp 10.0.0.2"),

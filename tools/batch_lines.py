@@ -7,6 +7,7 @@ end in a LookupError or a ValueError.
 import re
 from collections.abc import Iterator
 from dataclasses import dataclass, field
+from ipaddress import IPv6Address
 
 from tool_ends import Fault, shown
 
@@ -15,6 +16,7 @@ PREFS = ("pref", "prio", "priority", "preference")
 VALUES = ("index", "id", "protocol", "priority", "mark", "queue_mapping")
 SETTINGS = ("id", "protocol", "priority", "mark", "queue_mapping", "jump", "goto")
 WIDTHS = {"tcp_flags": 12, "ip_tos": 8, "ip_ttl": 8}
+PROTOCOLS = {"icmp": 1, "tcp": 6, "udp": 17, "icmpv6": 58, "sctp": 132}
 
 
 @dataclass(frozen=True)
@@ -74,6 +76,34 @@ class Field:
         base = 0 if self.name == "ip_ttl" else 16
         return int(given, base) if given else (1 << WIDTHS.get(self.name, 16)) - 1
 
+    @property
+    def width(self) -> int:
+        """How many bits the value has at most."""
+        if self.name.endswith("_ip"):
+            return 128 if ":" in self.value else 32
+        return 48 if self.name.endswith("_mac") else 16
+
+    @property
+    def bits(self) -> int:
+        """The mask as bits, also that of an address."""
+        if self.name.endswith("_ip"):
+            return (1 << self.width) - (1 << (self.width - self.mask))
+        return self.mask
+
+    @property
+    def number(self) -> int:
+        """The value as a number, also with bits that its mask leaves out."""
+        value = self.value.partition("/")[0]
+        if self.name.endswith("_ip"):
+            return address_number(value)
+        if self.name.endswith("_ethtype"):
+            return type_of(value) or 0
+        if self.name == "ip_proto" and value in PROTOCOLS:
+            return PROTOCOLS[value]
+        if self.name.endswith("_mac") or self.name in ("ip_proto", "tcp_flags", "ip_tos"):
+            return int(value.replace(":", ""), 16)
+        return number_of(value)
+
 
 @dataclass
 class Request:
@@ -89,6 +119,7 @@ class Request:
     fields: list[Field] = field(default_factory=list)
     actions: list[Action] = field(default_factory=list)
     words: dict[str, int] = field(default_factory=dict)
+    line: int = 0
 
 
 def mac_mask(given: str) -> int:
@@ -96,6 +127,13 @@ def mac_mask(given: str) -> int:
         return int(given.replace(":", ""), 16)
     length = int(given or 48)
     return (1 << 48) - (1 << (48 - length))
+
+
+def address_number(value: str) -> int:
+    """An IPv6 address, or four numbers with dots."""
+    if ":" in value:
+        return int(IPv6Address(value))
+    return int.from_bytes([int(it) for it in value.split(".")], "big")
 
 
 def number_of(word: str) -> int:
@@ -124,13 +162,18 @@ def lines_in(data: bytes) -> Iterator[Line]:
     return (line for number, raw in enumerate(lines, 1) if (line := line_from(number, raw)).words)
 
 
-def lines_of(name: str) -> Iterator[Line]:
-    """The lines of a file that have words."""
+def read(name: str) -> bytes:
+    """The bytes of a file."""
     try:
         with open(name, "rb") as file:
-            return lines_in(file.read())
+            return file.read()
     except OSError as error:
         raise Fault(f"{shown(name)}: cannot read: {error.strerror}") from None
+
+
+def lines_of(name: str) -> Iterator[Line]:
+    """The lines of a file that have words."""
+    return lines_in(read(name))
 
 
 def words_of(texts: list[str], at: int) -> tuple[str, dict[str, int], int]:
@@ -179,7 +222,7 @@ def take_options(request: Request, texts: list[str], at: int) -> int:
 def request_of(line: Line) -> Request:
     """What a good line asks for."""
     texts = [it.text for it in line.words]
-    request, at = Request(texts[0], texts[1]), 2
+    request, at = Request(texts[0], texts[1], line=line.number), 2
     if request.sort == "filter":
         request.hook = texts[4]
         at = take_options(request, texts, 5)

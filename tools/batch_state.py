@@ -2,7 +2,7 @@
 
 The program alone judges lines. This follows those that it accepted, by the rules of docs/FORMATS.md: which
 pref, handle and index a line gets, which actions it makes, binds and lets go. Its test holds the filters and
-actions that it comes to against the text of `show`. Not kept: serials, the order of filters, their values.
+actions that it comes to against the text of `show`. Not kept: serials, the order of filters.
 """
 from collections import Counter
 from collections.abc import Iterator
@@ -17,23 +17,28 @@ FIRST_PREF = 49152
 
 @dataclass
 class Filter:
-    """A filter: which bits it looks at, and the actions that it names."""
+    """A filter: which bits it looks at, the actions that it names, and the line that put it."""
 
     mask: Mask
     actions: list[Name]
+    request: Request
 
 
 @dataclass
 class Table:
-    """The filters of a chain and pref, by handle, and how many of them have each mask."""
+    """The filters of a chain and pref, by handle, and how many of them have each mask, the oldest mask first."""
 
     protocol: int | None
     filters: dict[int, Filter] = field(default_factory=dict)
     masks: Counter[Mask] = field(default_factory=Counter)
 
     def put(self, handle: int, filter: Filter) -> None:
+        """Puts a filter, also in another's place. A mask that both have keeps its age."""
+        old = self.filters.get(handle)
         self.filters[handle] = filter
         self.masks[filter.mask] += 1
+        if old:
+            self.masks -= Counter([old.mask])
 
     def take(self, handle: int) -> Filter:
         """Takes a filter out."""
@@ -44,12 +49,13 @@ class Table:
 
 @dataclass
 class Standing:
-    """An action that stands: as a line wrote it, the hook where that was, and who holds it."""
+    """An action that stands: as a line wrote it, the hook and line where that was, and who holds it."""
 
     action: Action
     hook: str
     own: bool
     binds: int = 0
+    line: int = 0
 
 
 @dataclass
@@ -113,9 +119,9 @@ class State:
             del self.actions[name]
             change.gone.append(name)
         elif name in self.actions:
-            self.actions[name].action = action
+            self.actions[name].action, self.actions[name].line = action, request.line
         else:
-            self.actions[name] = Standing(action, "", True)
+            self.actions[name] = Standing(action, "", True, line=request.line)
             change.made.add(0)
 
     def free_index(self, kind: str) -> int:
@@ -133,14 +139,14 @@ class State:
         request.handle = request.handle or free_handle(table)
         for place, action in enumerate(request.actions):
             self.bind(request, action, place, change)
-        old = [table.take(it) for it in (request.handle,) if it in table.filters]
-        table.put(request.handle, Filter(mask_of(request), change.taken))
+        old = [table.filters[it] for it in (request.handle,) if it in table.filters]
+        table.put(request.handle, Filter(mask_of(request), change.taken, request))
         self.unbind(old, change)
 
     def bind(self, request: Request, action: Action, place: int, change: Change) -> None:
         name = (action.kind, action.index or self.free_index(action.kind))
         if name not in self.actions:
-            self.actions[name] = Standing(action, request.hook, False)
+            self.actions[name] = Standing(action, request.hook, False, line=request.line)
             change.made.add(place)
         self.actions[name].binds += 1
         change.taken.append(name)

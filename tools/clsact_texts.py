@@ -1,91 +1,24 @@
 """The lines of the program's texts: what each says, as an object, and the line that an object spells.
 
-Each form of a line stands once, as a template, and is read and spelt by it, so that both agree: `{name}` is a
-word of its own, `{name:codec}` one of another codec, `{name=words}` fixed words that are kept under the name,
-and what stands in `[ ]` may be missing. An action of `show` is two lines, its own and that of its counts.
+Each form of a line stands once, as a template of text_forms.py, by which it is read and spelt. An action of
+`show` is two lines, its own and that of its counts.
 
-Forms are those of docs/FORMATS.md: `walk`, `show`, `gen`, the report of a run, and what a check of a report
-answers. What isn't promised: that a text which has these lines is one that the program would write.
+Forms are those of docs/FORMATS.md: `walk`, `show`, `gen`, `trace`, the report of a run, and what a check of a
+report answers. What isn't promised: that a text which has these lines is one that the program would write.
 """
+import json
 import re
-from collections.abc import Callable, Iterable, Iterator
-from dataclasses import dataclass
-from typing import Any
+from collections.abc import Iterable, Iterator
+from functools import lru_cache
+from typing import NamedTuple
 
+from packet_lines import N, TEXT_RUN, packets_in, pieces_of
+from text_forms import CODECS, Codec, Form, Object as Object
 from tool_ends import Fault
 
-Object = dict[str, Any]
 LONGEST = 1 << 20
-N = "(?:0|[1-9][0-9]{0,19})"
-KIND = "(?:gact|vlan|skbedit)"
+REMEMBERED = 1 << 12
 LAST = ("end", "lawful", "unlawful")
-
-
-@dataclass(frozen=True)
-class Codec:
-    """How a value is spelt: which words may stand there, the value that they say, and back."""
-
-    pattern: str
-    read: Callable[[str], Any]
-    spell: Callable[[Any], str] = str
-
-
-def word_value(word: str) -> int | str:
-    """A decimal number is a number, and any other word is kept as it stands."""
-    return int(word) if re.fullmatch(N, word) else word
-
-
-def fields_of(words: str) -> Object:
-    parts = words.split()
-    return {name: word_value(value) for name, value in zip(parts[::2], parts[1::2])}
-
-
-def fields_text(fields: Object) -> str:
-    return "".join(f" {name} {value}" for name, value in fields.items())
-
-
-def bound_of(words: str) -> list[Object]:
-    found = re.findall(r" action (\w+) index (\d+)", words)
-    return [{"kind": kind, "index": int(index)} for kind, index in found]
-
-
-def bound_text(actions: list[Object]) -> str:
-    return "".join(f" action {it['kind']} index {it['index']}" for it in actions)
-
-
-def serials_of(words: str) -> list[int]:
-    return [] if words == "none" else [int(it) for it in words.split(",")]
-
-
-def serials_text(serials: list[int]) -> str:
-    return ",".join(map(str, serials)) or "none"
-
-
-def points_of(words: str) -> list[int]:
-    return [int(it) for it in words.split(" ")]
-
-
-def points_text(points: list[int]) -> str:
-    return " ".join(map(str, points))
-
-
-CODECS = {
-    "number": Codec(N, int),
-    "word": Codec("[!-~]+", word_value),
-    "verdict": Codec("pass|drop", str),
-    "hook": Codec("ingress|egress", str),
-    "kind": Codec(KIND, str),
-    "handle": Codec("0x[1-9a-f][0-9a-f]{0,7}", str),
-    "class": Codec("[0-9a-f]{1,4}:[0-9a-f]{1,4}", str),
-    "control": Codec("ok|drop|continue|pipe|reclassify", str),
-    "reason": Codec("[A-Z][A-Za-z]+", str),
-    "fields": Codec("(?: (?!action )[a-z_]+ [!-~]+)*", fields_of, fields_text),
-    "bound": Codec(f"(?: action {KIND} index {N})*", bound_of, bound_text),
-    "serials": Codec(f"none|{N}(?:,{N})*", serials_of, serials_text),
-    "points": Codec(f"{N}(?: {N})*", points_of, points_text),
-}
-CODEC_OF_NAME = {"protocol": "word"} | {name: name for name in CODECS}
-
 CONTROLS = ("{control}", "{control=jump} {jump}", "{control=goto} chain {chain}")
 SHAPES = (
     "{kind=gact}",
@@ -113,110 +46,72 @@ DONE = (
     "{done=action changed}",
     "{done=action gone}",
 )
-ACTIONS = [f"actions add action {it} {control} index {{index}}" for it in SHAPES for control in CONTROLS]
+ACTIONS = [f"{it} {control} index {{index}}" for it in SHAPES for control in CONTROLS]
+ACTION_FORMS = [Form("", it) for it in ACTIONS]
+
+
+def action_of(words: str) -> Object:
+    """What the words of an action say, without a type."""
+    said = next(said for form in ACTION_FORMS if (said := form.read(words)))
+    return {name: value for name, value in said.items() if name != "type"}
+
+
+def action_text(said: Object) -> str:
+    """The words of the action that says this; none where there is no such action."""
+    for form in ACTION_FORMS:
+        if set(said) <= set(form.slots):
+            try:
+                words = form.spell(said)
+            except (LookupError, TypeError, ValueError, AttributeError):
+                continue
+            if form.pattern.fullmatch(words) and action_of(words) == said:
+                return words
+    raise LookupError
+
+
+CODECS["action"] = Codec("|".join(it.unnamed() for it in ACTION_FORMS), action_of, action_text)
 FILTER = "filter add dev eth0 {hook} protocol {protocol} pref {pref} chain {chain} handle {handle} flower"
 LEFT = "[ priority {priority:class} mark {mark} queue {queue}]"
 SUMS = " packets {packets} passed {passed} dropped {dropped}"
+BROUGHT = " edit {edit} control {control:number} line {line}"
+MET = (
+    "visit {number} {visit=head} {hook} tables {tables}",
+    "{what=table} chain {chain} pref {pref} protocol {protocol}",
+    "{what=fields} protocol {protocol}{fields}",
+    "visit {number} {visit=miss}{fields:under}",
+    "visit {number} {visit=match}{fields:under} handle {handle}" + BROUGHT,
+    "visit {number} {visit=run} {position} of {length} serial {serial} {action:action}[ {room}]"
+    "[ length {frame}]" + BROUGHT,
+    "{what=restart} chain {chain} left {left}",
+    "{what=spent}",
+)
+PLACE = " {hook} chain {chain} pref {pref} protocol {protocol} handle {handle}"
 TEMPLATES = (
     ("qdisc", "qdisc add dev {device=eth0} {kind=clsact}"),
-    *(("action", it + COUNTS) for it in ACTIONS),
+    *(("action", f"actions add action {it}{COUNTS}") for it in ACTIONS),
     ("filter", FILTER + "{fields}{actions:bound}"),
     *(("refused", f"refused {{refused}} control {{control:number}} line {{line}} {it}") for it in SAID),
     ("packet", "packet {packet}[ worker {worker}] {verdict} length {length}" + LEFT + "[ points {points}]"),
+    *(("at", "at {packet} " + it) for it in MET),
+    ("decided", "decided {times}" + BROUGHT + PLACE),
     ("counter", "counter serial {serial} {kind} index {index} packets {packets} bytes {bytes}"),
     ("summary", "summary edits {edits} refused {refused}" + SUMS),
     ("report", "clsact report {version=1}"),
     ("round", "round {round}"),
-    *(("edit", f"edit {{edit}} control {{control:number}} line {{line}} {it}") for it in DONE),
+    *(("edit", f"{BROUGHT[1:]} {it}") for it in DONE),
     ("end round", "end round {round}"),
     ("end", "end"),
     ("lawful", "lawful"),
     ("unlawful", "unlawful {line}"),
 )
-
-
-@dataclass(frozen=True)
-class Slot:
-    """A place of a template where a value stands: its name, its codec, and which words may stand there."""
-
-    name: str
-    codec: Codec
-    pattern: str
-
-    def spelt(self, found: Object) -> str:
-        return self.codec.spell(found[self.name])
-
-
-def slot_of(inside: str) -> Slot:
-    """What `{name}`, `{name:codec}` or `{name=words}` stands for."""
-    name, mark, more = re.findall(r"(\w+)([:=]?)(.*)", inside)[0]
-    if mark == "=":
-        return Slot(name, Codec(re.escape(more), word_value), re.escape(more))
-    codec = CODECS[more or CODEC_OF_NAME.get(name, "number")]
-    return Slot(name, codec, codec.pattern)
-
-
-Part = tuple[bool, list[str | Slot]]
-
-
-def parts_of(template: str) -> Iterator[Part]:
-    """A template's parts, each with whether it may be missing, and its texts and slots."""
-    for part in re.findall(r"\[[^]]*\]|[^][]+", template):
-        pieces = re.findall(r"\{[^}]*\}|[^{}]+", part.strip("[]"))
-        yield part[0] == "[", [slot_of(it[1:-1]) if it[0] == "{" else it for it in pieces]
-
-
-class Form:
-    """One form of a line, by its template."""
-
-    def __init__(self, sort: str, template: str) -> None:
-        self.sort, self.template = sort, template
-        self.first = template.split(" ")[0]
-        self.parts = list(parts_of(template))
-        self.slots = {it.name: it for _, part in self.parts for it in part if isinstance(it, Slot)}
-        self.pattern = re.compile(self.pattern_text())
-
-    def pattern_text(self) -> str:
-        """The regular expression of the lines of this form."""
-        seen: set[str] = set()
-        return "".join(f"(?:{self.part_text(part, seen)})" + "?" * may_miss for may_miss, part in self.parts)
-
-    def part_text(self, part: list[str | Slot], seen: set[str]) -> str:
-        """The expression of one part. Where a name stands again, so does its word."""
-        text = ""
-        for it in part:
-            if isinstance(it, str):
-                text += re.escape(it)
-            else:
-                text += f"(?P={it.name})" if it.name in seen else f"(?P<{it.name}>{it.pattern})"
-                seen.add(it.name)
-        return text
-
-    def read(self, line: str) -> Object | None:
-        """What the line says, where it is of this form."""
-        found = self.pattern.fullmatch(line)
-        if not found:
-            return None
-        words = {name: word for name, word in found.groupdict().items() if word is not None}
-        return {"type": self.sort} | {name: self.slots[name].codec.read(word) for name, word in words.items()}
-
-    def spell(self, said: Object) -> str:
-        """The line that says this; another object gives another line or a LookupError."""
-        text = ""
-        for may_miss, part in self.parts:
-            names = [it.name for it in part if isinstance(it, Slot)]
-            if not may_miss or names[0] in said:
-                text += "".join(it if isinstance(it, str) else str(it.spelt(said)) for it in part)
-        return text
-
-
 FORMS = [Form(sort, template) for sort, template in TEMPLATES]
+FORMS_OF = {first: [it for it in FORMS if it.first == first] for first in {it.first for it in FORMS}}
 
 
 def read_line(line: str) -> Object | None:
     """What a line says, or for an action what its two lines say; nothing where no form has it."""
-    first = line.split(" ", 1)[0]
-    return next((said for form in FORMS if form.first == first and (said := form.read(line))), None)
+    forms = FORMS_OF.get(line.split(" ", 1)[0], [])
+    return next((said for form in forms if (said := form.read(line))), None)
 
 
 def spell_object(said: Object) -> str | None:
@@ -237,33 +132,101 @@ def reason_of(said: Object) -> str:
     return (spell_object(said) or "").split(" ", 6)[-1]
 
 
-def lines_of(raw: Iterable[bytes], name: str) -> Iterator[tuple[int, str]]:
-    """The lines of a text with their numbers, each of them whole and of ASCII."""
-    for number, line in enumerate(raw, 1):
-        if not line.endswith(b"\n"):
-            raise Fault(f"{name}:{number}: the text is cut within this line")
-        if not line.isascii():
-            raise foreign(name, number)
-        yield number, line[:-1].decode("ascii")
+AT_LINE = re.compile(f"at ({N}) ([!-~ ]+)\n".encode())
+JSON_AT = re.compile(f'{{"type": "at", "packet": ({N}), (.+)}}\n'.encode())
+
+
+class At(NamedTuple):
+    """An `at` line of a trace: the packet's number, and what stands behind it, which many have alike."""
+
+    packet: bytes
+    rest: bytes
+
+
+@lru_cache(REMEMBERED)
+def at_said(rest: bytes) -> Object | None:
+    """What stands behind the packet's number says; nothing where no line has it."""
+    said = read_line(f"at 0 {rest.decode()}")
+    return said and {name: value for name, value in said.items() if name not in ("type", "packet")}
+
+
+def at_object(at: At) -> Object:
+    """What the line says."""
+    return {"type": "at", "packet": int(at.packet)} | (at_said(at.rest) or {})
+
+
+@lru_cache(REMEMBERED)
+def json_behind(rest: bytes) -> bytes:
+    """The JSON behind the packet's number."""
+    return json.dumps(at_said(rest)).encode()[1:]
+
+
+def at_json(at: At) -> bytes:
+    """The line as JSON."""
+    return b'{"type": "at", "packet": %b, %b\n' % (at.packet, json_behind(at.rest))
+
+
+@lru_cache(REMEMBERED)
+def rest_of(behind: bytes) -> bytes:
+    """What stands behind the packet's number in the line of this JSON; nothing where no line has it."""
+    try:
+        line = spell_object(json.loads(b'{"type": "at", "packet": 0, %b}' % behind)) or ""
+    except (ValueError, RecursionError):
+        return b""
+    return line.removeprefix("at 0 ").encode() if line.startswith("at 0 ") else b""
+
+
+def text_line(number: int, line: bytes, name: str) -> str:
+    """A line of a text, whole and of ASCII, without its end."""
+    if not line.endswith(b"\n"):
+        raise Fault(f"{name}:{number}: the text is cut within this line")
+    if not line.isascii():
+        raise foreign(name, number)
+    return line[:-1].decode("ascii")
 
 
 def foreign(name: str, number: int) -> Fault:
     return Fault(f"{name}:{number}: no text of the program has such a line")
 
 
-def objects_of(raw: Iterable[bytes], name: str) -> Iterator[tuple[int, Object]]:
-    """What the lines of a text say, with their numbers. The text is held to have its last line."""
+Run = re.Pattern[bytes]
+Part = bytes | At | Object
+
+
+def parts_of_text(blocks: Iterable[bytes], name: str, run: Run = TEXT_RUN) -> Iterator[tuple[int, Part]]:
+    """What a text says that comes in blocks of bytes: a run of packets as it stands, a visit cut in two, each
+    other line as an object, with the number of its first line. The text is held to have its last line."""
     number, ended = 0, False
-    lines = lines_of(raw, name)
-    for number, line in lines:
+    pieces = pieces_of(blocks, run, LONGEST)
+    for is_run, piece in pieces:
+        first = number + 1
+        if is_run and not ended:
+            number += piece.count(b"\n")
+            yield first, piece
+            continue
+        if not ended and (at := AT_LINE.fullmatch(piece)) and at_said(at[2]):
+            number = first
+            yield first, At(at[1], at[2])
+            continue
+        text = text_line(first, piece, name)
         if ended:
-            raise Fault(f"{name}:{number}: a line stands behind the text's end")
-        if line.startswith("actions "):
-            line += "\n" + next(lines, (0, ""))[1]
-        said = read_line(line)
+            raise Fault(f"{name}:{first}: a line stands behind the text's end")
+        if text.startswith("actions "):
+            text += "\n" + text_line(first + 1, next(pieces, (False, b"\n"))[1], name)
+        said = read_line(text)
         if not said:
-            raise foreign(name, number)
-        yield number, said
+            raise foreign(name, first)
+        number = first + text.count("\n")
+        yield first, said
         ended = said["type"] in LAST
     if not ended:
         raise Fault(f"{name}:{number + 1}: the text ends without `end`")
+
+
+def objects_of(raw: Iterable[bytes], name: str) -> Iterator[tuple[int, Object]]:
+    """What the lines of a text say, each as an object, with their numbers."""
+    for number, it in parts_of_text(raw, name):
+        if isinstance(it, bytes):
+            yield from enumerate(packets_in(it), number)
+        else:
+            yield number, at_object(it) if isinstance(it, At) else it

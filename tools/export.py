@@ -12,6 +12,7 @@ from collections.abc import Iterator
 
 from batch_lines import Field, type_of
 from clsact_texts import Object, spell_object
+from hints import tell
 from program import show, take_program
 from tc_rules import faults
 from tool_ends import OneLineParser, end_with, shown
@@ -119,7 +120,7 @@ def main(words: list[str]) -> int:
     given = parser.parse_args(words)
     answer, _ = show(given.program, given.BATCH)
     if answer.number > 1:
-        print(answer.told, end="", file=sys.stderr)
+        tell(answer.told, ["show", given.BATCH])
         return answer.number
     return write(given.BATCH, list(answer.objects))
 

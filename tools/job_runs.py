@@ -5,17 +5,21 @@ controls, workers, captures and lines are the job's, edits are counted from 1, n
 its round, and what report_checks.py says. Whether the report is lawful isn't looked at, and captures aren't
 read. Files have the names that the job gives them, from the folder in which the tool runs.
 """
-import re
+import shutil
+import tempfile
+from collections.abc import Iterator
 from dataclasses import dataclass, field
+from typing import IO
 
-from batch_lines import Line, lines_of
-from clsact_texts import Object, objects_of
+from batch_lines import Line, lines_of, read
+from clsact_texts import At, Object, at_object, foreign, parts_of_text
+from cures import why_bad
+from job_files import JobFile
+from packet_lines import ANY_RUN, packets_in
+from progress import Progress
 from report_checks import event_fault, packet_fault
-from tool_ends import Fault, shown
-
-COUNT = "([1-9][0-9]{0,9})"
-NAME = "([!-~]+)"
-
+from run_samples import Met, Sample
+from tool_ends import BLOCK, Fault, shown
 
 @dataclass(frozen=True)
 class Event:
@@ -30,67 +34,24 @@ class Event:
 
 @dataclass
 class Round:
-    """A round of a report: the edits accepted before it and up to its end, its events and packets."""
+    """A round of a report: the edits accepted before it and up to its end, its events, how many packets it has."""
 
     before: int
     point: int
     events: list[Event] = field(default_factory=list)
-    packets: list[Object] = field(default_factory=list)
+    packets: int = 0
     last: dict[int, int] = field(default_factory=dict)
-
-
-@dataclass
-class JobRound:
-    """A round of a job: its batches by control, and whether it has a capture."""
-
-    batches: dict[int, str] = field(default_factory=dict)
-    has_capture: bool = False
 
 
 class Job:
     """The batches of each round, by control, and their lines."""
 
     def __init__(self, name: str) -> None:
-        self.name, self.rounds = shown(name), list[JobRound]()
-        self.workers, self.controls = 0, 0
+        self.name, job = shown(name), JobFile(read(name))
+        for fault in job.faults:
+            raise Fault(f"{self.name}:{fault.number}: {why_bad(fault)}")
+        self.rounds, self.workers = job.rounds, job.workers
         self.lines: dict[str, dict[int, Line]] = {}
-        self.number, expected = 0, "head"
-        for line in lines_of(name):
-            self.number = line.number
-            expected = self.take(" ".join(it.text for it in line.words), expected)
-        if expected != "nothing":
-            raise Fault(f"{self.name}:{self.number + 1}: `end` is missing")
-
-    def take(self, line: str, expected: str) -> str:
-        """Takes a line where another was expected, and says what is expected behind it."""
-        for sort, pattern, behind in JOB_LINES:
-            found = re.fullmatch(pattern, line)
-            is_due = sort == expected or expected == "body" and sort in BODY
-            if found and is_due and self.keeps(sort, found):
-                return behind
-        raise Fault(f"{self.name}:{self.number}: no job goes on with this line")
-
-    def keeps(self, sort: str, found: re.Match[str]) -> bool:
-        """Keeps what a line says, where it may stand there: a round has its batches by rising control, then
-        one capture at most."""
-        if sort == "round":
-            self.rounds.append(JobRound())
-        elif sort in ("workers", "controls"):
-            setattr(self, sort, int(found[1]))
-        elif sort in ("batch", "capture"):
-            return bool(self.rounds) and self.keeps_in(self.rounds[-1], sort, found)
-        return True
-
-    def keeps_in(self, round: JobRound, sort: str, found: re.Match[str]) -> bool:
-        if round.has_capture:
-            return False
-        if sort == "capture":
-            round.has_capture = True
-            return True
-        if not max(round.batches, default=0) < int(found[1]) <= self.controls:
-            return False
-        round.batches[int(found[1])] = found[2]
-        return True
 
     def line(self, batch: str, number: int) -> Line | None:
         """A line of a batch."""
@@ -99,35 +60,43 @@ class Job:
         return self.lines[batch].get(number)
 
 
-BODY = ("round", "batch", "capture", "end")
-JOB_LINES = (
-    ("head", "clsact job 1", "workers"),
-    ("workers", "workers ([1-8])", "controls"),
-    ("controls", "controls ([1-4])", "body"),
-    ("round", "round", "body"),
-    ("batch", f"batch ([1-4]) {NAME}( force)?", "body"),
-    ("capture", f"capture (?:ingress|egress) {NAME} {NAME}", "body"),
-    ("end", "end", "nothing"),
-)
-
-
 class Report:
-    """The rounds of a report, read line by line beside its job."""
+    """The rounds of a report, read line by line beside its job. Of its packets a sample is kept."""
 
-    def __init__(self, name: str, job: Job) -> None:
+    def __init__(self, name: str, job: Job, progress: Progress) -> None:
         self.name, self.job = shown(name), job
         self.rounds: list[Round] = []
-        self.point, self.is_open, self.number = 0, False, 0
+        self.point, self.is_open, self.number, self.has_capture = 0, False, 0, False
         self.seen: dict[int, int] = {}
         self.summary: Object = {}
-        for self.number, said in read(name):
-            getattr(self, "take_" + said["type"].replace(" ", "_"), self.take_other)(said)
-        counted = sum(len(it.packets) for it in self.rounds)
-        if (self.summary.get("edits"), self.summary.get("packets")) != (self.point, counted):
+        self.foreign: Fault | None = None
+        with opened(name) as file:
+            self.sample = Sample(count_packets(file))
+            self.read(progress.upto(self.parts(file)))
+        if self.foreign:
+            raise self.foreign
+        if (self.summary.get("edits"), self.summary.get("packets")) != (self.point, self.sample.seen):
             raise self.fault("the summary counts other edits or packets than the report has")
+        self.sample.count_visits()
 
-    def fault(self, what: str) -> Fault:
-        return Fault(f"{self.name}:{self.number}: {what}")
+    def parts(self, file: IO[bytes]) -> Iterator[tuple[int, tuple[int, bytes | Object]]]:
+        """What the report says, with its lines' numbers."""
+        parts = parts_of_text(iter(lambda: file.read(BLOCK), b""), self.name, ANY_RUN)
+        return ((number, (number, at_object(it) if isinstance(it, At) else it)) for number, it in parts)
+
+    def read(self, parts: Iterator[tuple[int, bytes | Object]]) -> None:
+        """Takes what it says, of which the first line says that this is a report."""
+        for self.number, said in parts:
+            if self.number == 1 and not (isinstance(said, dict) and said["type"] == "report"):
+                raise self.fault("this isn't the report of a run")
+            if isinstance(said, dict):
+                getattr(self, "take_" + said["type"].replace(" ", "_"), self.take_other)(said)
+            else:
+                self.take_run(said)
+
+    def fault(self, what: str, place: int = 0) -> Fault:
+        """What is wrong with the line, or with one of the lines behind it."""
+        return Fault(f"{self.name}:{self.number + place}: {what}")
 
     def take_report(self, said: Object) -> None:
         if self.number != 1:
@@ -137,7 +106,8 @@ class Report:
         if self.is_open or said["round"] != len(self.rounds) + 1 or said["round"] > len(self.job.rounds):
             raise self.fault(f"round {said['round']} isn't the job's next one")
         self.rounds.append(Round(self.point, self.point))
-        self.is_open = True
+        self.is_open, self.has_capture = True, self.job.rounds[len(self.rounds) - 1].capture is not None
+        self.seen = {ord(str(worker)): self.point for worker in range(1, self.job.workers + 1)}
 
     def take_end_round(self, said: Object) -> None:
         if not self.is_open or said["round"] != len(self.rounds):
@@ -159,7 +129,7 @@ class Report:
         """An event of the round, with the line that it is about."""
         batches = self.job.rounds[len(self.rounds) - 1].batches if self.is_open else {}
         batch = batches.get(said["control"])
-        line = self.job.line(batch, said["line"]) if batch else None
+        line = self.job.line(batch.name, said["line"]) if batch else None
         if batch is None or line is None:
             raise self.fault(f"the job's round has no line {said['line']} for control {said['control']}")
         if self.rounds[-1].packets:
@@ -167,39 +137,102 @@ class Report:
         self.hold(event_fault(said, line, self.rounds[-1].last.get(said["control"], 0)))
         self.rounds[-1].last[said["control"]] = line.number
         is_edit, text = said["type"] == "edit", line.text.strip()
-        self.rounds[-1].events.append(Event(self.point, is_edit, said, batch, text))
+        self.rounds[-1].events.append(Event(self.point, is_edit, said, batch.name, text))
 
     def hold(self, fault: str) -> None:
         if fault:
             raise self.fault(fault)
 
-    def take_packet(self, said: Object) -> None:
-        if not self.is_open or "points" not in said or "worker" not in said:
-            raise self.fault("this packet isn't one of a round, with its worker and its points")
-        if max(said["points"]) > self.point:
-            raise self.fault(f"point {max(said['points'])} is past the {self.point} edits of the round")
-        if not self.job.rounds[len(self.rounds) - 1].has_capture:
-            raise self.fault("the job's round has no capture")
-        floor = max(self.rounds[-1].before, self.seen.get(said["worker"], 0))
-        self.hold(packet_fault(said, len(self.rounds[-1].packets) + 1, self.job.workers, floor))
-        self.seen[said["worker"]] = max(said["points"])
-        self.rounds[-1].packets.append(said)
+    def take_run(self, run: bytes) -> None:
+        """Takes the lines of packets, of which there may be very many: those at once whose numbers have as many digits."""
+        lines = run[:-1].split(b"\n")
+        while lines:
+            due = self.rounds[-1].packets + 1 if self.is_open else 1
+            count = 10 ** len(str(due)) - due
+            self.take_lines(lines[:count])
+            lines, self.number = lines[count:], self.number + count
+
+    def take_lines(self, lines: list[bytes]) -> None:
+        """Takes packets all at once. Where that can't be, one of them is at fault, and they are looked at one by one."""
+        mixed = self.mixed_of(lines) if self.is_open and self.has_capture else None
+        if mixed is None:
+            for place, line in enumerate(lines):
+                self.take_packet(line, place)
+            raise self.fault("this tool finds no fault in packets that it doesn't take, which is its own fault")
+        self.sample.take(len(self.rounds), lines, mixed)
+
+    def mixed_of(self, lines: list[bytes]) -> list[int] | None:
+        """Which of these packets met several points, by their places; nothing where one of them can't be so. A worker is
+        one digit, and what stands behind it is known from other lines mostly, so that it isn't read anew."""
+        due = self.rounds[-1].packets + 1
+        fronts = [b"packet %d worker " % it for it in range(due, due + len(lines))]
+        at = len(fronts[0])
+        if [it[:at] for it in lines] != fronts or min(map(len, lines)) <= at:
+            return None
+        workers, mets = [it[at] for it in lines], self.sample.met([it[at + 1:] for it in lines])
+        seen = self.seen_behind(workers, mets) if mets and self.seen.keys() >= set(workers) else None
+        if not mets or not seen or max(it.highest for it in set(mets)) > self.point:
+            return None
+        self.seen, self.rounds[-1].packets = seen, due + len(lines) - 1
+        is_mixed = any(it.is_mixed for it in set(mets))
+        return [place for place, it in enumerate(mets) if it.is_mixed] if is_mixed else []
+
+    def seen_behind(self, workers: list[int], mets: list[Met]) -> dict[int, int] | None:
+        """The last point that each worker has seen behind these packets; nothing where one has met an earlier one."""
+        seen, points = dict(self.seen), {point for it in set(mets) for point in (it.first, it.highest)}
+        if len(points) == 1 and points >= {max(*seen.values(), *points)}:
+            return seen | dict.fromkeys(workers, *points)
+        for worker, met in zip(workers, mets):
+            if met.first < seen[worker]:
+                return None
+            seen[worker] = met.highest
+        return seen
+
+    def take_packet(self, line: bytes, place: int) -> None:
+        """Holds one packet of a run to its job."""
+        packet = next(packets_in(line + b"\n"), None)
+        if packet is None:
+            raise foreign(self.name, self.number + place)
+        if not self.is_open or "worker" not in packet or "points" not in packet:
+            raise self.fault("this packet isn't one of a round, with its worker and its points", place)
+        if max(packet["points"]) > self.point:
+            raise self.fault(f"point {max(packet['points'])} is past the {self.point} edits of the round", place)
+        if not self.has_capture:
+            raise self.fault("the job's round has no capture", place)
+        worker, due = ord(str(packet["worker"])[0]), self.rounds[-1].packets + 1
+        floor = self.seen.get(worker, self.rounds[-1].before)
+        if what := packet_fault(packet, due, self.job.workers, floor):
+            raise self.fault(what, place)
+        self.seen[worker], self.rounds[-1].packets = max(packet["points"]), due
 
     def take_summary(self, said: Object) -> None:
         self.summary = said
 
     def take_other(self, said: Object) -> None:
-        if said["type"] not in ("counter", "end"):
-            raise self.fault("no report has such a line")
+        if said["type"] not in ("counter", "end") and not self.foreign:
+            self.foreign = self.fault("no report has such a line")
 
 
-def read(name: str) -> list[tuple[int, Object]]:
-    """The lines of a report, of which the first says that it is one."""
+def opened(name: str) -> IO[bytes]:
+    """A report that is open at its first line, and may be read twice."""
     try:
-        with open(name, "rb") as file:
-            lines = list(objects_of(file, shown(name)))
+        file = open(name, "rb", buffering=1 << 20)
+        if file.seekable():
+            return file
+        copy = tempfile.TemporaryFile()
+        with file:
+            shutil.copyfileobj(file, copy, 1 << 20)
+        copy.seek(0)
+        return copy
     except OSError as error:
         raise Fault(f"{shown(name)}: cannot read: {error.strerror}") from None
-    if lines[0][1]["type"] != "report":
-        raise Fault(f"{shown(name)}:1: this isn't the report of a run")
-    return lines
+
+
+def count_packets(file: IO[bytes]) -> int:
+    """How many lines of packets there are."""
+    count, last = 0, b""
+    while part := file.read(1 << 20):
+        count += (last + part).count(b"\npacket ")
+        last = part[-7:]
+    file.seek(0)
+    return count

@@ -231,9 +231,10 @@ def lines_of(piece: Piece, column: int) -> list[str]:
 
 
 def item_of(pieces: list[Piece], command: str) -> list[Piece]:
-    """The tag that begins with this word, and what it says; nothing where there is none."""
-    tags = [at for at, it in enumerate(pieces) if it.kind == "tag" and it.text.split()[0] == command]
-    if not tags:
-        return []
-    ends = [at for at, it in enumerate(pieces) if at > tags[0] and it.kind in ("tag", "heading")]
-    return pieces[tags[0] : ends[0]] if ends else pieces[tags[0] :]
+    """The tags that begin with this word, and what they say; nothing where there is none."""
+    found, is_in = list[Piece](), False
+    for it in pieces:
+        if it.kind in ("tag", "heading"):
+            is_in = it.kind == "tag" and it.text.split()[0] == command
+        found += [it] * is_in
+    return found

@@ -3,20 +3,27 @@
 From left to right are the points, the numbers of edits accepted so far; each accepted edit is a line between
 two points, and a refused line a cross. Each packet is a row with a dot a visit at the point that answered it,
 the first of them (the hook's tables) with a ring. Blue passed, orange was dropped; the verdict also stands at
-the row's end. Dots and lines have tooltips. Above 500 packets an even sample is drawn, dots and edits that
-would lie on one another are drawn as one, and the picture says so. It is light or dark as its reader likes.
+the row's end. Dots and lines have tooltips. Above 500 packets bars show how many visits each point answered, and
+rows are drawn of packets that met several points and of an even sample; dots and edits that would lie on one
+another are drawn as one, and the picture says so. It is light or dark as its reader likes.
 """
+import errno
 import os
+import textwrap
+from collections import Counter
 from collections.abc import Iterator
 from html import escape
+from math import log
 
 from batch_lines import seen_text
 from clsact_texts import Object, reason_of, spell_object
 from job_runs import Event, Job, Report
+from progress import Progress
+from run_samples import MOST
 from tool_ends import Fault, OneLineParser, end_with, shown
 
 WIDTH, LEFT, RIGHT, TOP = 880, 130, 60, 112
-MOST, LISTED = 500, 12
+LISTED, BARS, LETTERS = 12, 130, 125
 HEIGHTS = ((20, 24), (60, 16), (150, 11))
 EVERY: list[int] = [digit * 10 ** zeros for zeros in range(9) for digit in (1, 2, 5)]
 STYLE = """
@@ -52,9 +59,9 @@ def titled(what: str, title: str) -> str:
     return f"<g>{what}<title>{clean(title)}</title></g>"
 
 
-def sampled(count: int) -> list[int]:
-    """The places of an even sample."""
-    return [place * count // MOST for place in range(MOST)] if count > MOST else list(range(count))
+def folded(what: str) -> list[str]:
+    """A text in lines that the picture has room for, cut nowhere but at spaces, where there are any."""
+    return textwrap.wrap(what, LETTERS, subsequent_indent="    ", break_on_hyphens=False) or [""]
 
 
 def event_text(event: Event) -> str:
@@ -68,21 +75,31 @@ class Picture:
 
     def __init__(self, job: str, report: Report) -> None:
         self.name, self.report = shown(os.path.basename(job)), report
-        packets = [(number, it) for number, round in enumerate(report.rounds, 1) for it in round.packets]
-        self.count = len(packets)
-        self.packets = [packets[place] for place in sampled(len(packets))]
-        lowest = min((min(it["points"]) for _, it in self.packets), default=0)
+        self.count = report.sample.count
+        kept, self.mixed = report.sample.chosen()
+        self.packets = [(it.round, it.packet()) for it in kept]
+        self.has_rounds = sum(bool(it.packets) for it in report.rounds) > 1
+        self.left = max(LEFT, 16 + int(6.2 * max((len(self.label(*it)) for it in self.packets), default=0)))
+        visited = [point for counts in report.sample.visits.values() for point in counts]
+        lowest = min(visited, default=0)
         self.low = lowest - 1 if lowest > 20 else 0
-        self.step = min(150.0, (WIDTH - LEFT - RIGHT) / (report.point - self.low + 1))
-        self.row = next((height for most, height in HEIGHTS if len(packets) <= most), 7)
+        self.step = min(150.0, (WIDTH - self.left - RIGHT) / (report.point - self.low + 1))
+        self.row = next((height for most, height in HEIGHTS if self.count <= most), 7)
         self.every = next(it for it in EVERY if it * self.step >= 34)
-        self.bottom = TOP + self.row * max(1, len(self.packets))
+        self.top = TOP + BARS * (self.count > MOST)
+        self.bottom = self.top + self.row * max(1, len(self.packets))
         self.notes: list[str] = []
         self.is_shared, self.ring = False, "ring" if self.row > 7 else "ring fine"
 
+    def label(self, number: int, packet: Object) -> str:
+        """What stands before a row: the packet, its round where there are more with packets, or its worker."""
+        if self.has_rounds:
+            return f"round {number}, packet {packet['packet']}"
+        return f"packet {packet['packet']}, worker {packet['worker']}"
+
     def edge(self, point: int) -> float:
         """Where the column of a point begins, which is where its edit's line is."""
-        return LEFT + (point - self.low) * self.step
+        return self.left + (point - self.low) * self.step
 
     def middle(self, point: int) -> float:
         return self.edge(point) + self.step / 2
@@ -125,7 +142,7 @@ class Picture:
 
     def rows(self) -> Iterator[str]:
         for place, (number, packet) in enumerate(self.packets):
-            y = TOP + self.row * (place + 0.5)
+            y = self.top + self.row * (place + 0.5)
             yield from self.labels(place, number, packet, y + 4)
             yield from self.visits(packet, y)
 
@@ -133,10 +150,7 @@ class Picture:
         """The packet's number and worker, its round where there are more with packets, and its verdict."""
         if self.row < 11 and place % 10:
             return
-        rounds = sum(bool(it.packets) for it in self.report.rounds)
-        front = f"round {number}, " if rounds > 1 else ""
-        short = f"{front}packet {packet['packet']}" + f", worker {packet['worker']}" * (rounds < 2)
-        yield text(LEFT - 10, y, short, "end small")
+        yield text(self.left - 10, y, self.label(number, packet), "end small")
         yield text(self.edge(self.report.point + 1) + 10, y, packet["verdict"], "small")
 
     def visits(self, packet: Object, y: float) -> Iterator[str]:
@@ -164,14 +178,45 @@ class Picture:
         self.is_shared = self.is_shared or len(near) < len(points)
         return {x: sorted(visits) for x, visits in near.values()}
 
+    def bars(self) -> Iterator[str]:
+        """Above the rows of a sample: a bar for the visits that points answered, of all packets, by the logarithm of
+        their number; its lower part are those of packets that passed."""
+        if self.count <= MOST:
+            return
+        wide = max(1, -int(-3 // self.step))
+        counts = {verdict: Counter[int]() for verdict in ("pass", "drop")}
+        for verdict, visits in self.report.sample.visits.items():
+            for point, times in visits.items():
+                counts[verdict][(point - self.low) // wide] += times
+        totals = counts["pass"] + counts["drop"]
+        most = max(totals.values())
+        for place in sorted(totals):
+            yield self.bar(place, wide, [(it, counts[it][place]) for it in counts], (BARS - 34) / log(1 + most))
+        yield text(self.left - 10, self.top - 16, "visits of all packets", "end small")
+        yield text(self.left - 10, self.top - 2, f"(tallest: {most:,})", "end small")
+
+    def bar(self, place: int, wide: int, parts: list[tuple[str, int]], unit: float) -> str:
+        """The bar of some points that lie side by side."""
+        first, last = self.low + place * wide, min(self.low + place * wide + wide - 1, self.report.point)
+        total, y, drawn = sum(times for _, times in parts), self.top - 8.0, ""
+        width = max(1.0, self.step * (last - first + 1) - 0.6)
+        for verdict, times in parts:
+            height = unit * log(1 + total) * times / total
+            y -= height
+            place_of = f'x="{self.edge(first):.1f}" y="{y:.1f}" width="{width:.1f}" height="{height:.1f}"'
+            drawn += f'<rect {place_of} class="{verdict}"/>' * (times > 0)
+        points = f"point {first}" if first == last else f"points {first} to {last}"
+        told = " and ".join(f"{times:,} of packets that {'passed' if verdict == 'pass' else 'were dropped'}" for verdict, times in parts)
+        return titled(drawn, f"visits at {points}: {told}")
+
     def axis(self) -> Iterator[str]:
         """The points below the rows, and what they are."""
         y, behind = self.bottom, self.report.point + 1
-        yield line(LEFT, y, self.edge(behind), y, "axis")
+        yield line(self.left, y, self.edge(behind), y, "axis")
         for point in range(-(-self.low // self.every) * self.every, behind, self.every):
             yield line(self.middle(point), y, self.middle(point), y + 4, "axis")
             yield text(self.middle(point), y + 17, str(point), "mid small")
-        yield text(LEFT, y + 36, "point: how many edits were accepted before", "note small")
+        yield text(self.left, y + 36, "point: how many edits were accepted before", "note small")
 
     def legend(self) -> Iterator[str]:
         packets = f"{self.count} packet{'s' * (self.count != 1)}"
@@ -191,7 +236,8 @@ class Picture:
         events = [it for round in self.report.rounds for it in round.events]
         listed = [event_text(it) for it in events] if len(events) <= LISTED else []
         if self.count > MOST:
-            listed.append(f"{MOST} of {self.count} packets are drawn, evenly taken from all")
+            of_mixed = f"{self.mixed} of {self.report.sample.mixed_count} that met several points, and others evenly taken from all"
+            listed.append(f"{len(self.packets)} of {self.count} packets are drawn: {of_mixed}")
         if self.low:
             listed.append(f"points below {self.low} have no visit and aren't drawn")
         if self.is_shared:
@@ -200,8 +246,8 @@ class Picture:
 
     def drawn(self) -> str:
         """The whole picture."""
-        body = [*self.rounds(), *self.events(), *self.rows(), *self.axis(), *self.legend()]
-        below = [it if len(it) < 125 else it[:122] + ".." for it in self.told()]
+        body = [*self.rounds(), *self.events(), *self.bars(), *self.rows(), *self.axis(), *self.legend()]
+        below = [line for it in self.told() for line in folded(it)]
         body += [text(16, self.bottom + 60 + 17 * place, it, "note small") for place, it in enumerate(below)]
         height = self.bottom + 62 + 17 * len(below)
         size = f'viewBox="0 0 {WIDTH} {height}" width="{WIDTH}" height="{height}"'
@@ -237,6 +283,14 @@ def put(name: str, content: str) -> None:
         raise Fault(f"{shown(name)}: cannot write: {error.strerror}") from None
 
 
+def hold_output(name: str) -> None:
+    """That OUT is no folder and its folder is there, which is told before a long report is read."""
+    folder = os.path.dirname(name) or "."
+    number = errno.EISDIR if os.path.isdir(name) else 0 if os.path.isdir(folder) else errno.ENOENT
+    if number:
+        raise Fault(f"{shown(name)}: cannot write: {os.strerror(number)}")
+
+
 def main(words: list[str]) -> int:
     about = "Draws what the packets of a run met while lines were applied, as SVG."
     more = """The job's batches are read under the names that it gives them, so start it where the job runs.
@@ -246,7 +300,10 @@ def main(words: list[str]) -> int:
     parser.add_argument("REPORT", help="the report of its run")
     parser.add_argument("OUT", help="the picture; what stood there is replaced")
     given = parser.parse_args(words)
-    put(given.OUT, Picture(given.JOB, Report(given.REPORT, Job(given.JOB))).drawn())
+    hold_output(given.OUT)
+    with Progress("clsact picture", "lines") as progress:
+        drawn = Picture(given.JOB, Report(given.REPORT, Job(given.JOB), progress)).drawn()
+    put(given.OUT, drawn)
     return 0
 
 

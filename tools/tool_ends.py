@@ -7,12 +7,15 @@ written a front of its text.
 import argparse
 import io
 import os
+import shutil
 import signal
 import sys
-from collections.abc import Callable, Iterator
+import tempfile
+from collections.abc import Callable, Iterable, Iterator
 from typing import NoReturn
 
 FAULT = 2
+BLOCK = 1 << 15
 STDIN = "standard input"
 
 
@@ -37,14 +40,24 @@ def take_no_words(parser: OneLineParser, words: list[str], example: str) -> None
         parser.error(f"the text comes on standard input: {example}")
 
 
-def input_lines(longest: int = -1) -> Iterator[bytes]:
-    """The lines of standard input, a longer one in pieces."""
+def input_blocks() -> Iterator[bytes]:
+    """The bytes of standard input, as they come."""
     if sys.stdin is None:
         raise Fault(f"{STDIN}: cannot read: it is closed, or a folder")
     try:
-        yield from iter(lambda: sys.stdin.buffer.readline(longest), b"")
+        yield from iter(lambda: os.read(sys.stdin.fileno(), BLOCK), b"")
     except OSError as error:
         raise Fault(f"{STDIN}: cannot read: {error.strerror}") from None
+
+
+def write_whole(parts: Iterable[bytes]) -> None:
+    """Writes parts to standard output behind the last of them: before that they are in a file without a name, so
+    that they take no memory, and a fault in the input leaves nothing."""
+    with tempfile.TemporaryFile(buffering=1 << 20) as file:
+        file.writelines(parts)
+        file.seek(0)
+        sys.stdout.flush()
+        shutil.copyfileobj(file, sys.stdout.buffer, 1 << 20)
 
 
 def shown(name: str) -> str:

@@ -7,6 +7,8 @@ use crate::run::{Ending, ListRun, Next};
 use act_kinds::Control;
 
 /// How a list ends whose actions give these controls, each the same whenever it runs.
+///
+/// No command calls it: it carries the law that a run, step by step, ends as the rule for whole lists says.
 pub fn ending_of(controls: &[Control]) -> Ending
     requires some { 0 < length controls.now }
     requires few { length controls.now ≤ LIST_MAX }

@@ -8,6 +8,7 @@ use Rattle.act_registry.specs.declared.fault.RegistryFault.TheVariants.{NoSuchAc
 use Rattle.act_registry.specs.declared.fault.RegistryFault.TheVariants.{ActionBound, ActionsFull}
 use Rattle.act_registry.specs.declared.fault.RegistryFault.TheVariants.{CountersFull, NoMemory}
 use Rattle.act_registry.specs.Entries.{is_used}
+use Rattle.tc_base.specs.Memory.{no_memory}
 
 -- the live entries by rising serial, how many were made so far, and for how many more there is room
 pub record Kept (P : Type 0) : Type 0 where
@@ -36,7 +37,7 @@ make_refusal kind_of kind index r =
 -- the refusal is told; want of memory may be told where there is none, and no room was reserved
 abbrev pub Told : {T : Type 0} → Option RegistryFault → ℕ → Result T RegistryFault → Type 0
 Told (Some fault) spare result = result ≡ Err fault
-Told None spare result = IfErr result (λ fault. (fault ≡ NoMemory) × (spare ≡ 0))
+Told None spare result = IfErr result (λ fault. (fault ≡ NoMemory no_memory) × (spare ≡ 0))
 
 -- why that action is not deleted, where it was found (tcf_idr_delete_index)
 abbrev pub delete_refusal : {P : Type 0} → Option (Entry P) → Option RegistryFault

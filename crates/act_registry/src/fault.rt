@@ -18,13 +18,13 @@ pub enum RegistryFault {
     /// 16,384 actions were made in this run.
     CountersFull,
     /// Memory was refused.
-    NoMemory,
+    NoMemory(NoMemory),
 }
 
 impl From<NoMemory> for RegistryFault {
-    ghost from_gives = { λ _ e. e ≡ faults.NoMemory };
+    ghost from_gives = { λ memory e. e ≡ faults.NoMemory memory };
 
-    fn from(_: NoMemory) -> Self {
-        RegistryFault::NoMemory
+    fn from(memory: NoMemory) -> Self {
+        RegistryFault::NoMemory(memory)
     }
 }

@@ -13,6 +13,7 @@ use Rattle.filter_lists.specs.Edits.{Stays, IsStepped}
 use Rattle.tc_batch.specs.Grammar.{Gives}
 use Rattle.batch_run.specs.declared.stop.Stop.TheVariants as stops
 use Rattle.batch_run.specs.Applied.{IsApplied}
+use Rattle.tc_base.specs.Memory.{no_memory}
 
 -- the lists that stay still spell the state
 pub still : (old new : Kept) (s : State) → Stays old new → Spells old s → Spells new s
@@ -28,11 +29,11 @@ accepts old new s words line edit done gives is =
     (edit, gives, it.0, it.1, it.2, it.3)
 
 -- want of memory is told apart, so any other refusal is the step's
-refused_step : (old new : Kept) (refusal : Refusal) (stepped : Stepped) → (refusal ≡ refusals.NoMemory → ⊥) → IsStepped old new (Err refusal) stepped → (stepped ≡ Err refusal) × Stays old new
+refused_step : (old new : Kept) (refusal : Refusal) (stepped : Stepped) → (refusal ≡ refusals.NoMemory no_memory → ⊥) → IsStepped old new (Err refusal) stepped → (stepped ≡ Err refusal) × Stays old new
 refused_step old new refusal (Ok next) other (want, stays) = absurd (other want)
 refused_step old new refusal (Err said) other (same, stays) = (ap (λ (r : Refusal). Err r) (sym same), stays)
 
-pub refuses : (old new : Kept) (s : State) (words : List (List ℕ)) (line : ℕ) (edit : Edit) (refusal : Refusal) → (refusal ≡ refusals.NoMemory → ⊥) → Gives words edit → Spells old s
+pub refuses : (old new : Kept) (s : State) (words : List (List ℕ)) (line : ℕ) (edit : Edit) (refusal : Refusal) → (refusal ≡ refusals.NoMemory no_memory → ⊥) → Gives words edit → Spells old s
     → IsStepped old new (Err refusal) (step s edit) → IsApplied s new words line (Some (stops.Refused line refusal))
 refuses old new s words line edit refusal other gives spells is =
     let it = refused_step old new refusal (step s edit) other is in

@@ -59,7 +59,7 @@ pub fn run_batch(alloc: Global, texts: &[&[u8]]) -> Result<BatchRun, NoMemory>
                     stop: Some(stop),
                 });
             }
-            Err(NoMemory) => return Err(NoMemory),
+            Err(refused) => return Err(refused),
         }
         log_made(&mut made, lists.actions().entries(), before)?;
     }
@@ -84,7 +84,7 @@ fn apply(
 {
     let edit = match line(alloc, text) {
         Ok(edit) => edit,
-        Err(LineFault::NoMemory) => return Err(NoMemory),
+        Err(LineFault::NoMemory(memory)) => return Err(memory),
         Err(LineFault::Syntax { word }) => {
             return Ok(Some(Stop::Syntax { line: number, word }));
         }
@@ -92,7 +92,7 @@ fn apply(
     match lists.step(&edit) {
         Ok(_) => Ok(None),
         Err(refusal) => match refusal {
-            Refusal::NoMemory => Err(NoMemory),
+            Refusal::NoMemory(memory) => Err(memory),
             _ => Ok(Some(Stop::Refused {
                 line: number,
                 refusal,

@@ -57,7 +57,8 @@ whole_text ran outcomes text accepted stop ends e s n front middle back =
 
 -- what a walk tells of a run is what the batch gives
 pub is_walked : (ran : Ran) (hook : Hook) (capture : Capture) (walk : BatchWalk) → joined_pieces walk.output.pieces ≡ capture_bytes (output_of ran.state hook capture)
+    → walk.text.stop.items ≡ stop_shown ran.accepted ran.stop → walk.text.ends ≡ map end_of (outcomes_of ran.state hook capture.packets)
     → told_text walk.text ≡ text_after ran (outcomes_of ran.state hook capture.packets) → walk.text.closing.items ≡ closing_after ran (outcomes_of ran.state hook capture.packets)
     → walk.refused ≡ is_some ran.stop → IsWalked ran hook capture walk
 unfolding walk_text closing_text
-is_walked ran hook capture walk output text closing refused = record { output = output; text = text; closing = closing; refused = refused }
+is_walked ran hook capture walk output stop ends text closing refused = record { output = output; stop = stop; ends = ends; text = text; closing = closing; refused = refused }

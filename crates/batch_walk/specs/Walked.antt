@@ -59,6 +59,8 @@ told_text text = text.stop.items ++ joined (packet_lines 1 text.ends) ++ text.cl
 -- what is put and written is what the batch that ran gives
 pub record IsWalked (ran : Ran) (hook : Hook) (capture : Capture) (walk : BatchWalk) : Type 0 where
   pub output : joined_pieces walk.output.pieces ≡ capture_bytes (output_of ran.state hook capture)
+  pub stop : walk.text.stop.items ≡ stop_shown ran.accepted ran.stop
+  pub ends : walk.text.ends ≡ map end_of (outcomes_of ran.state hook capture.packets)
   pub text : told_text walk.text ≡ walk_text ran hook capture.packets
   pub closing : walk.text.closing.items ≡ closing_text ran hook capture.packets
   pub refused : walk.refused ≡ is_some ran.stop

@@ -6,13 +6,15 @@
 //! that was ever made, the summary, `end`. Reading the files, their limits, and putting and writing are the
 //! caller's.
 //!
-//! The packets' lines, of which there may be a million, aren't kept: the caller makes each of the parts in
-//! `walk_texts` as it writes it.
+//! The packets' lines, of which there may be a million, aren't kept: the caller makes each as it writes it, as
+//! `push_packet_line` does.
 //!
 //! One thread calls this, and it keeps nothing between calls. Not promised: that memory suffices.
 #![tactic(auto)]
 
 mod closing;
+mod packet_line;
 mod walk;
 
+pub use packet_line::push_packet_line;
 pub use walk::{BatchWalk, WalkText, walk_batch};

@@ -8,6 +8,7 @@ use Rattle.std.proofs.lemmas.List.{get_or_default}
 use Rattle.std.proofs.Math.ListN.{get_or-eq_default}
 use Rattle.std.proofs.lemmas.List.FromFn.{fill_by_all, length-map-range_with_len, get_or-map-range_with_len, take-map-range_with_len}
 use Rattle.std.proofs.lemmas.Bool.Decides.{nat_tests}
+use Rattle.store_history.specs.declared.places.TheConstants.{ROWS}
 use Rattle.flow_mask.specs.Sizes.{is_size}
 use Rattle.block_codec.specs.declared.mask.StoredMask.{StoredMask}
 use Rattle.block_codec.specs.Blocks.{plus_one, IsTheOnly}
@@ -25,7 +26,7 @@ names_of stored = map (rows_word stored.rows) (range_with_len 0 16)
 pub sized : (n : ℕ) → IsTrue (is_size n) → (n ≡ 16 * (n / 16)) × (n ≤ 1024)
 sized n is = grind (arith, nat_tests)
 
-small_at : (rows : List ℕ) → All (λ row. row < 8192) rows → (k : ℕ) → get_or rows k 0 < 65536
+small_at : (rows : List ℕ) → All (λ row. row < ROWS) rows → (k : ℕ) → get_or rows k 0 < 65536
 small_at rows all k = dite (dec_le (suc k) (length rows)) (λ low. let h = all k 0 low in omega arith) (λ high. let h = get_or-eq_default rows 0 {n = k} (omega arith) in omega arith)
 
 by_digit : (rows : List ℕ) (at j : ℕ) → ((k : ℕ) → get_or rows k 0 < 65536) → j < 4 → rows_word rows at / 2 ^ (16 * j) % 65536 ≡ get_or rows (4 * at + j) 0
@@ -63,7 +64,7 @@ has_of words it wide b = let s = stands words it b in let long = b.mask in let n
     let all : length (rows_of 64 words) ≡ 64 = length-map-range_with_len (row_in words) 0 64 in record {
       front = record { kind = s.in_front 0 (omega arith); serial = omega arith; size = rw size b.storable.size };
       rows = record {
-        rows = subst (All (λ row. row < 8192)) (sym (first_rows words (get_or words 2 0 / 16) (omega arith) ∙ rows_are words it (get_or words 2 0 / 16) b count (omega arith))) b.storable.each_row;
+        rows = subst (All (λ row. row < ROWS)) (sym (first_rows words (get_or words 2 0 / 16) (omega arith) ∙ rows_are words it (get_or words 2 0 / 16) b count (omega arith))) b.storable.each_row;
         rest = λ k d low. let m = length_part (rows_of 64 words) (get_or words 2 0 / 16) 64 (omega arith) in
             get_or_default (slice_range (rows_of 64 words) (get_or words 2 0 / 16) 64) k d 0 low
             ∙ (part_at (rows_of 64 words) (get_or words 2 0 / 16) 64 k (omega arith)
@@ -120,7 +121,7 @@ block_of words link wide fits h e =
     let n = length-map-range_with_len (rows_word (rows_of count words)) 0 16 in
     let serial = h.front.serial in
     record {
-      storable = record { size = h.front.size; rows = omega arith; each_row = subst (All (λ row. row < 8192)) (first_rows words count few) h.rows.rows };
+      storable = record { size = h.front.size; rows = omega arith; each_row = subst (All (λ row. row < ROWS)) (first_rows words count few) h.rows.rows };
       serial = omega arith;
       mask = key;
       link = link_fits link (rw e h.link);

@@ -1,5 +1,5 @@
 -- A stored mask (this project's own).
-use Rattle.block_codec.specs.declared.places.TheConstants.{ROWS}
+use Rattle.store_history.specs.declared.places.TheConstants.{ROWS}
 use Rattle.std.specs.Prelude.{◌≡◌, ℕ, ◌+◌, ◌*◌, ◌^◌, ◌<◌, List, ◌∷◌, ◌++◌, map, length, slice_index, Option}
 use Rattle.std.specs.Prelude.{All, IsTrue}
 use Rattle.std.specs.List.{range_with_len}

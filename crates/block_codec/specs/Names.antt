@@ -1,6 +1,6 @@
 -- The names of actions and masks in a word, and the limits of their numbers (this project's own).
 use Rattle.act_registry.specs.declared.limits.TheConstants.{MADE_MAX}
-use Rattle.block_codec.specs.declared.places.TheConstants.{ACTION_SLOTS, MASK_SLOTS}
+use Rattle.store_history.specs.declared.places.TheConstants.{ACTION_SLOTS, MASK_SLOTS}
 use Rattle.std.specs.Prelude.{ℕ, ◌%◌, ◌/◌, ◌^◌, ◌<◌, ◌≤◌}
 use Rattle.visit_room.specs.declared.names.ActionName.{ActionName}
 use Rattle.visit_room.specs.declared.names.MaskName.{MaskName}
@@ -13,7 +13,7 @@ action_word name = both name.serial name.slot
 abbrev pub action_in : ℕ → ActionName
 action_in word = record { serial = word % 2 ^ 32; slot = word / 2 ^ 32 }
 
--- a run makes at most 16,384 actions, counted from 1, and 2,048 places have one at a time
+-- the actions that a run makes are counted from 1, and a place has one at a time
 pub record IsActionName (name : ActionName) : Type 0 where
   pub serial : (1 ≤ name.serial) × (name.serial ≤ MADE_MAX)
   pub slot : name.slot < ACTION_SLOTS
@@ -25,7 +25,7 @@ mask_word name = both name.serial name.slot
 abbrev pub mask_in : ℕ → MaskName
 mask_in word = record { serial = word % 2 ^ 32; slot = word / 2 ^ 32 }
 
--- 8,192 places have a mask at a time; serials have 32 bits
+-- a place has one mask at a time; serials have 32 bits
 pub record IsMaskName (name : MaskName) : Type 0 where
   pub serial : name.serial < 2 ^ 32
   pub slot : name.slot < MASK_SLOTS

@@ -1,7 +1,7 @@
 -- What is looked at before words are read, and the things that they then are (this project's own).
 use Rattle.act_kinds.specs.declared.limits.TheConstants.{CHAIN_MAX}
 use Rattle.act_registry.specs.declared.limits.TheConstants.{MADE_MAX}
-use Rattle.block_codec.specs.declared.places.TheConstants.{ROWS}
+use Rattle.store_history.specs.declared.places.TheConstants.{ROWS}
 use Rattle.std.specs.Prelude.{◌≡◌, ℕ, ◌+◌, ◌*◌, ◌/◌, ◌%◌, ◌^◌, ◌<◌, ◌≤◌, ◌==◌, List, map, take, slice_index}
 use Rattle.std.specs.Prelude.{slice_range, if◌then◌else◌, All, IsTrue}
 use Rattle.std.specs.List.{range_with_len}

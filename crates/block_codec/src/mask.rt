@@ -1,5 +1,5 @@
 //! Masks.
-ghost use Rattle.block_codec.specs.declared.places.TheConstants.{ROWS};
+ghost use Rattle.store_history.specs.declared.places.TheConstants.{ROWS};
 ghost use Rattle.std.specs.Prelude.{◌≡◌, ◌+◌, ◌*◌, ◌/◌, ◌<◌, ◌≤◌, ◌↔◌, IsTrue, length, map, All, slice_index};
 ghost use Rattle.std.specs.List.{range_with_len};
 ghost use Rattle.flow_mask.specs.Sizes.{is_size};
@@ -8,9 +8,9 @@ ghost use Rattle.block_codec.specs.Masks.{rows_word, IsStorableMask, IsMaskBlock
 ghost use Rattle.block_codec.specs.Reading.{HasMask, HasMaskFront, HasRows, row_in, rows_of};
 
 use crate::block::{BEHIND_KEY, LINK, Named, is_blank_from, key_in, number_before};
-use crate::places::ROWS;
 use crate::row_numbers::RowNumbers;
 use flow_fields::Key;
+use store_history::places::ROWS;
 
 // The kind of block.
 const MASK: u64 = 2;
@@ -57,7 +57,7 @@ fn rows_word(rows: &[u32], at: usize) -> u64
         + row_at(rows, first + 3) * (1 << 48)
 }
 
-/// Writes a mask whose size is a power of two from 16 to 1,024, with a row below 8,192 for each sixteen
+/// Writes a mask whose size is a power of two from 16 to 1,024, with a row below `ROWS` for each sixteen
 /// buckets.
 pub fn write_mask(stored: &StoredMask, link: Option<u32>, words: &mut [u64; 40])
     requires { IsStorableMask stored.now }

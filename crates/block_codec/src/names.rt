@@ -1,34 +1,15 @@
 //! Names of actions and masks in a word.
 ghost use Rattle.std.specs.Prelude.{◌≡◌, ◌↔◌, IsTrue};
-ghost use Rattle.block_codec.specs.Names.{action_word, mask_word, action_in, mask_in, IsActionName};
-ghost use Rattle.block_codec.specs.Names.{IsMaskName};
+ghost use Rattle.block_codec.specs.Names.{action_word, mask_word, mask_in, IsMaskName};
 
 use crate::block::{both_halves, high_half, low_half};
-use crate::places::{ACTION_SLOTS, MASK_SLOTS};
-use act_registry::MADE_MAX;
+use store_history::places::MASK_SLOTS;
 use visit_room::{ActionName, MaskName};
 
 pub(crate) fn action_word(name: ActionName) -> u64
     ensures { result ≡ action_word name }
 {
     both_halves(name.serial, name.slot)
-}
-
-// The action that a word names.
-pub(crate) fn action_in(word: u64) -> ActionName
-    ensures { result ≡ action_in word }
-{
-    ActionName {
-        serial: low_half(word),
-        slot: high_half(word),
-    }
-}
-
-// The numbers of an action's name are within their limits.
-pub(crate) fn is_action(name: ActionName) -> bool
-    ensures { IsTrue result ↔ IsActionName name }
-{
-    1 <= name.serial && name.serial <= MADE_MAX && name.slot < ACTION_SLOTS
 }
 
 pub(crate) fn mask_word(name: MaskName) -> u64

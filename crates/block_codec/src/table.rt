@@ -58,7 +58,7 @@ fn protocol_in(number: u32) -> Proto
 }
 
 /// Writes a table whose chain is 268,435,455 at most and whose pref is from 1 to 65,535, and whose masks have
-/// slots below 8,192.
+/// slots below `MASK_SLOTS`.
 pub fn write_table(stored: &StoredTable, link: Option<u32>, words: &mut [u64; 40])
     requires { IsStorableTable stored.now }
     ensures { IsTableBlock words.new (stored.now, link) }

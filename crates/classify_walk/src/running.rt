@@ -15,6 +15,8 @@ use walk_steps::{Walk, run};
 
 /// Takes a frame of at most 262,144 bytes through a hook of lists that stay as they are: the plain walk over
 /// the state that they spell. Every visit has that point.
+///
+/// No command calls it: it carries the law that a walk that asks visit by visit ends as the plain walk does.
 pub fn walk_still(walk: &mut Walk, lists: &Lists, point: Point, hook: Hook, bytes: &[u8])
     requires { length bytes.now ≤ FRAME_MAX }
     ensures plain { (s : State) → Spells lists.now s

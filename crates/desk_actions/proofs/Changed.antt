@@ -7,6 +7,7 @@ use Rattle.store_history.specs.declared.history.Named.{Named}
 use Rattle.store_history.specs.declared.history.Commit.{Commit}
 use Rattle.store_history.proofs.Lists.{some_is}
 use Rattle.store_history.proofs.Histories.{root_own, root_other}
+use Rattle.store_history.specs.declared.places.TheConstants.{ACTION_SLOTS, POOL_BLOCKS}
 use Rattle.act_kinds.specs.declared.params.Kind.{Kind}
 use Rattle.act_kinds.specs.declared.params.Params.{Params}
 use Rattle.filter_state.specs.declared.action_line.ActionLine.{ActionLine}
@@ -16,7 +17,7 @@ use Rattle.filter_state.specs.declared.refusal.Done.TheVariants as dones
 use Rattle.filter_state.specs.States.{Action, State}
 use Rattle.filter_state.specs.Actions.{is_named, kind_eq}
 use Rattle.act_kinds.specs.Params.{kind_of}
-use Rattle.hook_meaning.proofs.OfEffects.Accepted.{same_step}
+use Rattle.hook_store_law.proofs.OfEffects.Accepted.{same_step}
 use Rattle.filter_state.specs.Tables.{first_where}
 use Rattle.filter_state.specs.Steps.{step, make_given, change_given}
 use Rattle.block_codec.specs.OfReadings.Read.{action_of_words}
@@ -30,8 +31,8 @@ use Rattle.hook_law.proofs.Growing.{now_next}
 use Rattle.hook_law.proofs.Standing.{slot_longer, slot_push, present_end}
 use Rattle.hook_law.proofs.Acting.{change_keeps, change_back}
 use Rattle.hook_law.proofs.Resting.{change_rests}
-use Rattle.hook_meaning.specs.Stated.{ActionTerms, hook_meaning}
-use Rattle.hook_meaning.specs.Blocks.{action_record, hook_codec}
+use Rattle.hook_store_law.specs.Stated.{ActionTerms, hook_meaning}
+use Rattle.hook_store_law.specs.Blocks.{action_record, hook_codec}
 use Rattle.hook_store_law.specs.OfEdits.Premises.{now, next, IsAccepted, SetsAction}
 use Rattle.hook_store_law.proofs.OfEdits.Accepted.{leads, lawful, next_sound}
 use Rattle.hook_store_law.proofs.OfEdits.Made.{changed_after}
@@ -117,7 +118,7 @@ module _ (h : List (Commit Edit)) (b : ℕ) (y : Edit) (t : State) (line : Actio
   at_slot : IsSlotOf hook_codec h serial slot
   at_slot = here.slots serial live
 
-  pub slot_small : slot < 2048
+  pub slot_small : slot < ACTION_SLOTS
   slot_small = at_slot.puts.small
 
   pub stands : Stands hook_meaning hook_codec h (action_root slot) (ActionRole serial)
@@ -162,7 +163,7 @@ module _ (h : List (Commit Edit)) (b : ℕ) (y : Edit) (t : State) (line : Actio
         (slot_of placed action, at, ap action_root (sym same), live_) stands in
         let equal : action ≡ serial = cc one in away equal
 
-    module _ (low_block : blk < 16384) where
+    module _ (low_block : blk < POOL_BLOCKS) where
       abbrev after : Placed
       after = put_at placed serial slot blk
 
@@ -180,7 +181,7 @@ module _ (h : List (Commit Edit)) (b : ℕ) (y : Edit) (t : State) (line : Actio
 
       own_alone : IsAlone (h ++ c ∷ []) (slot_of after serial) (block_of after (slot_of after serial))
       own_alone = subst (λ (s : ℕ). IsAlone (h ++ c ∷ []) s (block_of after s)) (sym own_slot) (
-        subst (λ (n : ℕ). n < 16384) (sym own_block) low_block,
+        subst (λ (n : ℕ). n < POOL_BLOCKS) (sym own_block) low_block,
         action_block (stored_as serial index given),
         ap (λ (n : Named). n.chain) (root_own h c)
             ∙ ap (λ (n : ℕ). record { block = n; words = action_block (stored_as serial index given) } ∷ []) (sym own_block),

@@ -1,11 +1,13 @@
 -- An action that an edit deletes: where the others are, and what leaves.
 use Rattle.std.proofs.Common.{◌≡◌, ◌≢◌, ◌∙◌, ◌⊎◌, inl, inr, ℕ, ◌+◌, ◌*◌, ◌<◌, ◌≤◌, Bool, true, false, cond, eq-eqb, List, [], ◌∷◌, ◌++◌, Option, Some, None, Ok, refl, sym, ap, subst, arith}
 use Rattle.std.specs.Option.{option_map}
+use Rattle.act_registry.specs.declared.limits.TheConstants.{MADE_MAX}
 use Rattle.store_history.specs.declared.history.Named.{Named}
 use Rattle.store_history.specs.declared.history.Commit.{Commit}
 use Rattle.store_history.specs.History.{root_of}
 use Rattle.store_history.proofs.Lists.{some_is}
 use Rattle.store_history.proofs.Histories.{root_other}
+use Rattle.store_history.specs.declared.places.TheConstants.{ACTION_SLOTS, ROW_BUCKETS, MASK_ROOTS, ACTION_ROOTS, BUCKET_ROOTS}
 use Rattle.act_kinds.specs.declared.params.Kind.{Kind}
 use Rattle.filter_state.specs.declared.edit.Edit.{Edit}
 use Rattle.filter_state.specs.declared.edit.Edit.TheVariants as edits
@@ -24,11 +26,11 @@ use Rattle.hook_law.specs.Numbered.{Marks}
 use Rattle.hook_law.proofs.Growing.{now_next}
 use Rattle.hook_law.proofs.Standing.{slot_longer, slot_push, present_end}
 use Rattle.hook_law.proofs.Marking.{mark_back}
-use Rattle.hook_meaning.specs.Stated.{hook_meaning, action_stated, action_at}
-use Rattle.hook_meaning.specs.Blocks.{hook_codec}
-use Rattle.hook_meaning.specs.OfEffects.Parts.{params_at}
-use Rattle.hook_meaning.proofs.OfEffects.Accepted.{not_unless, same_step}
-use Rattle.hook_meaning.proofs.OfEffects.Shared.{deleted_action}
+use Rattle.hook_store_law.specs.Stated.{hook_meaning, action_stated, action_at}
+use Rattle.hook_store_law.specs.Blocks.{hook_codec}
+use Rattle.hook_store_law.specs.OfEffects.Parts.{params_at}
+use Rattle.hook_store_law.proofs.OfEffects.Accepted.{not_unless, same_step}
+use Rattle.hook_store_law.proofs.OfEffects.Shared.{deleted_action}
 use Rattle.hook_store_law.specs.OfEdits.Premises.{now, next, IsAccepted, IsUnseen}
 use Rattle.hook_store_law.proofs.OfEdits.Accepted.{leads, sound}
 use Rattle.hook_store_law.proofs.OfEdits.Marking.{marks}
@@ -132,21 +134,21 @@ module _ (h : List (Commit Edit)) (b : ℕ) (y : Edit) (t : State) (done : Done)
       put_before action s (inl w) = here.made action s w
       put_before action s (inr p) = let root = p.root in absurd (omega (arith, root))
 
-  pub serial_small : serial ≤ 16384
+  pub serial_small : serial ≤ MADE_MAX
   serial_small = let low = here.made serial (slot_of placed serial) (here.slots serial live) in let most = (sound h b y t done a).made in omega (arith, low, most)
 
   abbrev pub slot : ℕ
   slot = slot_of placed serial
 
-  pub slot_small : slot < 2048
+  pub slot_small : slot < ACTION_SLOTS
   slot_small = (here.slots serial live).puts.small
 
   stood : Stands hook_meaning hook_codec h (action_root slot) (ActionRole serial)
   stood = (slot, here.slots serial live, refl, live)
 
   -- nothing stands at the slot afterwards
-  pub slot_left : IsLeftAt (h ++ c ∷ []) 8195 1 slot
-  slot_left j less x stands_ = let same : 8195 + 1 * slot + j ≡ action_root slot = omega (arith, less) in
+  pub slot_left : IsLeftAt (h ++ c ∷ []) ACTION_ROOTS 1 slot
+  slot_left j less x stands_ = let same : ACTION_ROOTS + 1 * slot + j ≡ action_root slot = omega (arith, less) in
       let after = subst (λ (r : ℕ). Stands hook_meaning hook_codec (h ++ c ∷ []) r x) same stands_ in
       let one : x ≡ ActionRole serial = (present_end hook_meaning hook_codec h b a.low a.keeps).apart (action_root slot) x (ActionRole serial) (back (action_root slot) x after) stood in
       let it : Stands hook_meaning hook_codec (h ++ c ∷ []) (action_root slot) (ActionRole serial) = subst (Stands hook_meaning hook_codec (h ++ c ∷ []) (action_root slot)) one after in
@@ -185,7 +187,7 @@ module _ (h : List (Commit Edit)) (b : ℕ) (y : Edit) (t : State) (done : Done)
         earlier (inr own) = let e = own.1.2 in absurd (cc e)
 
         in_gone : IsIn (action_root slot) (gone_roots now_gone)
-        in_gone = let same : 8195 + 1 * slot + 0 ≡ action_root slot = omega arith in
-            in_left (roots_of 3 1 now_gone.masks.left ++ roots_of 8195 1 now_gone.actions.left) (roots_of 10243 16 now_gone.rows.left) (action_root slot)
-            (in_right (roots_of 3 1 now_gone.masks.left) (roots_of 8195 1 now_gone.actions.left) (action_root slot)
-            (subst (λ (n : ℕ). IsIn n (roots_of 8195 1 now_gone.actions.left)) same (roots_have 8195 1 now_gone.actions.left slot 0 left (omega arith))))
+        in_gone = let same : ACTION_ROOTS + 1 * slot + 0 ≡ action_root slot = omega arith in
+            in_left (roots_of MASK_ROOTS 1 now_gone.masks.left ++ roots_of ACTION_ROOTS 1 now_gone.actions.left) (roots_of BUCKET_ROOTS ROW_BUCKETS now_gone.rows.left) (action_root slot)
+            (in_right (roots_of MASK_ROOTS 1 now_gone.masks.left) (roots_of ACTION_ROOTS 1 now_gone.actions.left) (action_root slot)
+            (subst (λ (n : ℕ). IsIn n (roots_of ACTION_ROOTS 1 now_gone.actions.left)) same (roots_have ACTION_ROOTS 1 now_gone.actions.left slot 0 left (omega arith))))

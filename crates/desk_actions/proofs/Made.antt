@@ -3,6 +3,7 @@ use Rattle.std.proofs.Common.{◌≡◌, ◌≢◌, ◌∙◌, ◌⊎◌, inl, i
 use Rattle.std.specs.Option.{option_map, unwrap_or}
 use Rattle.std.proofs.lemmas.Bool.{eqb-false}
 use Rattle.std.proofs.lemmas.List.{get_or-set_same, get_or-set_other, length-set}
+use Rattle.act_registry.specs.declared.limits.TheConstants.{MADE_MAX}
 use Rattle.store_history.specs.declared.history.Named.{Named}
 use Rattle.store_history.specs.declared.history.Commit.{Commit}
 use Rattle.store_history.proofs.Histories.{root_own, root_other}
@@ -31,14 +32,15 @@ use Rattle.hook_law.specs.Standing.{Role, Action as ActionRole, PutsAction, IsSl
 use Rattle.hook_law.specs.Keeping.{Keeps, IsAtRest}
 use Rattle.hook_law.specs.Numbered.{MakesAction}
 use Rattle.store_history.proofs.Lists.{some_is}
+use Rattle.store_history.specs.declared.places.TheConstants.{ACTION_SLOTS, POOL_BLOCKS}
 use Rattle.hook_law.proofs.Growing.{now_next}
 use Rattle.hook_law.proofs.Standing.{slot_longer, slot_here, slot_push, unused_end}
 use Rattle.hook_law.proofs.Acting.{make_keeps, make_comes}
 use Rattle.hook_law.proofs.Resting.{make_rests}
-use Rattle.hook_meaning.specs.Stated.{ActionTerms, hook_meaning, action_stated, action_at}
-use Rattle.hook_meaning.specs.Blocks.{action_record, hook_codec}
-use Rattle.hook_meaning.proofs.Reading.{some_of}
-use Rattle.hook_meaning.proofs.OfEffects.Accepted.{not_unless, same_step}
+use Rattle.hook_store_law.specs.Stated.{ActionTerms, hook_meaning, action_stated, action_at}
+use Rattle.hook_store_law.specs.Blocks.{action_record, hook_codec}
+use Rattle.hook_store_law.proofs.Reading.{some_of}
+use Rattle.hook_store_law.proofs.OfEffects.Accepted.{not_unless, same_step}
 use Rattle.hook_store_law.specs.OfEdits.Premises.{now, next, IsAccepted, SetsAction}
 use Rattle.hook_store_law.proofs.OfEdits.Accepted.{lawful, next_sound}
 use Rattle.hook_store_law.proofs.OfEdits.Made.{made_after}
@@ -55,7 +57,7 @@ pub record CanStore (t : State) (serial index : ℕ) (given : Params) : Type 0 w
   pub storable : IsStorableAction (stored_as serial index given)
   pub fit : FitParams given
   pub low : serial ≤ t.actions_made
-  pub most : serial ≤ 16384
+  pub most : serial ≤ MADE_MAX
 
 pub can_store : (t : State) (serial index : ℕ) (given : Params) → Sound t → action_at t serial ≡ Some (record { index = index; params = given }) → CanStore t serial index given
 can_store t serial index given sound is =
@@ -64,10 +66,10 @@ can_store t serial index given sound is =
     let same : x.0.serial ≡ serial = eqb-true x.0.serial serial f.1 in
     let at : x.0.index ≡ index = ap (λ terms. terms.index) x.2 in let with_ : x.0.params ≡ given = ap (λ terms. terms.params) x.2 in
     let ranges = f.0.serial in let most = sound.made in let stored = params_stored given (subst AreParams with_ f.0.params) in record {
-      storable = record { serial = (subst (λ n. 1 ≤ n) same ranges.0, subst (λ n. n ≤ 16384) same (omega (arith, ranges, most))); index = subst (λ n. (1 ≤ n) × (n ≤ 4294967295)) at f.0.index; params = stored.0 };
+      storable = record { serial = (subst (λ n. 1 ≤ n) same ranges.0, subst (λ n. n ≤ MADE_MAX) same (omega (arith, ranges, most))); index = subst (λ n. (1 ≤ n) × (n ≤ 4294967295)) at f.0.index; params = stored.0 };
       fit = stored.1;
       low = subst (λ n. n ≤ t.actions_made) same ranges.1;
-      most = subst (λ n. n ≤ 16384) same (omega (arith, ranges, most));
+      most = subst (λ n. n ≤ MADE_MAX) same (omega (arith, ranges, most));
     }
 
 -- ---- what was done
@@ -103,7 +105,7 @@ module _ (h : List (Commit Edit)) (b : ℕ) (y : Edit) (t : State) (line : Actio
   reads : action_of_words (action_block (stored_as serial index given)) ≡ Some (stored_as serial index given)
   reads = action_reads (stored_as serial index given) stores.storable stores.fit
 
-  module _ (slot blk : ℕ) (small : slot < 2048) (unused : IsUnused hook_meaning hook_codec b h (action_root slot)) where
+  module _ (slot blk : ℕ) (small : slot < ACTION_SLOTS) (unused : IsUnused hook_meaning hook_codec b h (action_root slot)) where
     abbrev pub c : Commit Edit
     c = action_commit slot blk (stored_as serial index given) (point_of h + 1) (Some (point_of h + 1)) y
 
@@ -142,7 +144,7 @@ module _ (h : List (Commit Edit)) (b : ℕ) (y : Edit) (t : State) (line : Actio
     other_slot action live same = let at = here.slots action live in
         unused_end hook_meaning hook_codec h b (action_root slot) (ActionRole action) a.low unused (slot_of placed action, at, ap action_root (sym same), live)
 
-    module _ (low_block : blk < 16384) where
+    module _ (low_block : blk < POOL_BLOCKS) where
       abbrev after : Placed
       after = put_at placed serial slot blk
 
@@ -160,7 +162,7 @@ module _ (h : List (Commit Edit)) (b : ℕ) (y : Edit) (t : State) (line : Actio
 
       own_alone : IsAlone (h ++ c ∷ []) (slot_of after serial) (block_of after (slot_of after serial))
       own_alone = subst (λ (s : ℕ). IsAlone (h ++ c ∷ []) s (block_of after s)) (sym own_slot) (
-        subst (λ (n : ℕ). n < 16384) (sym own_block) low_block,
+        subst (λ (n : ℕ). n < POOL_BLOCKS) (sym own_block) low_block,
         action_block (stored_as serial index given),
         ap (λ (n : Named). n.chain) (root_own h c)
             ∙ ap (λ (n : ℕ). record { block = n; words = action_block (stored_as serial index given) } ∷ []) (sym own_block),

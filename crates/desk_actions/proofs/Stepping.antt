@@ -2,6 +2,7 @@
 use Rattle.std.proofs.Common.{◌≡◌, ◌≢◌, ◌∙◌, ◌⊎◌, inl, inr, ℕ, ◌+◌, ◌*◌, ◌<◌, List, [], ◌∷◌, ◌++◌, get_or, slice_get, Some, refl, sym, ap, subst, arith, zero, suc}
 use Rattle.store_history.specs.declared.history.Link.{Link}
 use Rattle.store_history.specs.declared.history.Commit.{Commit}
+use Rattle.store_history.specs.declared.places.TheConstants.{MASK_SLOTS, ACTION_SLOTS, ACTION_ROOTS, POOL_BLOCKS}
 use Rattle.pin_store.specs.declared.view.Sheet.{Sheet}
 use Rattle.pin_store.specs.Sheets.{base_of, IsSameButCells}
 use Rattle.pin_store.specs.Calls.{IsUnnamed}
@@ -18,8 +19,8 @@ use Rattle.hook_law.specs.Places.{mask_root, action_root, bucket_root}
 use Rattle.hook_law.specs.Meaning.{point_of}
 use Rattle.hook_law.specs.Standing.{IsIn, IsUnused}
 use Rattle.hook_law.specs.Keeping.{Keeps, IsAtRest}
-use Rattle.hook_meaning.specs.Stated.{hook_meaning}
-use Rattle.hook_meaning.specs.Blocks.{hook_codec}
+use Rattle.hook_store_law.specs.Stated.{hook_meaning}
+use Rattle.hook_store_law.specs.Blocks.{hook_codec}
 use Rattle.hook_store_law.specs.Kept.{KeepsHook}
 use Rattle.hook_store_law.specs.OfEdits.Premises.{now, next, IsAccepted}
 use Rattle.root_pool_laws.specs.Blocks.{HasBlock}
@@ -47,26 +48,26 @@ one_in x y at = go at.0 at.1
     go (suc place) e = absurd (cc e)
 
 -- a free slot's root
-pub slot_unused : (h : List (Commit Edit)) (b slot : ℕ) → IsFreeAt h b 8195 1 slot → IsUnused hook_meaning hook_codec b h (action_root slot)
-slot_unused h b slot free = let same : 8195 + 1 * slot + 0 ≡ action_root slot = omega arith in subst (IsUnused hook_meaning hook_codec b h) same (free 0 (omega arith))
+pub slot_unused : (h : List (Commit Edit)) (b slot : ℕ) → IsFreeAt h b ACTION_ROOTS 1 slot → IsUnused hook_meaning hook_codec b h (action_root slot)
+slot_unused h b slot free = let same : ACTION_ROOTS + 1 * slot + 0 ≡ action_root slot = omega arith in subst (IsUnused hook_meaning hook_codec b h) same (free 0 (omega arith))
 
 in_pool_small : (size : ℕ) (free left : List ℕ) (x : ℕ) → ((place y : ℕ) → slice_get (free ++ left) place ≡ Some y → y < size) → IsIn x (free ++ left) → x < size
 in_pool_small size free left x small at = small at.0 x at.1
 
 -- a commit to the root of a slot that was taken, of a block that was taken, leaves the pools as right as they are
-pub slot_leaves : (pools : Pools) (h : List (Commit Edit)) (b : ℕ) (c : Commit Edit) (slot blk : ℕ) (words : List ℕ) → ArePools pools h b → IsTaken 16384 (IsUnnamed b h) pools.blocks blk
-    → slot < 2048 → (IsInPool slot pools.actions → ⊥) → c.named.chain ≡ record { block = blk; words = words } ∷ [] → ((r : ℕ) → r ≢ action_root slot → NothingComes h c r) → LeavesPools pools h b c (blk ∷ [])
+pub slot_leaves : (pools : Pools) (h : List (Commit Edit)) (b : ℕ) (c : Commit Edit) (slot blk : ℕ) (words : List ℕ) → ArePools pools h b → IsTaken POOL_BLOCKS (IsUnnamed b h) pools.blocks blk
+    → slot < ACTION_SLOTS → (IsInPool slot pools.actions → ⊥) → c.named.chain ≡ record { block = blk; words = words } ∷ [] → ((r : ℕ) → r ≢ action_root slot → NothingComes h c r) → LeavesPools pools h b c (blk ∷ [])
 slot_leaves pools h b c slot blk words p taken small apart chain back = record {
   spends = λ place l at. spent place l (sym (ap (λ (ls : List Link). slice_get ls place) chain) ∙ at);
   free = λ x at. subst (IsUnnamed b h) (sym (one_in x blk at)) taken.free;
-  small = λ x at. subst (λ (n : ℕ). n < 16384) (sym (one_in x blk at)) taken.small;
+  small = λ x at. subst (λ (n : ℕ). n < POOL_BLOCKS) (sym (one_in x blk at)) taken.small;
   taken = λ x at in_. taken.apart (subst (λ (n : ℕ). IsInPool n pools.blocks) (one_in x blk at) in_);
   masks = λ s in_. back (mask_root s) (λ same. let low = mask_small s in_ in omega (arith, same, low));
   actions = λ s in_. back (action_root s) (λ same. let is : s ≡ slot = omega (arith, same) in apart (subst (λ (n : ℕ). IsInPool n pools.actions) is in_));
   rows = λ row place in_ less. back (bucket_root row place) (λ same. omega (arith, same, small));
 }
   where
-    mask_small : (s : ℕ) → IsInPool s pools.masks → s < 8192
+    mask_small : (s : ℕ) → IsInPool s pools.masks → s < MASK_SLOTS
     mask_small s (inl at) = let in_ = in_left pools.masks.free pools.masks.left s at in p.masks.small in_.0 s in_.1
     mask_small s (inr at) = let in_ = in_right pools.masks.free pools.masks.left s at in p.masks.small in_.0 s in_.1
 
@@ -89,7 +90,7 @@ module _ (h : List (Commit Edit)) (b : ℕ) (old new : Kept) (point : ℕ) (y : 
     pub can : CanStore (next h y) serial index given
     can = stores h b y d.state line index serial given accepted (as_edit (now h) line y making) written l.rest placed here
 
-    module _ (slot blk : ℕ) (small : slot < 2048) (unused : IsUnused hook_meaning hook_codec b h (action_root slot)) where
+    module _ (slot blk : ℕ) (small : slot < ACTION_SLOTS) (unused : IsUnused hook_meaning hook_codec b h (action_root slot)) where
       abbrev pub put : ℕ → Commit Edit
       put number = action_commit slot blk (stored_as serial index given) number (Some number) y
 
@@ -113,7 +114,7 @@ module _ (h : List (Commit Edit)) (b : ℕ) (old new : Kept) (point : ℕ) (y : 
       pub next_ledger : IsLedger (h ++ put (point + 1) ∷ []) b new (point + 1)
       next_ledger = ledger_next h b old new point y done (put (point + 1)) l d numbered refl law rests
 
-      pub next_here : blk < 16384 → AreHere (put_at placed serial slot blk) (h ++ put (point + 1) ∷ [])
+      pub next_here : blk < POOL_BLOCKS → AreHere (put_at placed serial slot blk) (h ++ put (point + 1) ∷ [])
       next_here low_block = subst (λ c. AreHere (put_at placed serial slot blk) (h ++ c ∷ [])) at_point
           (make_here h b y d.state line index serial given accepted (as_edit (now h) line y making) written l.rest placed here slot blk small unused low_block)
 
@@ -121,6 +122,6 @@ module _ (h : List (Commit Edit)) (b : ℕ) (old new : Kept) (point : ℕ) (y : 
       back = subst (λ c. (r : ℕ) → r ≢ action_root slot → NothingComes h c r) at_point
           (make_back h b y d.state line index serial given accepted (as_edit (now h) line y making) written l.rest placed here slot blk small unused)
 
-      pub next_pools : (pools : Pools) → ArePools pools h b → IsTaken 16384 (IsUnnamed b h) pools.blocks blk → (IsInPool slot pools.actions → ⊥) → ArePools pools (h ++ put (point + 1) ∷ []) b
+      pub next_pools : (pools : Pools) → ArePools pools h b → IsTaken POOL_BLOCKS (IsUnnamed b h) pools.blocks blk → (IsInPool slot pools.actions → ⊥) → ArePools pools (h ++ put (point + 1) ∷ []) b
       next_pools pools p taken apart = pools_commit pools h b (put (point + 1)) (blk ∷ []) l.kept.low p
           (slot_leaves pools h b (put (point + 1)) slot blk (action_block (stored_as serial index given)) p taken small apart refl back)

@@ -6,6 +6,7 @@ use Rattle.store_history.specs.declared.history.Link.{Link}
 use Rattle.store_history.specs.declared.history.Named.{Named}
 use Rattle.store_history.specs.declared.history.Commit.{Commit}
 use Rattle.store_history.proofs.Histories.{root_own, root_other}
+use Rattle.store_history.specs.declared.places.TheConstants.{ACTION_SLOTS, ACTION_ROOTS, POOL_BLOCKS}
 use Rattle.pin_store.specs.Calls.{IsUnnamed}
 use Rattle.act_kinds.specs.declared.params.Params.{Params}
 use Rattle.filter_state.specs.declared.action_line.ActionLine.{ActionLine}
@@ -24,8 +25,8 @@ use Rattle.hook_law.specs.Meaning.{point_of}
 use Rattle.hook_law.specs.Standing.{Role, Action as ActionRole, Stands}
 use Rattle.hook_law.specs.Keeping.{Keeps, IsAtRest}
 use Rattle.hook_law.proofs.Standing.{unused_end}
-use Rattle.hook_meaning.specs.Stated.{hook_meaning}
-use Rattle.hook_meaning.specs.Blocks.{hook_codec}
+use Rattle.hook_store_law.specs.Stated.{hook_meaning}
+use Rattle.hook_store_law.specs.Blocks.{hook_codec}
 use Rattle.hook_store_law.specs.Kept.{KeepsHook}
 use Rattle.hook_store_law.specs.OfEdits.Premises.{now, next, IsAccepted}
 use Rattle.root_pool_laws.specs.Blocks.{HasBlock, IsLeft}
@@ -49,7 +50,7 @@ alone_has h slot block alone = (0, record { block = block; words = alone.1 }, ap
 
 -- the slot of something that stands is in no pool
 pub standing_slot : (pools : Pools) (h : List (Commit Edit)) (b slot : ℕ) (x : Role) → b ≤ length h → ArePools pools h b → Stands hook_meaning hook_codec h (action_root slot) x → IsInPool slot pools.actions → ⊥
-standing_slot pools h b slot x low p stands_ (inl at) = unused_end hook_meaning hook_codec h b (8195 + 1 * slot + 0) x low (p.actions.may_be_given at.0 slot at.1 0 (omega arith))
+standing_slot pools h b slot x low p stands_ (inl at) = unused_end hook_meaning hook_codec h b (ACTION_ROOTS + 1 * slot + 0) x low (p.actions.may_be_given at.0 slot at.1 0 (omega arith))
     (subst (λ (r : ℕ). Stands hook_meaning hook_codec h r x) (omega arith) stands_)
 standing_slot pools h b slot x low p stands_ (inr at) = p.actions.have_left at.0 slot at.1 0 (omega arith) x (subst (λ (r : ℕ). Stands hook_meaning hook_codec h r x) (omega arith) stands_)
 
@@ -75,7 +76,7 @@ module _ (h : List (Commit Edit)) (b : ℕ) (old new : Kept) (point : ℕ) (y : 
     abbrev slot : ℕ
     slot = slot_of placed serial
 
-    pub small_slot : slot < 2048
+    pub small_slot : slot < ACTION_SLOTS
     small_slot = slot_small h b y d.state line serial given accepted changing written named l.rest placed here
 
     pub it_stands : Stands hook_meaning hook_codec h (action_root slot) (ActionRole serial)
@@ -109,7 +110,7 @@ module _ (h : List (Commit Edit)) (b : ℕ) (old new : Kept) (point : ℕ) (y : 
       pub change_ledger : IsLedger (h ++ put (point + 1) ∷ []) b new (point + 1)
       change_ledger = ledger_next h b old new point y done (put (point + 1)) l d numbered refl law rests
 
-      pub change_places : blk < 16384 → AreHere (put_at placed serial slot blk) (h ++ put (point + 1) ∷ [])
+      pub change_places : blk < POOL_BLOCKS → AreHere (put_at placed serial slot blk) (h ++ put (point + 1) ∷ [])
       change_places low_block = subst (λ c. AreHere (put_at placed serial slot blk) (h ++ c ∷ [])) at_point
           (change_here h b y d.state line serial given accepted changing written named l.rest placed here blk low_block)
 
@@ -117,7 +118,7 @@ module _ (h : List (Commit Edit)) (b : ℕ) (old new : Kept) (point : ℕ) (y : 
       back = subst (λ c. (r : ℕ) (x : Role) → Stands hook_meaning hook_codec (h ++ c ∷ []) r x → Stands hook_meaning hook_codec h r x) at_point
           (changed_back h b y d.state line serial given accepted changing written named l.rest placed here blk)
 
-      module _ (pools : Pools) (p : ArePools pools h b) (taken : IsTaken 16384 (IsUnnamed b h) pools.blocks blk) where
+      module _ (pools : Pools) (p : ArePools pools h b) (taken : IsTaken POOL_BLOCKS (IsUnnamed b h) pools.blocks blk) where
         pub change_pools : ArePools pools (h ++ put (point + 1) ∷ []) b
         change_pools = pools_commit pools h b (put (point + 1)) (blk ∷ []) l.kept.low p
             (slot_leaves pools h b (put (point + 1)) slot blk (action_block (stored_as serial (unwrap_or line.index 0) given)) p taken small_slot

@@ -1,6 +1,6 @@
 //! A live action is deleted.
 ghost use Rattle.std.specs.Prelude.{◌≡◌, ◌<◌, ◌≤◌, ◌+◌, ◌^◌, ◌∷◌, ◌++◌, [], length, true, Ok};
-ghost use Rattle.block_codec.specs.declared.places.TheConstants.{ROOTS};
+ghost use Rattle.store_history.specs.declared.places.TheConstants.{ROOTS};
 ghost use Rattle.store_history.specs.History.{edits_of};
 ghost use Rattle.pin_store.specs.Calls.{sheet_of, IsSeatOf};
 ghost use Rattle.filter_state.specs.declared.edit.Edit.TheVariants as edits;

@@ -1,7 +1,8 @@
 //! An action is made.
 ghost use Rattle.std.specs.Prelude.{◌≡◌, ◌<◌, ◌≤◌, ◌+◌, ◌^◌, ◌∷◌, ◌++◌, [], ℕ, length, Some, Ok};
 ghost use Rattle.act_kinds.specs.declared.params.Params.{Params};
-ghost use Rattle.block_codec.specs.declared.places.TheConstants.{BLOCK_WORDS, BLOCKS, ROOTS};
+ghost use Rattle.store_history.specs.declared.places.TheConstants.{ROOTS};
+ghost use Rattle.block_codec.specs.declared.places.TheConstants.{BLOCK_WORDS, BLOCKS};
 ghost use Rattle.store_history.specs.History.{edits_of};
 ghost use Rattle.pin_store.specs.Sheets.{IsSameButCells};
 ghost use Rattle.pin_store.specs.Calls.{sheet_of, IsSeatOf};

@@ -1,9 +1,9 @@
 //! Where live actions stand.
 
 use act_registry::MADE_MAX;
-use block_codec::places::{ACTION_SLOTS, POOL_BLOCKS};
 use std::alloc::Global;
 use std::marker::Model;
+use store_history::places::{ACTION_SLOTS, POOL_BLOCKS};
 use tc_base::NoMemory;
 
 /// By its serial the slot of an action, and by the slot the block of its record.
@@ -16,7 +16,7 @@ pub struct ActionPlaces {
 impl Model for ActionPlaces {
     ghost use Rattle.std.specs.Prelude.{◌≡◌, ◌<◌, ◌+◌, ℕ, length, slice_index};
     ghost use Rattle.act_registry.specs.declared.limits.TheConstants.{MADE_MAX};
-    ghost use Rattle.block_codec.specs.declared.places.TheConstants.{ACTION_SLOTS};
+    ghost use Rattle.store_history.specs.declared.places.TheConstants.{ACTION_SLOTS};
     ghost use Rattle.desk_actions.specs.Places.{Placed};
 
     ghost Value = { Placed };
@@ -30,7 +30,7 @@ impl Model for ActionPlaces {
 impl ActionPlaces {
     ghost use Rattle.std.specs.Prelude.{◌≡◌, ◌<◌, ◌≤◌, [], IfOk};
     ghost use Rattle.act_registry.specs.declared.limits.TheConstants.{MADE_MAX};
-    ghost use Rattle.block_codec.specs.declared.places.TheConstants.{ACTION_SLOTS};
+    ghost use Rattle.store_history.specs.declared.places.TheConstants.{ACTION_SLOTS};
     ghost use Rattle.desk_actions.specs.Places.{slot_of, block_of, put_at, cleared_at, AreHere};
 
     /// Places for all actions that are ever made. None is there yet.

@@ -6,12 +6,13 @@ use Rattle.store_history.specs.declared.history.Commit.{Commit}
 use Rattle.store_history.specs.declared.history.Named.{Named}
 use Rattle.store_history.specs.History.{root_of, edits_of}
 use Rattle.store_history.proofs.Histories.{root_other}
+use Rattle.store_history.specs.declared.places.TheConstants.{MASK_SLOTS}
 use Rattle.pin_store.specs.declared.shape.Shape.{Shape}
 use Rattle.pin_store.specs.Calls.{IsUnnamed}
 use Rattle.filter_state.specs.declared.edit.Edit.{Edit}
 use Rattle.filter_state.specs.Order.{of_mask}
 use Rattle.block_codec.specs.declared.table.StoredTable.{StoredTable}
-use Rattle.hook_meaning.specs.OfEffects.Parts.{Stands}
+use Rattle.hook_store_law.specs.OfEffects.Parts.{Stands}
 use Rattle.mask_table.specs.Buckets.{bucket_root}
 use Rattle.mask_table.specs.declared.mirrors.mirror.KeptMask.{KeptMask}
 use Rattle.mask_writer.specs.Masks.{Masks}
@@ -24,8 +25,8 @@ use Rattle.hook_law.specs.Standing.{Role, Mask, Bucket, region_of, IsMaskAt, Sta
 use Rattle.hook_law.specs.Keeping.{Present}
 use Rattle.hook_law.specs.Coming.{IsMade, IsOfPrepared}
 use Rattle.hook_law.proofs.Standing.{present_end}
-use Rattle.hook_meaning.specs.Stated.{hook_meaning}
-use Rattle.hook_meaning.specs.Blocks.{mask_record, hook_codec}
+use Rattle.hook_store_law.specs.Stated.{hook_meaning}
+use Rattle.hook_store_law.specs.Blocks.{mask_record, hook_codec}
 use Rattle.hook_store_law.specs.Kept.{KeepsHook}
 use Rattle.hook_store_law.specs.OfEdits.Premises.{next}
 use Rattle.desk_masks.specs.OfMaskResizes.Resized.{stored_now}
@@ -124,7 +125,7 @@ module _ (h : List (Commit Edit)) (b : ℕ) (y : Edit) (hook : Hook) (keeps : Ke
     p : Present hook_meaning hook_codec h
     p = present_end hook_meaning hook_codec h b low keeps.law
 
-    mask_back_ : (s : ℕ) → s < 8192 → NothingComes h c (places.mask_root s)
+    mask_back_ : (s : ℕ) → s < MASK_SLOTS → NothingComes h c (places.mask_root s)
     mask_back_ s less = back (places.mask_root s) (λ k x m. let root = m.root in absurd (omega (arith, root, less)))
 
     row_back_ : (row k : ℕ) → NothingComes h c (places.bucket_root row k)
@@ -178,6 +179,6 @@ module _ (h : List (Commit Edit)) (b : ℕ) (y : Edit) (hook : Hook) (keeps : Ke
         (λ s at. mask_back_ s (small_mask s at)) (λ s at. back (places.action_root s) (λ k x m. let root = m.root in let same : m.put.slot ≡ s = omega (arith, root) in actions m.action m.put (subst (λ (n : ℕ). IsInPool n pools.actions) (sym same) at)))
         (λ row k at less. row_back_ row k) is
       where
-        small_mask : (s : ℕ) → IsInPool s pools.masks → s < 8192
+        small_mask : (s : ℕ) → IsInPool s pools.masks → s < MASK_SLOTS
         small_mask s (inl i) = let k = in_left pools.masks.free pools.masks.left s i in q.masks.small k.0 s k.1
         small_mask s (inr i) = let k = in_right pools.masks.free pools.masks.left s i in q.masks.small k.0 s k.1

@@ -6,6 +6,7 @@ use Rattle.std.proofs.lemmas.Option.{same_Some, slice_get_within, get_or_from_sl
 use Rattle.store_history.specs.declared.history.Commit.{Commit}
 use Rattle.store_history.specs.declared.history.Link.{Link}
 use Rattle.store_history.specs.History.{root_of}
+use Rattle.store_history.specs.declared.places.TheConstants.{MASK_SLOTS, ACTION_SLOTS, ROWS, ROW_BUCKETS, MASK_ROOTS, ACTION_ROOTS, BUCKET_ROOTS, POOL_BLOCKS}
 use Rattle.pin_store.specs.declared.shape.Shape.{Shape}
 use Rattle.filter_state.specs.declared.edit.Edit.{Edit}
 use Rattle.block_codec.specs.declared.filter.StoredFilter.{StoredFilter}
@@ -20,8 +21,8 @@ use Rattle.mask_writer.specs.Standing.{masks_of, chain_at, StandsAt, Holds, Buck
 use Rattle.mask_writer.proofs.Standing.{chain_named, mask_storable}
 use Rattle.hook_law.specs.Places as places
 use Rattle.hook_law.specs.Standing.{Mask, IsIn, AreDistinct, IsMaskAt}
-use Rattle.hook_meaning.specs.Stated.{hook_meaning}
-use Rattle.hook_meaning.specs.Blocks.{hook_codec}
+use Rattle.hook_store_law.specs.Stated.{hook_meaning}
+use Rattle.hook_store_law.specs.Blocks.{hook_codec}
 use Rattle.root_pool_laws.specs.Blocks.{HasBlock}
 use Rattle.root_pool_laws.specs.Pools.{IsEmptyRoot}
 use Rattle.root_pool_laws.proofs.Apart.{in_append, in_left, in_right}
@@ -64,10 +65,10 @@ module _ (masks : Masks) (slot : ℕ) (kept : KeptMask) (stands : StandsAt masks
   rows_count : kept.mask.size ≡ 16 * length kept.mask.rows
   rows_count = (mask_storable masks shape cells (root_of h) holds.named slot kept stands).rows
 
-  pub slot_left : IsLeftAt h 3 1 slot
+  pub slot_left : IsLeftAt h MASK_ROOTS 1 slot
   slot_left j less = subst (IsEmptyRoot hook_meaning hook_codec h) (omega (arith, less)) gone.at_slot
 
-  bucket_of_row : (i j number : ℕ) → j < 16 → slice_get kept.mask.rows i ≡ Some number → (16 * i + j < kept.mask.size) × (bucket_root kept.mask (16 * i + j) ≡ 10243 + 16 * number + j)
+  bucket_of_row : (i j number : ℕ) → j < 16 → slice_get kept.mask.rows i ≡ Some number → (16 * i + j < kept.mask.size) × (bucket_root kept.mask (16 * i + j) ≡ BUCKET_ROOTS + ROW_BUCKETS * number + j)
   bucket_of_row i j number less at =
       let inside = slice_get_within kept.mask.rows i number at in let count = rows_count in
       let place : (16 * i + j) / 16 ≡ i = omega (arith, less) in let off : (16 * i + j) % 16 ≡ j = omega (arith, less) in
@@ -77,9 +78,9 @@ module _ (masks : Masks) (slot : ℕ) (kept : KeptMask) (stands : StandsAt masks
   rows_different : AreDistinct kept.mask.rows
   rows_different i j row e f =
       let one = bucket_of_row i 0 row (omega arith) e in let two = bucket_of_row j 0 row (omega arith) f in
-      let x : BucketOf masks (10243 + 16 * row + 0) = record { slot = slot; bucket = 16 * i + 0; kept = kept; stands = stands; within = one.0; same = sym one.1 } in
-      let z : BucketOf masks (10243 + 16 * row + 0) = record { slot = slot; bucket = 16 * j + 0; kept = kept; stands = stands; within = two.0; same = sym two.1 } in
-      let same : 16 * i + 0 ≡ 16 * j + 0 = (holds.named.apart (10243 + 16 * row + 0) x z).1 in omega (arith, same)
+      let x : BucketOf masks (BUCKET_ROOTS + ROW_BUCKETS * row + 0) = record { slot = slot; bucket = 16 * i + 0; kept = kept; stands = stands; within = one.0; same = sym one.1 } in
+      let z : BucketOf masks (BUCKET_ROOTS + ROW_BUCKETS * row + 0) = record { slot = slot; bucket = 16 * j + 0; kept = kept; stands = stands; within = two.0; same = sym two.1 } in
+      let same : 16 * i + 0 ≡ 16 * j + 0 = (holds.named.apart (BUCKET_ROOTS + ROW_BUCKETS * row + 0) x z).1 in omega (arith, same)
 
   -- ---- the blocks
   abbrev blocks : List ℕ
@@ -101,7 +102,7 @@ module _ (masks : Masks) (slot : ℕ) (kept : KeptMask) (stands : StandsAt masks
           let m = mapped_at (bucket_root kept.mask) (range_with_len 0 kept.mask.size) x.1.0 x.0 x.1.1 in let r = range_at 0 kept.mask.size x.1.0 m.0 m.1 in let off = r.0 in let less = r.1 in
           (x.0, inr (m.0, omega (arith, off, less), m.2), x.2)
 
-  block_small : (block : ℕ) → (r : ℕ) × Own r × HasBlock h r block → block < 16384
+  block_small : (block : ℕ) → (r : ℕ) × Own r × HasBlock h r block → block < POOL_BLOCKS
   block_small block x = pool_block masks shape cells (root_of h) holds.named slot kept stands x.0 x.1 block x.2
 
   buckets_distinct : (k : ℕ) → k < kept.mask.size → IsDistinct eqb (map (λ (l : Link). l.block) (root_of h (bucket_root kept.mask k)).chain)
@@ -132,19 +133,19 @@ module _ (masks : Masks) (slot : ℕ) (kept : KeptMask) (stands : StandsAt masks
 
     -- the root's number isn't in the pools
     own_apart : (r : ℕ) → Own r → IsIn r (gone_roots pools) → ⊥
-    own_apart r own at = sort (in_append (roots_of 3 1 pools.masks.left ++ roots_of 8195 1 pools.actions.left) (roots_of 10243 16 pools.rows.left) r at)
+    own_apart r own at = sort (in_append (roots_of MASK_ROOTS 1 pools.masks.left ++ roots_of ACTION_ROOTS 1 pools.actions.left) (roots_of BUCKET_ROOTS ROW_BUCKETS pools.rows.left) r at)
       where
-        of_mask : (slot2 : ℕ) → IsIn slot2 pools.masks.left → r ≡ 3 + 1 * slot2 + 0 → ⊥
+        of_mask : (slot2 : ℕ) → IsIn slot2 pools.masks.left → r ≡ MASK_ROOTS + 1 * slot2 + 0 → ⊥
         of_mask slot2 in_ is = by own
           where
-            small : slot2 < 8192
+            small : slot2 < MASK_SLOTS
             small = let k = in_right pools.masks.free pools.masks.left slot2 in_ in p.masks.small k.0 slot2 k.1
 
             by : Own r → ⊥
             by (inl e) = let same : slot2 ≡ slot = omega (arith, is, e) in slot_apart (inr (subst (λ (n : ℕ). IsIn n pools.masks.left) same in_))
             by (inr k) = let e = k.2 in let low_ = small in absurd (omega (arith, is, e, low_))
 
-        of_row : (row j : ℕ) → IsIn row pools.rows.left → j < 16 → r ≡ 10243 + 16 * row + j → ⊥
+        of_row : (row j : ℕ) → IsIn row pools.rows.left → j < 16 → r ≡ BUCKET_ROOTS + ROW_BUCKETS * row + j → ⊥
         of_row row j in_ less is = by own
           where
             by : Own r → ⊥
@@ -152,23 +153,23 @@ module _ (masks : Masks) (slot : ℕ) (kept : KeptMask) (stands : StandsAt masks
             by (inr k) = let e = k.2 in let same : get_or kept.mask.rows (k.0 / 16) 0 ≡ row = omega (arith, is, e, less) in let count = rows_count in let inside = k.1 in
                 rows_apart row (k.0 / 16, slice_get-get_or kept.mask.rows (k.0 / 16) 0 (omega (arith, count, inside)) ∙ ap Some same) (inr in_)
 
-        of_action : (s : ℕ) → IsIn s pools.actions.left → r ≡ 8195 + 1 * s + 0 → ⊥
+        of_action : (s : ℕ) → IsIn s pools.actions.left → r ≡ ACTION_ROOTS + 1 * s + 0 → ⊥
         of_action s in_ is = by own
           where
-            small : s < 2048
+            small : s < ACTION_SLOTS
             small = let k = in_right pools.actions.free pools.actions.left s in_ in p.actions.small k.0 s k.1
 
             by : Own r → ⊥
             by (inl e) = let low_ = (holds.named.masks slot kept stands).small in absurd (omega (arith, is, e, low_))
             by (inr k) = let e = k.2 in let low_ = small in absurd (omega (arith, is, e, low_))
 
-        two : IsIn r (roots_of 3 1 pools.masks.left) ⊎ IsIn r (roots_of 8195 1 pools.actions.left) → ⊥
-        two (inl one) = let f = in_roots 3 1 pools.masks.left r one in let less = f.3 in let is = f.4 in of_mask f.0 f.1 (omega (arith, less, is))
-        two (inr one) = let f = in_roots 8195 1 pools.actions.left r one in let less = f.3 in let is = f.4 in of_action f.0 f.1 (omega (arith, less, is))
+        two : IsIn r (roots_of MASK_ROOTS 1 pools.masks.left) ⊎ IsIn r (roots_of ACTION_ROOTS 1 pools.actions.left) → ⊥
+        two (inl one) = let f = in_roots MASK_ROOTS 1 pools.masks.left r one in let less = f.3 in let is = f.4 in of_mask f.0 f.1 (omega (arith, less, is))
+        two (inr one) = let f = in_roots ACTION_ROOTS 1 pools.actions.left r one in let less = f.3 in let is = f.4 in of_action f.0 f.1 (omega (arith, less, is))
 
-        sort : IsIn r (roots_of 3 1 pools.masks.left ++ roots_of 8195 1 pools.actions.left) ⊎ IsIn r (roots_of 10243 16 pools.rows.left) → ⊥
-        sort (inl one) = two (in_append (roots_of 3 1 pools.masks.left) (roots_of 8195 1 pools.actions.left) r one)
-        sort (inr one) = let f = in_roots 10243 16 pools.rows.left r one in of_row f.0 f.2 f.1 f.3 f.4
+        sort : IsIn r (roots_of MASK_ROOTS 1 pools.masks.left ++ roots_of ACTION_ROOTS 1 pools.actions.left) ⊎ IsIn r (roots_of BUCKET_ROOTS ROW_BUCKETS pools.rows.left) → ⊥
+        sort (inl one) = two (in_append (roots_of MASK_ROOTS 1 pools.masks.left) (roots_of ACTION_ROOTS 1 pools.actions.left) r one)
+        sort (inr one) = let f = in_roots BUCKET_ROOTS ROW_BUCKETS pools.rows.left r one in of_row f.0 f.2 f.1 f.3 f.4
 
     block_apart : (block : ℕ) → IsIn block blocks → IsInPool block pools.blocks → ⊥
     block_apart block at (inl in_) = let x = own_root block at in unnamed_end h b block low (p.blocks.may_be_given in_.0 block in_.1) x.0 x.2
@@ -176,14 +177,14 @@ module _ (masks : Masks) (slot : ℕ) (kept : KeptMask) (stands : StandsAt masks
 
     -- once slot and rows have left, its roots are gone
     own_gone : (later : Pools) → IsIn slot later.masks.left → ((row : ℕ) → IsIn row kept.mask.rows → IsIn row later.rows.left) → (r : ℕ) → Own r → IsIn r (gone_roots later)
-    own_gone later slot_in rows_in r (inl e) = in_left (roots_of 3 1 later.masks.left ++ roots_of 8195 1 later.actions.left) (roots_of 10243 16 later.rows.left) r
-        (in_left (roots_of 3 1 later.masks.left) (roots_of 8195 1 later.actions.left) r
-        (subst (λ (n : ℕ). IsIn n (roots_of 3 1 later.masks.left)) (omega (arith, e)) (roots_have 3 1 later.masks.left slot 0 slot_in (omega arith))))
+    own_gone later slot_in rows_in r (inl e) = in_left (roots_of MASK_ROOTS 1 later.masks.left ++ roots_of ACTION_ROOTS 1 later.actions.left) (roots_of BUCKET_ROOTS ROW_BUCKETS later.rows.left) r
+        (in_left (roots_of MASK_ROOTS 1 later.masks.left) (roots_of ACTION_ROOTS 1 later.actions.left) r
+        (subst (λ (n : ℕ). IsIn n (roots_of MASK_ROOTS 1 later.masks.left)) (omega (arith, e)) (roots_have MASK_ROOTS 1 later.masks.left slot 0 slot_in (omega arith))))
     own_gone later slot_in rows_in r (inr k) = let e = k.2 in let count = rows_count in let inside = k.1 in
         let row : ℕ = get_or kept.mask.rows (k.0 / 16) 0 in
         let there : IsIn row kept.mask.rows = (k.0 / 16, slice_get-get_or kept.mask.rows (k.0 / 16) 0 (omega (arith, count, inside))) in
-        in_right (roots_of 3 1 later.masks.left ++ roots_of 8195 1 later.actions.left) (roots_of 10243 16 later.rows.left) r
-        (subst (λ (n : ℕ). IsIn n (roots_of 10243 16 later.rows.left)) (omega (arith, e)) (roots_have 10243 16 later.rows.left row (k.0 % 16) (rows_in row there) (omega arith)))
+        in_right (roots_of MASK_ROOTS 1 later.masks.left ++ roots_of ACTION_ROOTS 1 later.actions.left) (roots_of BUCKET_ROOTS ROW_BUCKETS later.rows.left) r
+        (subst (λ (n : ℕ). IsIn n (roots_of BUCKET_ROOTS ROW_BUCKETS later.rows.left)) (omega (arith, e)) (roots_have BUCKET_ROOTS ROW_BUCKETS later.rows.left row (k.0 % 16) (rows_in row there) (omega arith)))
 
     pub all_leave : MayAllLeave pools h slot kept.mask.rows blocks
     all_leave = record {
@@ -191,7 +192,7 @@ module _ (masks : Masks) (slot : ℕ) (kept : KeptMask) (stands : StandsAt masks
       slot_left = slot_left;
       rows_leave = record {
         different = distinct_of kept.mask.rows rows_different;
-        small = λ number at. subst (λ (n : ℕ). n < 8192) (get_or_from_slice_get kept.mask.rows at.0 number 0 at.1)
+        small = λ number at. subst (λ (n : ℕ). n < ROWS) (get_or_from_slice_get kept.mask.rows at.0 number 0 at.1)
             ((mask_storable masks shape cells (root_of h) holds.named slot kept stands).each_row at.0 0 (slice_get_within kept.mask.rows at.0 number at.1));
         left = λ row at j less. let x = bucket_of_row at.0 j row less at.1 in subst (IsEmptyRoot hook_meaning hook_codec h) x.1 (gone.at_rows kept (16 * at.0 + j) stands x.0);
         apart = rows_apart;

@@ -3,6 +3,7 @@ use Rattle.std.proofs.Common.{◌≡◌, ◌∙◌, ◌⊎◌, inl, inr, ℕ, ze
 use Rattle.std.proofs.lemmas.Option.{same_Some}
 use Rattle.store_history.specs.declared.history.Link.{Link}
 use Rattle.store_history.specs.declared.history.Named.{Named}
+use Rattle.store_history.specs.declared.places.TheConstants.{MASK_ROOTS, POOL_BLOCKS}
 use Rattle.pin_store.specs.declared.shape.Shape.{Shape}
 use Rattle.pin_store.specs.Layout.{block_words}
 use Rattle.block_codec.specs.Filters.{IsFilterBlock}
@@ -16,17 +17,17 @@ use Rattle.mask_writer.specs.Masks.{Masks}
 use Rattle.mask_writer.specs.Standing.{AreFiled, first_in, NamesChain, AreNamed, StandsAt, chain_at}
 use Rattle.mask_writer.proofs.Standing.{chain_named}
 
-filed_below : (shape : Shape) (cells : List ℕ) (size bucket : ℕ) (ps : List Placed) → AreFiled shape cells size bucket ps → (place b : ℕ) → slice_get (map (λ (p : Placed). p.block) ps) place ≡ Some b → b < 16384
+filed_below : (shape : Shape) (cells : List ℕ) (size bucket : ℕ) (ps : List Placed) → AreFiled shape cells size bucket ps → (place b : ℕ) → slice_get (map (λ (p : Placed). p.block) ps) place ≡ Some b → b < POOL_BLOCKS
 filed_below shape cells size bucket [] are place b e = absurd (cc e)
-filed_below shape cells size bucket (p ∷ ps) are zero b e = subst (λ (n : ℕ). n < 16384) (same_Some p.block b e) are.0.pool
+filed_below shape cells size bucket (p ∷ ps) are zero b e = subst (λ (n : ℕ). n < POOL_BLOCKS) (same_Some p.block b e) are.0.pool
 filed_below shape cells size bucket (p ∷ ps) are (suc place) b e = filed_below shape cells size bucket ps are.1 place b e
 
 -- the blocks of the pool have the same words
 abbrev pub SamePool : Shape → List ℕ → List ℕ → Type 0
-SamePool shape cells other = (block : ℕ) → block < 16384 → block_words shape other block ≡ block_words shape cells block
+SamePool shape cells other = (block : ℕ) → block < POOL_BLOCKS → block_words shape other block ≡ block_words shape cells block
 
 module _ (writer : Masks) (shape : Shape) (cells other : List ℕ) (roots later : ℕ → Named) (named : AreNamed writer shape cells roots) (pool : SamePool shape cells other)
-    (same : (r : ℕ) → 3 ≤ r → (later r).chain ≡ (roots r).chain) where
+    (same : (r : ℕ) → MASK_ROOTS ≤ r → (later r).chain ≡ (roots r).chain) where
   filed_on : (size bucket : ℕ) (ps : List Placed) → AreFiled shape cells size bucket ps → AreFiled shape other size bucket ps
   filed_on size bucket [] are = tt
   filed_on size bucket (p ∷ ps) are = (
@@ -34,9 +35,9 @@ module _ (writer : Masks) (shape : Shape) (cells other : List ℕ) (roots later 
     filed_on size bucket ps are.1,
   )
 
-  filed_low : (size bucket : ℕ) (ps : List Placed) → AreFiled shape cells size bucket ps → (place b : ℕ) → slice_get (map (λ (p : Placed). p.block) ps) place ≡ Some b → b < 16384
+  filed_low : (size bucket : ℕ) (ps : List Placed) → AreFiled shape cells size bucket ps → (place b : ℕ) → slice_get (map (λ (p : Placed). p.block) ps) place ≡ Some b → b < POOL_BLOCKS
   filed_low size bucket [] are place b e = absurd (cc e)
-  filed_low size bucket (p ∷ ps) are zero b e = subst (λ (n : ℕ). n < 16384) (same_Some p.block b e) are.0.pool
+  filed_low size bucket (p ∷ ps) are zero b e = subst (λ (n : ℕ). n < POOL_BLOCKS) (same_Some p.block b e) are.0.pool
   filed_low size bucket (p ∷ ps) are (suc place) b e = filed_low size bucket ps are.1 place b e
 
   mask_on : (slot : ℕ) (kept : KeptMask) → KeepsMask shape cells roots slot kept → KeepsMask shape other later slot kept
@@ -47,17 +48,17 @@ module _ (writer : Masks) (shape : Shape) (cells other : List ℕ) (roots later 
     there = subst (λ (ws : List ℕ). IsMaskBlock ws (kept.mask, None)) (sym (pool kept.block k.low)) k.there;
   }
     where
-      only : (place b : ℕ) → slice_get {X = ℕ} (kept.block ∷ []) place ≡ Some b → b < 16384
-      only zero b e = subst (λ (n : ℕ). n < 16384) (same_Some kept.block b e) k.low
+      only : (place b : ℕ) → slice_get {X = ℕ} (kept.block ∷ []) place ≡ Some b → b < POOL_BLOCKS
+      only zero b e = subst (λ (n : ℕ). n < POOL_BLOCKS) (same_Some kept.block b e) k.low
       only (suc place) b e = absurd (cc e)
 
-  chain_on : (root size bucket : ℕ) (ps : List Placed) → 3 ≤ root → NamesChain shape cells roots root size bucket ps → NamesChain shape other later root size bucket ps
+  chain_on : (root size bucket : ℕ) (ps : List Placed) → MASK_ROOTS ≤ root → NamesChain shape cells roots root size bucket ps → NamesChain shape other later root size bucket ps
   chain_on root size bucket ps high n = record {
     named = same root high ∙ (n.named ∙ sym (links_same shape cells other (map (λ (p : Placed). p.block) ps) (λ place b e. pool b (filed_low size bucket ps n.filed place b e))));
     filed = filed_on size bucket ps n.filed;
   }
 
-  names_back : (root b : ℕ) → 3 ≤ root → Names later root b → Names roots root b
+  names_back : (root b : ℕ) → MASK_ROOTS ≤ root → Names later root b → Names roots root b
   names_back root b high n = (n.0, n.1, sym (ap (λ (ls : List Link). slice_get ls n.0) (same root high)) ∙ n.2, n.3)
 
   pub named_on : AreNamed writer shape other later
@@ -71,14 +72,14 @@ module _ (writer : Masks) (shape : Shape) (cells other : List ℕ) (roots later 
 
 -- a block that a root of a held mask has is of the pool
 pub pool_block : (writer : Masks) (shape : Shape) (cells : List ℕ) (roots : ℕ → Named) → AreNamed writer shape cells roots → (slot : ℕ) (kept : KeptMask) → StandsAt writer slot kept → (r : ℕ)
-    → (r ≡ mask_root slot) ⊎ ((k : ℕ) × (k < kept.mask.size) × (r ≡ bucket_root kept.mask k)) → (block : ℕ) → (place : ℕ) × (l : Link) × (slice_get (roots r).chain place ≡ Some l) × (l.block ≡ block) → block < 16384
+    → (r ≡ mask_root slot) ⊎ ((k : ℕ) × (k < kept.mask.size) × (r ≡ bucket_root kept.mask k)) → (block : ℕ) → (place : ℕ) × (l : Link) × (slice_get (roots r).chain place ≡ Some l) × (l.block ≡ block) → block < POOL_BLOCKS
 pool_block writer shape cells roots named slot kept stands r (inl is) block x = let m = named.masks slot kept stands in
     only x.0 (block_there shape cells (kept.block ∷ []) x.0 x.1 (sym (ap (λ (ls : List Link). slice_get ls x.0) (ap (λ (n : ℕ). (roots n).chain) is ∙ m.named)) ∙ x.2))
   where
-    only : (place : ℕ) → slice_get {X = ℕ} (kept.block ∷ []) place ≡ Some x.1.block → block < 16384
+    only : (place : ℕ) → slice_get {X = ℕ} (kept.block ∷ []) place ≡ Some x.1.block → block < POOL_BLOCKS
     only zero e = let low = (named.masks slot kept stands).low in let same = same_Some kept.block x.1.block e in let at = x.3 in omega (arith, low, same, at)
     only (suc place) e = absurd (cc e)
 pool_block writer shape cells roots named slot kept stands r (inr k) block x =
     let n = chain_named writer shape cells roots named slot kept stands k.0 k.1 in
     let at = block_there shape cells (map (λ (p : Placed). p.block) (chain_at writer slot k.0)) x.0 x.1 (sym (ap (λ (ls : List Link). slice_get ls x.0) (ap (λ (m : ℕ). (roots m).chain) k.2 ∙ n.named)) ∙ x.2) in
-    subst (λ (m : ℕ). m < 16384) x.3 (filed_below shape cells kept.mask.size k.0 (chain_at writer slot k.0) n.filed x.0 x.1.block at)
+    subst (λ (m : ℕ). m < POOL_BLOCKS) x.3 (filed_below shape cells kept.mask.size k.0 (chain_at writer slot k.0) n.filed x.0 x.1.block at)

@@ -11,13 +11,14 @@ use Rattle.store_history.specs.declared.history.Commit.{Commit}
 use Rattle.store_history.specs.declared.history.Named.{Named}
 use Rattle.store_history.specs.History.{root_of, edits_of}
 use Rattle.store_history.proofs.Histories.{root_other}
+use Rattle.store_history.specs.declared.places.TheConstants.{MASK_ROOTS}
 use Rattle.pin_store.specs.declared.shape.Shape.{Shape}
 use Rattle.filter_state.specs.declared.edit.Edit.{Edit}
 use Rattle.filter_state.specs.States.{State}
 use Rattle.block_codec.specs.declared.filter.StoredFilter.{StoredFilter}
 use Rattle.block_codec.specs.declared.mask.StoredMask.{StoredMask}
 use Rattle.block_codec.specs.declared.table.StoredTable.{StoredTable}
-use Rattle.hook_meaning.specs.OfEffects.Parts.{Stands}
+use Rattle.hook_store_law.specs.OfEffects.Parts.{Stands}
 use Rattle.mask_table.specs.Buckets.{bucket_root}
 use Rattle.mask_table.specs.declared.mirrors.mirror.KeptMask.{KeptMask}
 use Rattle.mask_writer.specs.Masks.{Masks}
@@ -31,9 +32,9 @@ use Rattle.hook_law.specs.Meaning.{point_of}
 use Rattle.hook_law.specs.Keeping.{Keeps}
 use Rattle.hook_law.specs.Standing.{Mask, Bucket, region_of, IsMaskAt}
 use Rattle.hook_law.proofs.Standing.{present_end, unused_end}
-use Rattle.hook_meaning.specs.Stated.{TableNames, hook_meaning, tables_at, filters_at}
-use Rattle.hook_meaning.specs.Blocks.{mask_record, hook_codec}
-use Rattle.hook_meaning.specs.Told.{with_slots}
+use Rattle.hook_store_law.specs.Stated.{TableNames, hook_meaning, tables_at, filters_at}
+use Rattle.hook_store_law.specs.Blocks.{mask_record, hook_codec}
+use Rattle.hook_store_law.specs.Told.{with_slots}
 use Rattle.hook_store_law.specs.Kept.{KeepsHook}
 use Rattle.hook_store_law.specs.OfEdits.Premises.{now, next}
 use Rattle.hook_store_law.proofs.OfEdits.Accepted.{sound}
@@ -161,7 +162,7 @@ module _ (h : List (Commit Edit)) (b : ℕ) (y : Edit) (hook : Hook) (slot : ℕ
       named2 = named_on masks2 shape cells1 cells2 (root_of h1) (root_of h2) named pool
           (λ r high. ap (λ (n : Named). n.chain) (root_other h1 c r (λ same. low_root hook r same high)))
         where
-          low_root : (k : Hook) (r : ℕ) → 1 + hook_number k ≡ r → 3 ≤ r → ⊥
+          low_root : (k : Hook) (r : ℕ) → 1 + hook_number k ≡ r → MASK_ROOTS ≤ r → ⊥
           low_root k r same high = let one = one_hook k in absurd (omega (arith, same, high, one))
 
       other_slot : (s : ℕ) → s ≢ slot → get_or (masks_of masks2) s None ≡ get_or (masks_of masks) s None

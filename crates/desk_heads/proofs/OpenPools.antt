@@ -4,6 +4,7 @@ use Rattle.std.proofs.lemmas.Option.{slice_get-get_or}
 use Rattle.tc_base.specs.declared.hook.Hook.{Hook}
 use Rattle.visit_room.specs.declared.names.MaskName.{MaskName}
 use Rattle.store_history.specs.declared.history.Commit.{Commit}
+use Rattle.store_history.specs.declared.places.TheConstants.{MASK_SLOTS, ACTION_SLOTS}
 use Rattle.pin_store.specs.Calls.{IsUnnamed}
 use Rattle.filter_state.specs.declared.edit.Edit.{Edit}
 use Rattle.filter_state.specs.States.{State}
@@ -19,8 +20,8 @@ use Rattle.hook_law.specs.Standing.{Role, Mask, Action, region_of, IsSlotOf, Sta
 use Rattle.hook_law.specs.Numbered.{IsPutAction}
 use Rattle.hook_law.specs.Coming.{IsBucketOf, IsMade, IsOfPrepared}
 use Rattle.hook_law.proofs.Standing.{present_end, unused_end, slot_longer}
-use Rattle.hook_meaning.specs.Stated.{hook_meaning}
-use Rattle.hook_meaning.specs.Blocks.{hook_codec}
+use Rattle.hook_store_law.specs.Stated.{hook_meaning}
+use Rattle.hook_store_law.specs.Blocks.{hook_codec}
 use Rattle.hook_store_law.specs.Kept.{KeepsHook}
 use Rattle.hook_store_law.specs.OfEdits.Premises.{now, next}
 use Rattle.desk_heads.specs.OfHeadCommits.Raised.{stored_next, IsReady}
@@ -70,11 +71,11 @@ module _ (h : List (Commit Edit)) (b : ℕ) (y : Edit) (hook : Hook) (slot : ℕ
       p1 : ArePools pools h1 b
       p1 = raise_pools h b y slot mask given (blk h b y hook slot mask filter given keeps o) keeps o.ready o.can are record_block pools p handed.blocks_apart
 
-      small_mask : (s : ℕ) → IsInPool s pools.masks → s < 8192
+      small_mask : (s : ℕ) → IsInPool s pools.masks → s < MASK_SLOTS
       small_mask s (inl i) = let k = in_left pools.masks.free pools.masks.left s i in p.masks.small k.0 s k.1
       small_mask s (inr i) = let k = in_right pools.masks.free pools.masks.left s i in p.masks.small k.0 s k.1
 
-      small_action : (s : ℕ) → IsInPool s pools.actions → s < 2048
+      small_action : (s : ℕ) → IsInPool s pools.actions → s < ACTION_SLOTS
       small_action s (inl i) = let k = in_left pools.actions.free pools.actions.left s i in p.actions.small k.0 s k.1
       small_action s (inr i) = let k = in_right pools.actions.free pools.actions.left s i in p.actions.small k.0 s k.1
 

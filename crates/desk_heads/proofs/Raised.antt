@@ -3,6 +3,7 @@ use Rattle.std.proofs.Common.{◌≡◌, ◌≢◌, ◌∙◌, ◌⊎◌, inl, i
 use Rattle.std.proofs.lemmas.Option.{slice_get_within, same_Some}
 use Rattle.store_history.specs.declared.history.Commit.{Commit}
 use Rattle.store_history.specs.declared.history.Link.{Link}
+use Rattle.store_history.specs.declared.places.TheConstants.{POOL_BLOCKS}
 use Rattle.pin_store.specs.Calls.{IsUnnamed}
 use Rattle.filter_state.specs.declared.edit.Edit.{Edit}
 use Rattle.block_codec.specs.declared.filter.StoredFilter.{StoredFilter}
@@ -67,5 +68,5 @@ module _ (h : List (Commit Edit)) (b : ℕ) (y : Edit) (slot : ℕ) (mask : Stor
       (λ j place c l at there same. away (subst (λ (n : ℕ). IsIn n given) same (given_at j l (at_place j place c l at there)))) free
 
   -- so is one outside the pool
-  pub raise_outside : (block : ℕ) → 16384 ≤ block → IsUnnamed b h block → IsUnnamed b (h ++ cs) block
+  pub raise_outside : (block : ℕ) → POOL_BLOCKS ≤ block → IsUnnamed b h block → IsUnnamed b (h ++ cs) block
   raise_outside block high free = raise_unnamed block (λ at. let small = are.pool at.0 block at.1 in absurd (omega (arith, small, high))) free

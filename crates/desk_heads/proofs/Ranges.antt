@@ -14,7 +14,7 @@ use Rattle.walk_rules.specs.Heads.{head_with, in_front, with_row, heads_in, head
 use Rattle.walk_rules.proofs.KeptHeads.{rows_on, on_have}
 use Rattle.miniq_pair.specs.Heads.{hook_number}
 use Rattle.hook_law.specs.Records.{StatedTable}
-use Rattle.hook_meaning.specs.Stated.{TableNames, table_stated, tables_at}
+use Rattle.hook_store_law.specs.Stated.{TableNames, table_stated, tables_at}
 use Rattle.desk_masks.proofs.OfMaskResizes.Resizing.{mapped_at}
 use Rattle.desk_heads.proofs.OfHeadCommits.Places.{get_item, of_hook}
 

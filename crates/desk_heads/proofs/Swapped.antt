@@ -13,13 +13,13 @@ use Rattle.store_history.proofs.Histories.{root_own, root_other}
 use Rattle.pin_store.specs.Calls.{IsUnnamed}
 use Rattle.filter_state.specs.declared.edit.Edit.{Edit}
 use Rattle.block_codec.specs.declared.table.StoredTable.{StoredTable}
-use Rattle.block_codec.specs.declared.places.TheConstants.{POOL_BLOCKS}
+use Rattle.store_history.specs.declared.places.TheConstants.{POOL_BLOCKS, MASK_SLOTS, ACTION_SLOTS, ROWS, ROW_BUCKETS, MASK_ROOTS, ACTION_ROOTS, BUCKET_ROOTS}
 use Rattle.miniq_pair.specs.Heads.{head_root}
 use Rattle.miniq_pair.specs.Pairs.{first_block_of, table_links, swap_commit}
 use Rattle.hook_law.specs.Places.{mask_root, action_root, bucket_root}
 use Rattle.hook_law.specs.Standing.{IsIn}
-use Rattle.hook_meaning.specs.Stated.{hook_meaning}
-use Rattle.hook_meaning.specs.Blocks.{hook_codec}
+use Rattle.hook_store_law.specs.Stated.{hook_meaning}
+use Rattle.hook_store_law.specs.Blocks.{hook_codec}
 use Rattle.root_pool_laws.specs.Blocks.{IsBlockOf, HasBlock, IsLeft, Spends}
 use Rattle.root_pool_laws.specs.Pools.{IsPool}
 use Rattle.root_pool_laws.proofs.Apart.{in_left, in_right}
@@ -57,7 +57,7 @@ hooks_apart Egress Ingress block x z = let a = x.above in let b = z.below in abs
 pub in_place : (hook : Hook) (place at : ℕ) → place ≤ 1 → at < 256 → IsHeadBlock hook (first_block_of hook place + at)
 in_place hook place at within less = let is = first_is hook place in record { above = omega (arith, is); below = omega (arith, is, within, less) }
 
-pub above_pool : (hook : Hook) (block : ℕ) → IsHeadBlock hook block → 16384 ≤ block
+pub above_pool : (hook : Hook) (block : ℕ) → IsHeadBlock hook block → POOL_BLOCKS ≤ block
 above_pool Ingress block x = let a = x.above in omega (arith, a)
 above_pool Egress block x = let a = x.above in omega (arith, a)
 
@@ -82,7 +82,7 @@ module _ (pools : Pools) (h : List (Commit Edit)) (b : ℕ) (hook : Hook) (place
   given_head : (block : ℕ) → IsIn block given → IsHeadBlock hook block
   given_head block i = let g = given_at block i in subst (IsHeadBlock hook) (sym g.2) (in_place hook place g.0 within g.1)
 
-  not_pool : (block : ℕ) → block < 16384 → IsIn block given → ⊥
+  not_pool : (block : ℕ) → block < POOL_BLOCKS → IsIn block given → ⊥
   not_pool block small i = let high = above_pool hook block (given_head block i) in absurd (omega (arith, small, high))
 
   given_free : (block : ℕ) → IsIn block given → IsUnnamed b h block
@@ -92,12 +92,12 @@ module _ (pools : Pools) (h : List (Commit Edit)) (b : ℕ) (hook : Hook) (place
   chain_given block i = (i.0, map_at (λ (m : Link). m.block) c.named.chain i.0 i.1 i.2 ∙ ap Some i.3)
 
   -- ---- the pools
-  small_in : (x : ℕ) → IsInPool x pools.blocks → x < 16384
+  small_in : (x : ℕ) → IsInPool x pools.blocks → x < POOL_BLOCKS
   small_in x (inl i) = let k = in_left pools.blocks.free pools.blocks.left x i in p.blocks.small k.0 x k.1
   small_in x (inr i) = let k = in_right pools.blocks.free pools.blocks.left x i in p.blocks.small k.0 x k.1
 
-  blocks_on : IsPool 16384 (IsUnnamed b (h ++ c ∷ [])) (IsLeft (gone_roots pools) (h ++ c ∷ [])) pools.blocks.free pools.blocks.left
-  blocks_on = pool_as 16384 (IsUnnamed b h) (IsUnnamed b (h ++ c ∷ [])) (IsLeft (gone_roots pools) h) (IsLeft (gone_roots pools) (h ++ c ∷ [])) pools.blocks.free pools.blocks.left
+  blocks_on : IsPool POOL_BLOCKS (IsUnnamed b (h ++ c ∷ [])) (IsLeft (gone_roots pools) (h ++ c ∷ [])) pools.blocks.free pools.blocks.left
+  blocks_on = pool_as POOL_BLOCKS (IsUnnamed b h) (IsUnnamed b (h ++ c ∷ [])) (IsLeft (gone_roots pools) h) (IsLeft (gone_roots pools) (h ++ c ∷ [])) pools.blocks.free pools.blocks.left
       (λ x at f. free_stays h c given spends b low x (not_pool x (small_in x (inl at))) f)
       (λ x at l. left_stays h c given spends (gone_roots pools) (gone_roots pools) (λ r i. i) x (not_pool x (small_in x (inr at))) l) p.blocks
 
@@ -174,17 +174,17 @@ module _ (pools : Pools) (h : List (Commit Edit)) (b : ℕ) (hook : Hook) (place
       by Egress = refl
 
   abbrev Rest : Pools → Type 0
-  Rest q = IsPool 16384 (IsUnnamed b (h ++ c ∷ [])) (IsLeft (gone_roots q) (h ++ c ∷ [])) q.blocks.free q.blocks.left
-      × IsPool 8192 (IsFreeAt (h ++ c ∷ []) b 10243 16) (IsLeftAt (h ++ c ∷ []) 10243 16) q.rows.free q.rows.left
-      × IsPool 8192 (IsFreeAt (h ++ c ∷ []) b 3 1) (IsLeftAt (h ++ c ∷ []) 3 1) q.masks.free q.masks.left
-      × IsPool 2048 (IsFreeAt (h ++ c ∷ []) b 8195 1) (IsLeftAt (h ++ c ∷ []) 8195 1) q.actions.free q.actions.left
+  Rest q = IsPool POOL_BLOCKS (IsUnnamed b (h ++ c ∷ [])) (IsLeft (gone_roots q) (h ++ c ∷ [])) q.blocks.free q.blocks.left
+      × IsPool ROWS (IsFreeAt (h ++ c ∷ []) b BUCKET_ROOTS ROW_BUCKETS) (IsLeftAt (h ++ c ∷ []) BUCKET_ROOTS ROW_BUCKETS) q.rows.free q.rows.left
+      × IsPool MASK_SLOTS (IsFreeAt (h ++ c ∷ []) b MASK_ROOTS 1) (IsLeftAt (h ++ c ∷ []) MASK_ROOTS 1) q.masks.free q.masks.left
+      × IsPool ACTION_SLOTS (IsFreeAt (h ++ c ∷ []) b ACTION_ROOTS 1) (IsLeftAt (h ++ c ∷ []) ACTION_ROOTS 1) q.actions.free q.actions.left
 
   rest_on : Rest pools
   rest_on = (
     blocks_on,
-    pool_on 8192 10243 16 pools.rows (λ row j i less. rows row j i less) p.rows,
-    pool_on 8192 3 1 pools.masks (λ slot j i less. subst (NothingComes h c) (single 3 slot j less) (masks slot i)) p.masks,
-    pool_on 2048 8195 1 pools.actions (λ slot j i less. subst (NothingComes h c) (single 8195 slot j less) (actions slot i)) p.actions,
+    pool_on ROWS BUCKET_ROOTS ROW_BUCKETS pools.rows (λ row j i less. rows row j i less) p.rows,
+    pool_on MASK_SLOTS MASK_ROOTS 1 pools.masks (λ slot j i less. subst (NothingComes h c) (single MASK_ROOTS slot j less) (masks slot i)) p.masks,
+    pool_on ACTION_SLOTS ACTION_ROOTS 1 pools.actions (λ slot j i less. subst (NothingComes h c) (single ACTION_ROOTS slot j less) (actions slot i)) p.actions,
   )
 
   rest_turned : Rest (turned hook pools)

@@ -13,6 +13,7 @@ use Rattle.visit_room.specs.declared.names.MaskName.{MaskName}
 use Rattle.store_history.specs.declared.history.Commit.{Commit}
 use Rattle.store_history.specs.declared.history.Link.{Link}
 use Rattle.store_history.specs.History.{root_of}
+use Rattle.store_history.specs.declared.places.TheConstants.{MASK_SLOTS}
 use Rattle.filter_state.specs.declared.edit.Edit.{Edit}
 use Rattle.filter_state.specs.Lines.{IsProtocol}
 use Rattle.filter_state.specs.States.{State}
@@ -35,9 +36,9 @@ use Rattle.hook_law.specs.Records.{StatedTable}
 use Rattle.hook_law.specs.Standing.{Names, IsMaskAt}
 use Rattle.hook_law.specs.Keeping.{Present}
 use Rattle.hook_law.proofs.Standing.{present_end}
-use Rattle.hook_meaning.specs.Stated.{TableNames, hook_meaning, table_stated, tables_at}
-use Rattle.hook_meaning.specs.Blocks.{hook_codec}
-use Rattle.hook_meaning.proofs.Counting.{few_heads}
+use Rattle.hook_store_law.specs.Stated.{TableNames, hook_meaning, table_stated, tables_at}
+use Rattle.hook_store_law.specs.Blocks.{hook_codec}
+use Rattle.hook_store_law.proofs.Counting.{few_heads}
 use Rattle.hook_store_law.specs.Kept.{KeepsHook}
 use Rattle.hook_store_law.specs.OfEdits.Premises.{now, next}
 use Rattle.hook_store_law.proofs.OfEdits.Accepted.{next_sound}
@@ -108,9 +109,9 @@ module _ (h : List (Commit Edit)) (b : ℕ) (y : Edit) (hook : Hook) (built : Li
   old_named : (m slot : ℕ) → Names hook_codec (root_of h (head_root (hook_number hook))).chain m slot → IsNamedIn kept.tables m slot
   old_named m slot n = names_in (first_block_of hook kept.pair.active) kept.tables m slot old.fit small (subst (λ (ls : List Link). Names hook_codec ls m slot) old.chain n)
 
-  old_slot : (m slot : ℕ) → IsNamedIn kept.tables m slot → slot < 8192
+  old_slot : (m slot : ℕ) → IsNamedIn kept.tables m slot → slot < MASK_SLOTS
   old_slot m slot n = let fit = at_place FitsTable kept.tables n.place n.table old.fit n.there in
-      subst (λ (k : ℕ). k < 8192) n.slot_is (at_place IsMaskName n.table.masks n.among n.name fit.storable.masks n.has).slot
+      subst (λ (k : ℕ). k < MASK_SLOTS) n.slot_is (at_place IsMaskName n.table.masks n.among n.name fit.storable.masks n.has).slot
 
   pub old_at : (m slot : ℕ) → IsNamedIn kept.tables m slot → IsMaskAt hook_codec h m slot
   old_at m slot n = record {
@@ -148,7 +149,7 @@ module _ (h : List (Commit Edit)) (b : ℕ) (y : Edit) (hook : Hook) (built : Li
     named_slot m slot n = let at = at_place (λ (t : StoredTable). AreInSlots kept.tables built t.masks) tables n.place n.table slots n.there n.among n.name n.has in
         subst (λ (k : ℕ). HasSlotIn kept.tables built k slot) n.serial_is (subst (λ (k : ℕ). HasSlotIn kept.tables built n.name.serial k) n.slot_is at)
 
-    slot_low : (m slot : ℕ) → HasSlotIn kept.tables built m slot → slot < 8192
+    slot_low : (m slot : ℕ) → HasSlotIn kept.tables built m slot → slot < MASK_SLOTS
     slot_low m slot (inl x) = g.small m slot x
     slot_low m slot (inr x) = old_slot m slot x.0
 

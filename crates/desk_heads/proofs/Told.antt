@@ -19,8 +19,8 @@ use Rattle.row_laws.proofs.OfLookups.Masks.{masks_counted}
 use Rattle.block_codec.specs.declared.table.StoredTable.{StoredTable}
 use Rattle.head_laws.specs.Heads.{head_of, serials_of}
 use Rattle.hook_law.specs.Records.{Slotted, StatedTable}
-use Rattle.hook_meaning.specs.Blocks.{mask_slotted}
-use Rattle.hook_meaning.specs.Stated.{TableNames, table_stated}
+use Rattle.hook_store_law.specs.Blocks.{mask_slotted}
+use Rattle.hook_store_law.specs.Stated.{TableNames, table_stated}
 use Rattle.desk_masks.specs.OfHeadChains.Chains.{stated_of, IsNamedIn}
 use Rattle.desk_heads.specs.OfHeadCommits.Built.{IsBuilt}
 use Rattle.desk_heads.specs.OfHeadCommits.Listed.{HasSerial}

@@ -6,15 +6,15 @@ use Rattle.store_history.specs.declared.history.Commit.{Commit}
 use Rattle.store_history.specs.History.{root_of}
 use Rattle.pin_store.specs.declared.shape.Shape.{Shape}
 use Rattle.filter_state.specs.declared.edit.Edit.{Edit}
-use Rattle.hook_meaning.specs.OfEffects.Parts.{Stands}
+use Rattle.hook_store_law.specs.OfEffects.Parts.{Stands}
 use Rattle.mask_table.specs.Buckets.{mask_root, bucket_root}
 use Rattle.mask_table.specs.declared.mirrors.mirror.KeptMask.{KeptMask}
 use Rattle.mask_writer.specs.Masks.{Masks}
 use Rattle.mask_writer.specs.Standing.{StandsAt, AreNamed}
 use Rattle.hook_law.specs.Standing.{IsMaskAt}
 use Rattle.hook_law.specs.Keeping.{IsAtRest}
-use Rattle.hook_meaning.specs.Stated.{hook_meaning}
-use Rattle.hook_meaning.specs.Blocks.{hook_codec}
+use Rattle.hook_store_law.specs.Stated.{hook_meaning}
+use Rattle.hook_store_law.specs.Blocks.{hook_codec}
 use Rattle.hook_store_law.specs.OfEdits.Premises.{now, next, LeavesOtherHook}
 use Rattle.root_pool_laws.specs.Pools.{IsEmptyRoot}
 use Rattle.desk_heads.specs.OfHeadCommits.Raised.{IsReady}

@@ -1,15 +1,15 @@
 -- An edit that goes to a head, once the masks that it makes are built (this project's own). `h` is all
 -- commits before the head's, b is the base, and y is the edit.
 use Rattle.std.specs.Prelude.{ℕ, ◌<◌, List}
-use Rattle.block_codec.specs.declared.places.TheConstants.{MASK_SLOTS}
+use Rattle.store_history.specs.declared.places.TheConstants.{MASK_SLOTS}
 use Rattle.tc_base.specs.declared.hook.Hook.{Hook}
 use Rattle.visit_room.specs.declared.names.MaskName.{MaskName}
 use Rattle.store_history.specs.declared.history.Commit.{Commit}
 use Rattle.filter_state.specs.declared.edit.Edit.{Edit}
 use Rattle.miniq_pair.specs.Heads.{hook_number}
 use Rattle.hook_law.specs.Keeping.{IsAtRest}
-use Rattle.hook_meaning.specs.Stated.{hook_meaning, tables_at}
-use Rattle.hook_meaning.specs.Blocks.{hook_codec}
+use Rattle.hook_store_law.specs.Stated.{hook_meaning, tables_at}
+use Rattle.hook_store_law.specs.Blocks.{hook_codec}
 use Rattle.hook_store_law.specs.OfEdits.Premises.{now, next, LeavesOtherHook}
 use Rattle.desk_heads.specs.OfHeadCommits.Listed.{HasSerial}
 use Rattle.desk_heads.specs.OfHeadCommits.Raised.{IsReady}

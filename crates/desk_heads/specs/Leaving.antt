@@ -2,8 +2,8 @@
 use Rattle.std.specs.Prelude.{◌≡◌, ℕ, ◌<◌, List}
 use Rattle.store_history.specs.declared.history.Commit.{Commit}
 use Rattle.filter_state.specs.declared.edit.Edit.{Edit}
-use Rattle.block_codec.specs.declared.places.TheConstants.{MASK_SLOTS, MASK_ROOTS, ROWS, ROW_BUCKETS}
-use Rattle.block_codec.specs.declared.places.TheConstants.{BUCKET_ROOTS, POOL_BLOCKS}
+use Rattle.store_history.specs.declared.places.TheConstants.{MASK_SLOTS, MASK_ROOTS, ROWS, ROW_BUCKETS}
+use Rattle.store_history.specs.declared.places.TheConstants.{BUCKET_ROOTS, POOL_BLOCKS}
 use Rattle.hook_law.specs.Standing.{IsIn}
 use Rattle.root_pool_laws.specs.Blocks.{IsLeft}
 use Rattle.desk_pools.specs.declared.pools.Pools.{Pools}

@@ -9,7 +9,7 @@ ghost use Rattle.filter_tables.specs.SeenMask.{plain_mask};
 ghost use Rattle.filter_tables.specs.Rows.{tables_on};
 ghost use Rattle.hook_lists.specs.States.{both_of, AreKept};
 ghost use Rattle.head_laws.specs.Heads.{head_of, serials_of};
-ghost use Rattle.hook_meaning.specs.Stated.{table_stated};
+ghost use Rattle.hook_store_law.specs.Stated.{table_stated};
 ghost use Rattle.desk_masks.specs.OfHeadChains.Chains.{stated_of};
 ghost use Rattle.desk_heads.specs.OfHeadCommits.Listed.{HasSerial};
 ghost use Rattle.desk_heads.specs.Slots.{HasSlotIn, AreInSlots, FitsNumbers};

@@ -15,6 +15,7 @@ use Rattle.filter_state.specs.Sound.{Sound}
 use Rattle.mask_table.specs.declared.mirrors.mirror.KeptMask.{KeptMask}
 use Rattle.mask_table.specs.OfMirrors.Kept.{Names}
 use Rattle.store_history.specs.Reads.{read_first}
+use Rattle.store_history.specs.declared.places.TheConstants.{ACTION_ROOTS, BUCKET_ROOTS}
 use Rattle.block_codec.specs.OfReadings.Read.{mask_of_words}
 use Rattle.mask_table.specs.Buckets.{mask_root}
 use Rattle.mask_table.proofs.Limits.{IsWithin, within}
@@ -28,10 +29,10 @@ use Rattle.hook_law.specs.Meaning.{point_of, now_of}
 use Rattle.hook_law.specs.Standing.{Head, Mask, Bucket, IsSlotOf, Stands, region_of}
 use Rattle.hook_law.specs.Keeping.{Keeps}
 use Rattle.hook_law.proofs.Standing.{mask_back}
-use Rattle.hook_meaning.specs.Stated.{hook_meaning, filters_at}
-use Rattle.hook_meaning.specs.Blocks.{mask_record, hook_codec}
-use Rattle.hook_meaning.specs.Told.{with_slots}
-use Rattle.hook_meaning.proofs.Reading.{first_maps}
+use Rattle.hook_store_law.specs.Stated.{hook_meaning, filters_at}
+use Rattle.hook_store_law.specs.Blocks.{mask_record, hook_codec}
+use Rattle.hook_store_law.specs.Told.{with_slots}
+use Rattle.hook_store_law.proofs.Reading.{first_maps}
 use Rattle.root_pool_laws.specs.Pools.{IsEmptyRoot}
 use Rattle.desk_masks.specs.declared.hook_tables.HookTables.{HookTables}
 use Rattle.desk_masks.specs.Masks.{HasMask, HasMasks}
@@ -114,7 +115,7 @@ module _ (h h2 : List (Commit Edit)) (heads : (hook : ℕ) → hook < 2 → root
 
 -- ---- commits to roots of which each is empty, or the marker's or that of an action
 abbrev pub IsAside : List (Commit Edit) → ℕ → Type 0
-IsAside h root = (root < 1) ⊎ (((8195 ≤ root) × (root < 10243)) ⊎ IsEmptyRoot hook_meaning hook_codec h root)
+IsAside h root = (root < 1) ⊎ (((ACTION_ROOTS ≤ root) × (root < BUCKET_ROOTS)) ⊎ IsEmptyRoot hook_meaning hook_codec h root)
 
 module _ (h : List (Commit Edit)) (root : ℕ) where
   pub aside_of_heads : IsAside h root → (hook : ℕ) → hook < 2 → root ≢ places.head_root hook

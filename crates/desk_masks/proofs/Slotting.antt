@@ -14,9 +14,9 @@ use Rattle.hook_law.specs.Keeping.{Keeps}
 use Rattle.hook_law.specs.Slots.{slot_of}
 use Rattle.hook_law.proofs.Slots.{slot_is}
 use Rattle.hook_law.proofs.Standing.{present_end}
-use Rattle.hook_meaning.specs.Stated.{hook_meaning, filters_at}
-use Rattle.hook_meaning.specs.Blocks.{action_slotted, filter_record, hook_codec}
-use Rattle.hook_meaning.specs.Told.{action_name, with_slots}
+use Rattle.hook_store_law.specs.Stated.{hook_meaning, filters_at}
+use Rattle.hook_store_law.specs.Blocks.{action_slotted, filter_record, hook_codec}
+use Rattle.hook_store_law.specs.Told.{action_name, with_slots}
 use Rattle.desk_masks.proofs.OfMaskResizes.Living.{AllLive, all_live}
 
 -- ---- filters of which each action has one slot after some commits and after others

@@ -6,6 +6,7 @@ use Rattle.std.proofs.lemmas.List.{append-nil}
 use Rattle.std.proofs.lemmas.Option.{same_Some}
 use Rattle.store_history.specs.declared.history.Commit.{Commit}
 use Rattle.store_history.specs.declared.history.Link.{Link}
+use Rattle.store_history.specs.declared.places.TheConstants.{POOL_BLOCKS}
 use Rattle.pin_store.specs.Calls.{IsUnnamed}
 use Rattle.filter_state.specs.declared.edit.Edit.{Edit}
 use Rattle.block_codec.specs.declared.filter.StoredFilter.{StoredFilter}
@@ -15,8 +16,8 @@ use Rattle.hook_law.specs.Standing.{IsIn}
 use Rattle.hook_law.specs.Keeping.{Keeps}
 use Rattle.hook_law.specs.Unnumbered.{Spares, SparesAll}
 use Rattle.hook_law.proofs.Sparing.{spare_keeps, spare_back, spares_next}
-use Rattle.hook_meaning.specs.Stated.{hook_meaning}
-use Rattle.hook_meaning.specs.Blocks.{hook_codec}
+use Rattle.hook_store_law.specs.Stated.{hook_meaning}
+use Rattle.hook_store_law.specs.Blocks.{hook_codec}
 use Rattle.root_pool_laws.specs.Blocks.{Spends}
 use Rattle.root_pool_laws.proofs.Apart.{in_append}
 use Rattle.root_pool_laws.proofs.Blocks.{free_stays}
@@ -29,7 +30,7 @@ use Rattle.desk_pools.proofs.Steps.{pools_commit}
 -- ---- one commit after the other
 -- the blocks of a chain are of the pool's, in no pool, and no chain has had them since the base
 abbrev pub AreSpent : Pools → List (Commit Edit) → ℕ → Commit Edit → Type 0
-AreSpent pools h b c = (place : ℕ) (l : Link) → slice_get c.named.chain place ≡ Some l → IsUnnamed b h l.block × (l.block < 16384) × (IsInPool l.block pools.blocks → ⊥)
+AreSpent pools h b c = (place : ℕ) (l : Link) → slice_get c.named.chain place ≡ Some l → IsUnnamed b h l.block × (l.block < POOL_BLOCKS) × (IsInPool l.block pools.blocks → ⊥)
 
 -- no block is in the chains of two of the commits
 abbrev pub SpendApart : List (Commit Edit) → Type 0
@@ -69,9 +70,9 @@ pools_spared pools (d ∷ ds) h b low keeps w p good apart = subst (λ (g : List
     one : Spares hook_meaning hook_codec b h d
     one = w.each 0 d refl
 
-    of_block : (block : ℕ) → IsIn block (blocks_in d) → IsUnnamed b h block × (block < 16384) × (IsInPool block pools.blocks → ⊥)
+    of_block : (block : ℕ) → IsIn block (blocks_in d) → IsUnnamed b h block × (block < POOL_BLOCKS) × (IsInPool block pools.blocks → ⊥)
     of_block block at = let m = mapped_at (λ (l : Link). l.block) d.named.chain at.0 block at.1 in
-        subst (λ (n : ℕ). IsUnnamed b h n × (n < 16384) × (IsInPool n pools.blocks → ⊥)) (sym m.2) (good 0 d refl at.0 m.0 m.1)
+        subst (λ (n : ℕ). IsUnnamed b h n × (n < POOL_BLOCKS) × (IsInPool n pools.blocks → ⊥)) (sym m.2) (good 0 d refl at.0 m.0 m.1)
 
     first : ArePools pools (h ++ d ∷ []) b
     first = pools_commit pools h b d (blocks_in d) low p (record {

@@ -11,7 +11,7 @@ use Rattle.mask_writer.specs.Standing.{StandsAt, Holds, AreNamed}
 use Rattle.desk_masks.specs.OfMaskResizes.Resized.{stored_now}
 use Rattle.hook_law.specs.Meaning.{point_of}
 use Rattle.hook_law.specs.Standing.{IsMaskAt}
-use Rattle.hook_meaning.specs.Blocks.{hook_codec}
+use Rattle.hook_store_law.specs.Blocks.{hook_codec}
 
 -- the mask stands at the slot, with the filters that the state has of it, in their order; each came with one
 -- of the edits so far

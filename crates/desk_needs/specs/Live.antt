@@ -6,8 +6,8 @@ use Rattle.flow_mask.specs.Sizes.{size_of}
 use Rattle.filter_state.specs.States.{Row, State}
 use Rattle.filter_state.specs.Order.{of_mask}
 use Rattle.filter_state.specs.Tables.{distinct, masks_of}
-use Rattle.block_codec.specs.declared.places.TheConstants.{POOL_BLOCKS, ROWS, ROW_BUCKETS, MASK_SLOTS}
-use Rattle.block_codec.specs.declared.places.TheConstants.{ACTION_SLOTS}
+use Rattle.store_history.specs.declared.places.TheConstants.{POOL_BLOCKS, ROWS, ROW_BUCKETS, MASK_SLOTS}
+use Rattle.store_history.specs.declared.places.TheConstants.{ACTION_SLOTS}
 use Rattle.desk_needs.specs.declared.pool.Pool.{Pool}
 use Rattle.desk_needs.specs.declared.pool.Pool.TheVariants as pools
 

@@ -6,13 +6,13 @@ use tc_base::Hook;
 /// Where several are short, the first in this order is told.
 #[derive(Clone, Copy, Debug, PartialEq, Eq)]
 pub enum Pool {
-    /// The blocks of filters, masks and actions: 16,384.
+    /// The blocks of filters, masks and actions, `POOL_BLOCKS`.
     Blocks,
-    /// The rows of sixteen buckets: 8,192.
+    /// The rows of sixteen buckets, `ROWS`.
     Rows,
-    /// The slots of masks: 8,192.
+    /// The slots of masks, `MASK_SLOTS`.
     MaskRoots,
-    /// The slots of actions: 2,048.
+    /// The slots of actions, `ACTION_SLOTS`.
     ActionRoots,
     /// The places of a hook's tables: 2, of which one is active.
     Head(Hook),

@@ -21,9 +21,9 @@ use Rattle.hook_lists.specs.declared.kept.Kept.{Kept}
 use Rattle.filter_lists.specs.Spells.{Spells}
 use Rattle.hook_law.specs.Standing.{IsMaskAt}
 use Rattle.hook_law.proofs.Opening.{no_mask}
-use Rattle.hook_meaning.specs.Stated.{hook_meaning}
-use Rattle.hook_meaning.specs.Blocks.{hook_codec}
-use Rattle.hook_meaning.proofs.Opening.{hook_opens}
+use Rattle.hook_store_law.specs.Stated.{hook_meaning}
+use Rattle.hook_store_law.specs.Blocks.{hook_codec}
+use Rattle.hook_store_law.proofs.Opening.{hook_opens}
 use Rattle.root_word_laws.proofs.Words.{none_rise}
 use Rattle.desk_actions.specs.OfLedgers.Ledger.{IsLedger}
 use Rattle.desk_masks.specs.declared.hook_tables.HookTables.{HookTables}

@@ -25,9 +25,9 @@ use Rattle.hook_law.proofs.Sparing.{Spared, spares_keep, empties_spare}
 use Rattle.hook_law.proofs.Resting.{spares_rest}
 use Rattle.hook_law.proofs.Lists.{root_of_none}
 use Rattle.hook_law.proofs.Standing.{slot_longer, slot_push, unused_end}
-use Rattle.hook_meaning.specs.Stated.{hook_meaning, filters_at}
-use Rattle.hook_meaning.specs.Blocks.{hook_codec}
-use Rattle.hook_meaning.proofs.States.{state_is, sound_after}
+use Rattle.hook_store_law.specs.Stated.{hook_meaning, filters_at}
+use Rattle.hook_store_law.specs.Blocks.{hook_codec}
+use Rattle.hook_store_law.proofs.States.{state_is, sound_after}
 use Rattle.hook_store_law.specs.Kept.{IsKeptAt}
 use Rattle.desk_pools.specs.declared.pools.Pools.{Pools}
 use Rattle.desk_pools.specs.OfTidying.Tidied.{empty_at, emptying, Empties}

@@ -5,8 +5,9 @@ use Rattle.tc_base.specs.declared.hook.Hook.TheVariants.{Ingress, Egress}
 use Rattle.pin_store.specs.declared.shape.Shape.{Shape}
 use Rattle.pin_store.specs.declared.view.View.{View}
 use Rattle.pin_store.specs.Calls.{sheet_of}
-use Rattle.block_codec.specs.declared.places.TheConstants.{BLOCKS, BLOCK_WORDS, ROOTS, READERS}
-use Rattle.block_codec.specs.declared.places.TheConstants.{POOL_BLOCKS, ROWS, MASK_SLOTS, ACTION_SLOTS}
+use Rattle.store_history.specs.declared.places.TheConstants.{ROOTS}
+use Rattle.block_codec.specs.declared.places.TheConstants.{BLOCKS, BLOCK_WORDS, READERS}
+use Rattle.store_history.specs.declared.places.TheConstants.{POOL_BLOCKS, ROWS, MASK_SLOTS, ACTION_SLOTS}
 use Rattle.filter_state.specs.declared.edit.Edit.{Edit}
 use Rattle.miniq_pair.specs.Pairs.{other_place}
 use Rattle.desk_pools.specs.declared.pools.Pools.{Pools}

@@ -1,9 +1,10 @@
 //! The shape of a hook's store.
 
-use block_codec::places::{BLOCK_WORDS, BLOCKS, READERS, ROOTS};
+use block_codec::places::{BLOCK_WORDS, BLOCKS, READERS};
 use pin_store::Shape;
+use store_history::places::ROOTS;
 
-/// The shape of each hook's store: 17,408 blocks of 40 words, 141,315 roots and 8 readers.
+/// The shape of each hook's store.
 pub const HOOK_SHAPE: Shape = Shape {
     blocks: BLOCKS,
     words: BLOCK_WORDS,

@@ -8,12 +8,13 @@ use Rattle.store_history.specs.declared.history.Link.{Link}
 use Rattle.store_history.specs.declared.history.Commit.{Commit}
 use Rattle.store_history.specs.History.{IsNamed}
 use Rattle.store_history.proofs.Histories.{nothing_named}
+use Rattle.store_history.specs.declared.places.TheConstants.{MASK_SLOTS, ACTION_SLOTS, ROWS, ROW_BUCKETS, MASK_ROOTS, ACTION_ROOTS, BUCKET_ROOTS, POOL_BLOCKS}
 use Rattle.pin_store.specs.Calls.{IsUnnamed}
 use Rattle.filter_state.specs.declared.edit.Edit.{Edit}
 use Rattle.hook_law.specs.Places.{head_root}
 use Rattle.hook_law.specs.Standing.{Role, Head, Mask, Bucket, Action, IsIn, IsMaskAt, Stands, IsUnused}
-use Rattle.hook_meaning.specs.Stated.{hook_meaning}
-use Rattle.hook_meaning.specs.Blocks.{hook_codec}
+use Rattle.hook_store_law.specs.Stated.{hook_meaning}
+use Rattle.hook_store_law.specs.Blocks.{hook_codec}
 use Rattle.desk_pools.specs.OfNumbers.Numbers.{PoolNumbers}
 use Rattle.root_pool_laws.specs.Pools.{IsPool}
 use Rattle.root_pool_laws.specs.Blocks.{HasBlock, IsLeft}
@@ -30,13 +31,13 @@ no_commits = []
 no_mask : (mask slot : ℕ) → IsMaskAt hook_codec no_commits mask slot → ⊥
 no_mask mask slot at = let e = at.there.1 in cc e
 
-nothing_stands : (r : ℕ) (x : Role) → 3 ≤ r → Stands hook_meaning hook_codec [] r x → ⊥
+nothing_stands : (r : ℕ) (x : Role) → MASK_ROOTS ≤ r → Stands hook_meaning hook_codec [] r x → ⊥
 nothing_stands r (Head hook) far s = let one = s.0 in let is = s.1 in omega (arith, one, is, far)
 nothing_stands r (Mask m) far s = no_mask m s.0 s.1
 nothing_stands r (Bucket q k) far s = no_mask q.mask q.slot s.1.at_mask
 nothing_stands r (Action a) far s = s.3 refl
 
-unused_at_first : (r : ℕ) → 3 ≤ r → IsUnused hook_meaning hook_codec 0 [] r
+unused_at_first : (r : ℕ) → MASK_ROOTS ≤ r → IsUnused hook_meaning hook_codec 0 [] r
 unused_at_first r far n x low high s = nothing_stands r x far (subst (λ (h : List (Commit Edit)). Stands hook_meaning hook_codec h r x) (take_all n no_commits (omega arith)) s)
 
 no_block : (r block : ℕ) → HasBlock no_commits r block → ⊥
@@ -78,14 +79,14 @@ idle_opens hook idle is = record {
   free = λ e at less l named same. nothing_named 0 l named;
 }
 
-pub pools_open : (pools : Pools) → (pools.blocks.free ≡ range_with_len 0 16384) × (pools.blocks.left ≡ []) → (pools.rows.free ≡ range_with_len 0 8192) × (pools.rows.left ≡ [])
-    → (pools.masks.free ≡ range_with_len 0 8192) × (pools.masks.left ≡ []) → (pools.actions.free ≡ range_with_len 0 2048) × (pools.actions.left ≡ [])
+pub pools_open : (pools : Pools) → (pools.blocks.free ≡ range_with_len 0 POOL_BLOCKS) × (pools.blocks.left ≡ []) → (pools.rows.free ≡ range_with_len 0 ROWS) × (pools.rows.left ≡ [])
+    → (pools.masks.free ≡ range_with_len 0 MASK_SLOTS) × (pools.masks.left ≡ []) → (pools.actions.free ≡ range_with_len 0 ACTION_SLOTS) × (pools.actions.left ≡ [])
     → (pools.ingress.place ≡ 1) × (pools.egress.place ≡ 1) → ArePools pools [] 0
 pools_open pools blocks rows masks actions places = record {
-  blocks = pool_opens 16384 (IsUnnamed 0 no_commits) (IsLeft (gone_roots pools) no_commits) pools.blocks blocks.0 blocks.1 (λ x l named same. nothing_named 0 l named);
-  rows = pool_opens 8192 (IsFreeAt [] 0 10243 16) (IsLeftAt [] 10243 16) pools.rows rows.0 rows.1 (λ x j less. unused_at_first (10243 + 16 * x + j) (omega arith));
-  masks = pool_opens 8192 (IsFreeAt [] 0 3 1) (IsLeftAt [] 3 1) pools.masks masks.0 masks.1 (λ x j less. unused_at_first (3 + 1 * x + j) (omega arith));
-  actions = pool_opens 2048 (IsFreeAt [] 0 8195 1) (IsLeftAt [] 8195 1) pools.actions actions.0 actions.1 (λ x j less. unused_at_first (8195 + 1 * x + j) (omega arith));
+  blocks = pool_opens POOL_BLOCKS (IsUnnamed 0 no_commits) (IsLeft (gone_roots pools) no_commits) pools.blocks blocks.0 blocks.1 (λ x l named same. nothing_named 0 l named);
+  rows = pool_opens ROWS (IsFreeAt [] 0 BUCKET_ROOTS ROW_BUCKETS) (IsLeftAt [] BUCKET_ROOTS ROW_BUCKETS) pools.rows rows.0 rows.1 (λ x j less. unused_at_first (BUCKET_ROOTS + ROW_BUCKETS * x + j) (omega arith));
+  masks = pool_opens MASK_SLOTS (IsFreeAt [] 0 MASK_ROOTS 1) (IsLeftAt [] MASK_ROOTS 1) pools.masks masks.0 masks.1 (λ x j less. unused_at_first (MASK_ROOTS + 1 * x + j) (omega arith));
+  actions = pool_opens ACTION_SLOTS (IsFreeAt [] 0 ACTION_ROOTS 1) (IsLeftAt [] ACTION_ROOTS 1) pools.actions actions.0 actions.1 (λ x j less. unused_at_first (ACTION_ROOTS + 1 * x + j) (omega arith));
   ingress = idle_opens Ingress pools.ingress places.0;
   egress = idle_opens Egress pools.egress places.1;
   one_root = λ r s block x y. absurd (no_block r block x);

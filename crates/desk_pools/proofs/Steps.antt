@@ -6,13 +6,14 @@ use Rattle.tc_base.specs.declared.hook.Hook.TheVariants.{Ingress, Egress}
 use Rattle.store_history.specs.declared.history.Commit.{Commit}
 use Rattle.pin_store.specs.Calls.{IsUnnamed}
 use Rattle.filter_state.specs.declared.edit.Edit.{Edit}
-use Rattle.block_codec.specs.declared.places.TheConstants.{TABLES, POOL_BLOCKS}
+use Rattle.store_history.specs.declared.places.TheConstants.{POOL_BLOCKS, MASK_SLOTS, ACTION_SLOTS, ROWS, ROW_BUCKETS, MASK_ROOTS, ACTION_ROOTS, BUCKET_ROOTS}
+use Rattle.block_codec.specs.declared.places.TheConstants.{TABLES}
 use Rattle.miniq_pair.specs.Heads.{head_root}
 use Rattle.miniq_pair.specs.Pairs.{first_block_of}
 use Rattle.hook_law.specs.Places.{mask_root, action_root, bucket_root}
 use Rattle.hook_law.specs.Standing.{Role, IsIn, IsUnused, Stands}
-use Rattle.hook_meaning.specs.Stated.{hook_meaning}
-use Rattle.hook_meaning.specs.Blocks.{hook_codec}
+use Rattle.hook_store_law.specs.Stated.{hook_meaning}
+use Rattle.hook_store_law.specs.Blocks.{hook_codec}
 use Rattle.desk_pools.specs.OfNumbers.Numbers.{PoolNumbers}
 use Rattle.root_pool_laws.specs.Blocks.{IsBlockOf, HasBlock, IsLeft}
 use Rattle.root_pool_laws.specs.Pools.{IsPool, IsEmptyRoot}
@@ -73,31 +74,31 @@ more_roots first width some more all root at = let f = in_roots first width some
 gone_more : (pools now : Pools) → ((x : ℕ) → IsIn x pools.masks.left → IsIn x now.masks.left) → ((x : ℕ) → IsIn x pools.actions.left → IsIn x now.actions.left)
     → ((x : ℕ) → IsIn x pools.rows.left → IsIn x now.rows.left) → (root : ℕ) → IsIn root (gone_roots pools) → IsIn root (gone_roots now)
 gone_more pools now masks actions rows root at =
-    sort (in_append (roots_of 3 1 pools.masks.left ++ roots_of 8195 1 pools.actions.left) (roots_of 10243 16 pools.rows.left) root at)
+    sort (in_append (roots_of MASK_ROOTS 1 pools.masks.left ++ roots_of ACTION_ROOTS 1 pools.actions.left) (roots_of BUCKET_ROOTS ROW_BUCKETS pools.rows.left) root at)
   where
     front : List ℕ
-    front = roots_of 3 1 now.masks.left ++ roots_of 8195 1 now.actions.left
+    front = roots_of MASK_ROOTS 1 now.masks.left ++ roots_of ACTION_ROOTS 1 now.actions.left
 
-    two : IsIn root (roots_of 3 1 pools.masks.left) ⊎ IsIn root (roots_of 8195 1 pools.actions.left) → IsIn root front
-    two (inl one) = in_left (roots_of 3 1 now.masks.left) (roots_of 8195 1 now.actions.left) root (more_roots 3 1 pools.masks.left now.masks.left masks root one)
-    two (inr one) = in_right (roots_of 3 1 now.masks.left) (roots_of 8195 1 now.actions.left) root (more_roots 8195 1 pools.actions.left now.actions.left actions root one)
+    two : IsIn root (roots_of MASK_ROOTS 1 pools.masks.left) ⊎ IsIn root (roots_of ACTION_ROOTS 1 pools.actions.left) → IsIn root front
+    two (inl one) = in_left (roots_of MASK_ROOTS 1 now.masks.left) (roots_of ACTION_ROOTS 1 now.actions.left) root (more_roots MASK_ROOTS 1 pools.masks.left now.masks.left masks root one)
+    two (inr one) = in_right (roots_of MASK_ROOTS 1 now.masks.left) (roots_of ACTION_ROOTS 1 now.actions.left) root (more_roots ACTION_ROOTS 1 pools.actions.left now.actions.left actions root one)
 
-    sort : IsIn root (roots_of 3 1 pools.masks.left ++ roots_of 8195 1 pools.actions.left) ⊎ IsIn root (roots_of 10243 16 pools.rows.left) → IsIn root (gone_roots now)
-    sort (inl one) = in_left front (roots_of 10243 16 now.rows.left) root (two (in_append (roots_of 3 1 pools.masks.left) (roots_of 8195 1 pools.actions.left) root one))
-    sort (inr one) = in_right front (roots_of 10243 16 now.rows.left) root (more_roots 10243 16 pools.rows.left now.rows.left rows root one)
+    sort : IsIn root (roots_of MASK_ROOTS 1 pools.masks.left ++ roots_of ACTION_ROOTS 1 pools.actions.left) ⊎ IsIn root (roots_of BUCKET_ROOTS ROW_BUCKETS pools.rows.left) → IsIn root (gone_roots now)
+    sort (inl one) = in_left front (roots_of BUCKET_ROOTS ROW_BUCKETS now.rows.left) root (two (in_append (roots_of MASK_ROOTS 1 pools.masks.left) (roots_of ACTION_ROOTS 1 pools.actions.left) root one))
+    sort (inr one) = in_right front (roots_of BUCKET_ROOTS ROW_BUCKETS now.rows.left) root (more_roots BUCKET_ROOTS ROW_BUCKETS pools.rows.left now.rows.left rows root one)
 
 -- ---- all pools, of which one changed
 module _ (pools : Pools) (h : List (Commit Edit)) (b : ℕ) (p : ArePools pools h b) where
-  pub blocks_now : (now : PoolNumbers) → IsPool 16384 (IsUnnamed b h) (IsLeft (gone_roots pools) h) now.free now.left → ArePools (record pools { blocks = now }) h b
+  pub blocks_now : (now : PoolNumbers) → IsPool POOL_BLOCKS (IsUnnamed b h) (IsLeft (gone_roots pools) h) now.free now.left → ArePools (record pools { blocks = now }) h b
   blocks_now now q = record { blocks = q; rows = p.rows; masks = p.masks; actions = p.actions; ingress = p.ingress; egress = p.egress; one_root = p.one_root; heads = p.heads }
 
   -- blocks that left stay so where no fewer roots are gone
-  still_left : (now : Pools) → ((root : ℕ) → IsIn root (gone_roots pools) → IsIn root (gone_roots now)) → IsPool 16384 (IsUnnamed b h) (IsLeft (gone_roots now) h) pools.blocks.free pools.blocks.left
-  still_left now still = pool_as 16384 (IsUnnamed b h) (IsUnnamed b h) (IsLeft (gone_roots pools) h) (IsLeft (gone_roots now) h) pools.blocks.free pools.blocks.left
+  still_left : (now : Pools) → ((root : ℕ) → IsIn root (gone_roots pools) → IsIn root (gone_roots now)) → IsPool POOL_BLOCKS (IsUnnamed b h) (IsLeft (gone_roots now) h) pools.blocks.free pools.blocks.left
+  still_left now still = pool_as POOL_BLOCKS (IsUnnamed b h) (IsUnnamed b h) (IsLeft (gone_roots pools) h) (IsLeft (gone_roots now) h) pools.blocks.free pools.blocks.left
       (λ x at f. f) (λ x at left r n. still r (left r n)) p.blocks
 
   -- where no fewer mask slots left
-  pub masks_now : (now : PoolNumbers) → ((x : ℕ) → IsIn x pools.masks.left → IsIn x now.left) → IsPool 8192 (IsFreeAt h b 3 1) (IsLeftAt h 3 1) now.free now.left
+  pub masks_now : (now : PoolNumbers) → ((x : ℕ) → IsIn x pools.masks.left → IsIn x now.left) → IsPool MASK_SLOTS (IsFreeAt h b MASK_ROOTS 1) (IsLeftAt h MASK_ROOTS 1) now.free now.left
       → ArePools (record pools { masks = now }) h b
   masks_now now more q = record {
     blocks = still_left (record pools { masks = now }) (gone_more pools (record pools { masks = now }) more (λ x at. at) (λ x at. at));
@@ -111,7 +112,7 @@ module _ (pools : Pools) (h : List (Commit Edit)) (b : ℕ) (p : ArePools pools 
   }
 
   -- or action slots
-  pub actions_now : (now : PoolNumbers) → ((x : ℕ) → IsIn x pools.actions.left → IsIn x now.left) → IsPool 2048 (IsFreeAt h b 8195 1) (IsLeftAt h 8195 1) now.free now.left
+  pub actions_now : (now : PoolNumbers) → ((x : ℕ) → IsIn x pools.actions.left → IsIn x now.left) → IsPool ACTION_SLOTS (IsFreeAt h b ACTION_ROOTS 1) (IsLeftAt h ACTION_ROOTS 1) now.free now.left
       → ArePools (record pools { actions = now }) h b
   actions_now now more q = record {
     blocks = still_left (record pools { actions = now }) (gone_more pools (record pools { actions = now }) (λ x at. at) more (λ x at. at));
@@ -125,7 +126,7 @@ module _ (pools : Pools) (h : List (Commit Edit)) (b : ℕ) (p : ArePools pools 
   }
 
   -- or rows
-  pub rows_now : (now : PoolNumbers) → ((x : ℕ) → IsIn x pools.rows.left → IsIn x now.left) → IsPool 8192 (IsFreeAt h b 10243 16) (IsLeftAt h 10243 16) now.free now.left
+  pub rows_now : (now : PoolNumbers) → ((x : ℕ) → IsIn x pools.rows.left → IsIn x now.left) → IsPool ROWS (IsFreeAt h b BUCKET_ROOTS ROW_BUCKETS) (IsLeftAt h BUCKET_ROOTS ROW_BUCKETS) now.free now.left
       → ArePools (record pools { rows = now }) h b
   rows_now now more q = record {
     blocks = still_left (record pools { rows = now }) (gone_more pools (record pools { rows = now }) (λ x at. at) (λ x at. at) more);
@@ -169,7 +170,7 @@ module _ (pools : Pools) (h : List (Commit Edit)) (b : ℕ) (c : Commit Edit) (g
     free = λ is at less. block_free (first_block_of hook idle.place + at) (λ in_. head_block at (leaves.small (first_block_of hook idle.place + at) in_)) (q.free is at less);
   }
     where
-      head_block : (at : ℕ) → first_block_of hook idle.place + at < 16384 → ⊥
+      head_block : (at : ℕ) → first_block_of hook idle.place + at < POOL_BLOCKS → ⊥
       head_block at less = omega (arith, less)
 
       sort : (at : ℕ) → at < TABLES → (r : ℕ) → HasBlock h r (first_block_of hook idle.place + at) ⊎ ((c.root ≡ r) × IsBlockOf (first_block_of hook idle.place + at) c.named.chain) → ⊥
@@ -177,17 +178,17 @@ module _ (pools : Pools) (h : List (Commit Edit)) (b : ℕ) (c : Commit Edit) (g
       sort at less r (inr own) = spent (leaves.spends own.1.0 own.1.1 own.1.2)
         where
           spent : IsIn own.1.1.block given ⊎ HasBlock h c.root own.1.1.block → ⊥
-          spent (inl g) = head_block at (subst (λ (n : ℕ). n < 16384) own.1.3 (leaves.small own.1.1.block g))
+          spent (inl g) = head_block at (subst (λ (n : ℕ). n < POOL_BLOCKS) own.1.3 (leaves.small own.1.1.block g))
           spent (inr m) = q.none at less c.root (subst (HasBlock h c.root) own.1.3 m)
 
   pub pools_commit : ArePools pools (h ++ c ∷ []) b
   pools_commit = record {
-    blocks = pool_as 16384 (IsUnnamed b h) (IsUnnamed b (h ++ c ∷ [])) (IsLeft (gone_roots pools) h) (IsLeft (gone_roots pools) (h ++ c ∷ [])) pools.blocks.free pools.blocks.left
+    blocks = pool_as POOL_BLOCKS (IsUnnamed b h) (IsUnnamed b (h ++ c ∷ [])) (IsLeft (gone_roots pools) h) (IsLeft (gone_roots pools) (h ++ c ∷ [])) pools.blocks.free pools.blocks.left
         (λ x at f. block_free x (not_given x (inl at)) f)
         (λ x at l. left_stays h c given leaves.spends (gone_roots pools) (gone_roots pools) (λ r in_. in_) x (not_given x (inr at)) l) p.blocks;
-    rows = pool_on 8192 10243 16 pools.rows (λ row j in_ less. leaves.rows row j in_ less) p.rows;
-    masks = pool_on 8192 3 1 pools.masks (λ slot j in_ less. subst (NothingComes h c) (single 3 slot j less) (leaves.masks slot in_)) p.masks;
-    actions = pool_on 2048 8195 1 pools.actions (λ slot j in_ less. subst (NothingComes h c) (single 8195 slot j less) (leaves.actions slot in_)) p.actions;
+    rows = pool_on ROWS BUCKET_ROOTS ROW_BUCKETS pools.rows (λ row j in_ less. leaves.rows row j in_ less) p.rows;
+    masks = pool_on MASK_SLOTS MASK_ROOTS 1 pools.masks (λ slot j in_ less. subst (NothingComes h c) (single MASK_ROOTS slot j less) (leaves.masks slot in_)) p.masks;
+    actions = pool_on ACTION_SLOTS ACTION_ROOTS 1 pools.actions (λ slot j in_ less. subst (NothingComes h c) (single ACTION_ROOTS slot j less) (leaves.actions slot in_)) p.actions;
     ingress = idle_on Ingress pools.ingress p.ingress;
     egress = idle_on Egress pools.egress p.egress;
     one_root = one_root_stays h c given leaves.spends b low p.one_root leaves.free;
@@ -204,19 +205,19 @@ module _ (pools : Pools) (h : List (Commit Edit)) (b : ℕ) (c : Commit Edit) (g
 
 -- ---- what is gone is empty
 pub gone_empty : (pools : Pools) (h : List (Commit Edit)) (b root : ℕ) → ArePools pools h b → IsIn root (gone_roots pools) → IsEmptyRoot hook_meaning hook_codec h root
-gone_empty pools h b root p at = sort (in_append (roots_of 3 1 pools.masks.left ++ roots_of 8195 1 pools.actions.left) (roots_of 10243 16 pools.rows.left) root at)
+gone_empty pools h b root p at = sort (in_append (roots_of MASK_ROOTS 1 pools.masks.left ++ roots_of ACTION_ROOTS 1 pools.actions.left) (roots_of BUCKET_ROOTS ROW_BUCKETS pools.rows.left) root at)
   where
     of_pool : (first width size : ℕ) (F : ℕ → Type 0) (free left : List ℕ) → IsPool size F (IsLeftAt h first width) free left → IsIn root (roots_of first width left) → IsEmptyRoot hook_meaning hook_codec h root
     of_pool first width size F free left q in_ = let f = in_roots first width left root in_ in
         subst (IsEmptyRoot hook_meaning hook_codec h) (sym f.4) (q.have_left f.1.0 f.0 f.1.1 f.2 f.3)
 
-    two : IsIn root (roots_of 3 1 pools.masks.left) ⊎ IsIn root (roots_of 8195 1 pools.actions.left) → IsEmptyRoot hook_meaning hook_codec h root
-    two (inl one) = of_pool 3 1 8192 (IsFreeAt h b 3 1) pools.masks.free pools.masks.left p.masks one
-    two (inr one) = of_pool 8195 1 2048 (IsFreeAt h b 8195 1) pools.actions.free pools.actions.left p.actions one
+    two : IsIn root (roots_of MASK_ROOTS 1 pools.masks.left) ⊎ IsIn root (roots_of ACTION_ROOTS 1 pools.actions.left) → IsEmptyRoot hook_meaning hook_codec h root
+    two (inl one) = of_pool MASK_ROOTS 1 MASK_SLOTS (IsFreeAt h b MASK_ROOTS 1) pools.masks.free pools.masks.left p.masks one
+    two (inr one) = of_pool ACTION_ROOTS 1 ACTION_SLOTS (IsFreeAt h b ACTION_ROOTS 1) pools.actions.free pools.actions.left p.actions one
 
-    sort : IsIn root (roots_of 3 1 pools.masks.left ++ roots_of 8195 1 pools.actions.left) ⊎ IsIn root (roots_of 10243 16 pools.rows.left) → IsEmptyRoot hook_meaning hook_codec h root
-    sort (inl one) = two (in_append (roots_of 3 1 pools.masks.left) (roots_of 8195 1 pools.actions.left) root one)
-    sort (inr one) = of_pool 10243 16 8192 (IsFreeAt h b 10243 16) pools.rows.free pools.rows.left p.rows one
+    sort : IsIn root (roots_of MASK_ROOTS 1 pools.masks.left ++ roots_of ACTION_ROOTS 1 pools.actions.left) ⊎ IsIn root (roots_of BUCKET_ROOTS ROW_BUCKETS pools.rows.left) → IsEmptyRoot hook_meaning hook_codec h root
+    sort (inl one) = two (in_append (roots_of MASK_ROOTS 1 pools.masks.left) (roots_of ACTION_ROOTS 1 pools.actions.left) root one)
+    sort (inr one) = of_pool BUCKET_ROOTS ROW_BUCKETS ROWS (IsFreeAt h b BUCKET_ROOTS ROW_BUCKETS) pools.rows.free pools.rows.left p.rows one
 
 -- a block that the root of something that stands has is in no pool
 pub standing_block : (pools : Pools) (h : List (Commit Edit)) (b r block : ℕ) (x : Role) → b ≤ length h → ArePools pools h b → HasBlock h r block → Stands hook_meaning hook_codec h r x → IsInPool block pools.blocks → ⊥

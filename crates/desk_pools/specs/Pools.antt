@@ -6,13 +6,13 @@ use Rattle.tc_base.specs.declared.hook.Hook.TheVariants.{Ingress, Egress}
 use Rattle.store_history.specs.declared.history.Commit.{Commit}
 use Rattle.pin_store.specs.Calls.{IsUnnamed}
 use Rattle.filter_state.specs.declared.edit.Edit.{Edit}
-use Rattle.block_codec.specs.declared.places.TheConstants.{MASK_SLOTS, ACTION_SLOTS, ROWS, ROW_BUCKETS}
+use Rattle.store_history.specs.declared.places.TheConstants.{MASK_SLOTS, ACTION_SLOTS, ROWS, ROW_BUCKETS}
 use Rattle.block_codec.specs.declared.places.TheConstants.{TABLES}
-use Rattle.block_codec.specs.declared.places.TheConstants.{MASK_ROOTS, ACTION_ROOTS, BUCKET_ROOTS}
-use Rattle.block_codec.specs.declared.places.TheConstants.{POOL_BLOCKS}
+use Rattle.store_history.specs.declared.places.TheConstants.{MASK_ROOTS, ACTION_ROOTS, BUCKET_ROOTS}
+use Rattle.store_history.specs.declared.places.TheConstants.{POOL_BLOCKS}
 use Rattle.hook_law.specs.Standing.{IsUnused}
-use Rattle.hook_meaning.specs.Stated.{hook_meaning}
-use Rattle.hook_meaning.specs.Blocks.{hook_codec}
+use Rattle.hook_store_law.specs.Stated.{hook_meaning}
+use Rattle.hook_store_law.specs.Blocks.{hook_codec}
 use Rattle.miniq_pair.specs.Heads.{head_root}
 use Rattle.miniq_pair.specs.Pairs.{first_block_of}
 use Rattle.root_pool_laws.specs.Pools.{IsPool, IsEmptyRoot}

@@ -7,11 +7,11 @@ use Rattle.tc_base.specs.declared.hook.Hook.TheVariants.{Ingress, Egress}
 use Rattle.store_history.specs.declared.history.Commit.{Commit}
 use Rattle.pin_store.specs.Calls.{IsUnnamed}
 use Rattle.filter_state.specs.declared.edit.Edit.{Edit}
-use Rattle.block_codec.specs.declared.places.TheConstants.{POOL_BLOCKS}
+use Rattle.store_history.specs.declared.places.TheConstants.{POOL_BLOCKS}
 use Rattle.hook_law.specs.Places.{row_buckets, mask_root, action_root, bucket_root}
 use Rattle.hook_law.specs.Standing.{Role, Stands, IsIn}
-use Rattle.hook_meaning.specs.Stated.{hook_meaning}
-use Rattle.hook_meaning.specs.Blocks.{hook_codec}
+use Rattle.hook_store_law.specs.Stated.{hook_meaning}
+use Rattle.hook_store_law.specs.Blocks.{hook_codec}
 use Rattle.desk_pools.specs.OfNumbers.Numbers.{PoolNumbers}
 use Rattle.root_pool_laws.specs.Blocks.{Spends}
 use Rattle.desk_pools.specs.declared.pools.IdlePlace.{IdlePlace}

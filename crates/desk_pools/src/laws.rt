@@ -1,8 +1,8 @@
 //! What a commit leaves of the pools.
 ghost use Rattle.std.specs.Prelude.{◌≤◌, ◌+◌, ℕ, List, [], ◌∷◌, ◌++◌, length};
-ghost use Rattle.block_codec.specs.declared.places.TheConstants.{POOL_BLOCKS, ROWS, ROW_BUCKETS, BUCKET_ROOTS};
-ghost use Rattle.block_codec.specs.declared.places.TheConstants.{MASK_SLOTS, MASK_ROOTS, ACTION_SLOTS};
-ghost use Rattle.block_codec.specs.declared.places.TheConstants.{ACTION_ROOTS};
+ghost use Rattle.store_history.specs.declared.places.TheConstants.{POOL_BLOCKS, ROWS, ROW_BUCKETS, BUCKET_ROOTS};
+ghost use Rattle.store_history.specs.declared.places.TheConstants.{MASK_SLOTS, MASK_ROOTS, ACTION_SLOTS};
+ghost use Rattle.store_history.specs.declared.places.TheConstants.{ACTION_ROOTS};
 ghost use Rattle.root_pool_laws.specs.Blocks.{IsLeft};
 ghost use Rattle.store_history.specs.declared.history.Commit.{Commit};
 ghost use Rattle.filter_state.specs.declared.edit.Edit.{Edit};

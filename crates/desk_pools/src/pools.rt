@@ -3,8 +3,8 @@ ghost use Rattle.std.specs.Prelude.{◌≡◌, ◌≤◌};
 ghost use Rattle.desk_pools.specs.Steps.{turned_place};
 
 use crate::numbers::Pool;
-use block_codec::places::{ACTION_SLOTS, MASK_SLOTS, POOL_BLOCKS, ROWS};
 use std::alloc::Global;
+use store_history::places::{ACTION_SLOTS, MASK_SLOTS, POOL_BLOCKS, ROWS};
 use tc_base::{Hook, NoMemory};
 
 /// The place of a hook's tables that isn't active: 0 or 1, and whether it may be filled.
@@ -48,9 +48,9 @@ impl Pools {
     ghost use Rattle.store_history.specs.declared.history.Commit.{Commit};
     ghost use Rattle.filter_state.specs.declared.edit.Edit.{Edit};
     ghost use Rattle.pin_store.specs.Calls.{IsUnnamed};
-    ghost use Rattle.block_codec.specs.declared.places.TheConstants.{POOL_BLOCKS, ACTION_SLOTS, ACTION_ROOTS};
-    ghost use Rattle.block_codec.specs.declared.places.TheConstants.{MASK_SLOTS, MASK_ROOTS, ROWS, BUCKET_ROOTS};
-    ghost use Rattle.block_codec.specs.declared.places.TheConstants.{ROW_BUCKETS};
+    ghost use Rattle.store_history.specs.declared.places.TheConstants.{POOL_BLOCKS, ACTION_SLOTS, ACTION_ROOTS};
+    ghost use Rattle.store_history.specs.declared.places.TheConstants.{MASK_SLOTS, MASK_ROOTS, ROWS, BUCKET_ROOTS};
+    ghost use Rattle.store_history.specs.declared.places.TheConstants.{ROW_BUCKETS};
     ghost use Rattle.root_pool_laws.specs.Blocks.{IsLeft};
     ghost use Rattle.desk_pools.specs.Pools.{gone_roots, IsFreeAt, IsLeftAt, ArePools, IsNothingLeft, AreAllFree};
     ghost use Rattle.desk_pools.specs.Steps.{IsInPool, IsTaken, AreTaken, MayLeave, turned};

@@ -1,11 +1,11 @@
 //! The slots in which a digest stands.
 ghost use Rattle.std.specs.Prelude.{◌≡◌, ◌<◌, ◌≤◌, ◌+◌, ◌++◌, ◌∷◌, [], ℕ, length, get_or, slice_set, nat_le};
-ghost use Rattle.std.specs.Prelude.{Some, None, IsOk, IfOk, OnOk, IfSome, IfNone, true};
+ghost use Rattle.std.specs.Prelude.{Some, None, IsOk, IfOk, OnOk, IfSome, IfNone, true, false};
 ghost use Rattle.filter_index.specs.Chains.{passes, last_of, is_digest, chain_of, is_on, AreLinked, IsBehind};
 
 use std::alloc::Global;
 use std::marker::Model;
-use tc_base::NoMemory;
+use tc_base::{NoMemory, check_room};
 
 // For how many slots there are chains at most (this project's own): the number of a slot has 32 bits.
 const SLOTS_MAX: usize = 1 << 30;
@@ -54,9 +54,7 @@ impl Chains {
         ensures digests { IfOk result (λ c. c.digests ≡ []) }
         ensures room { IfOk result (λ c. room ≤ c.spare) }
     {
-        if room > SLOTS_MAX {
-            return Err(NoMemory);
-        }
+        check_room(room, SLOTS_MAX)?;
         Ok(Chains {
             heads: vec![in alloc; 0u32; room.next_power_of_two()]?,
             digests: Vec::with_capacity(alloc, room)?,
@@ -72,18 +70,17 @@ impl Chains {
         self.heads.len() <= self.digests.len()
     }
 
-    /// Makes room for one slot more among those that there are chains for, and changes nothing else.
+    /// Makes room for one slot more among those that there are chains for, of which one isn't taken, and
+    /// changes nothing else.
     ///
-    /// `NoMemory`: all of these are taken, or there was no room, and memory was refused.
+    /// `NoMemory`: there was no room, and memory was refused.
     pub(crate) fn reserve(&mut self) -> Result<(), NoMemory>
+        requires free { nat_le self.old.slots (length self.old.digests) ≡ false }
         ensures digests { self.new.digests ≡ self.old.digests }
         ensures room { OnOk result (0 < self.new.spare) }
         ensures spare { self.old.spare ≤ self.new.spare }
         ensures enough { 0 < self.old.spare → IsOk result }
     {
-        if self.is_full() {
-            return Err(NoMemory);
-        }
         self.digests.reserve(1)?;
         self.nexts.reserve(1)?;
         Ok(())

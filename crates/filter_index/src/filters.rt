@@ -79,7 +79,10 @@ impl Filters {
         ensures spare { self.old.spare ≤ self.new.spare }
         ensures enough { 0 < self.old.spare → IsOk result }
     {
-        if self.is_sparse() || self.chains.is_full() {
+        if self.is_sparse() {
+            return self.move_anew(self.room_anew());
+        }
+        if self.chains.is_full() {
             return self.move_anew(self.room_anew());
         }
         self.slots.reserve(1)?;

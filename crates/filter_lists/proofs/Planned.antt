@@ -19,13 +19,14 @@ use Rattle.filter_lists.specs.declared.plan.Plan.TheVariants as plans
 use Rattle.filter_lists.specs.Plans.{Leads, IsPlanned}
 use Rattle.filter_lists.proofs.Made.{no_index_taken}
 use Rattle.filter_lists.proofs.Registries.{with_registry, state_by}
+use Rattle.tc_base.specs.Memory.{no_memory}
 
 -- ---- a refusal
 pub refused_as : (kept : Kept) (stepped : Stepped) (refusal said : Refusal) → stepped ≡ Err said → refusal ≡ said → IsPlanned kept (Err refusal) stepped
 refused_as kept stepped refusal said is same = subst (λ s. IsPlanned kept (Err refusal) s) (sym is) same
 
-pub wants_memory : (kept : Kept) (stepped : Stepped) (next : State × Done) → stepped ≡ Ok next → IsPlanned kept (Err refusals.NoMemory) stepped
-wants_memory kept stepped next is = subst (λ s. IsPlanned kept (Err refusals.NoMemory) s) (sym is) refl
+pub wants_memory : (kept : Kept) (stepped : Stepped) (next : State × Done) → stepped ≡ Ok next → IsPlanned kept (Err (refusals.NoMemory no_memory)) stepped
+wants_memory kept stepped next is = subst (λ s. IsPlanned kept (Err (refusals.NoMemory no_memory)) s) (sym is) refl
 
 -- ---- a new action
 abbrev make_step : State → Params → Option ℕ → Stepped

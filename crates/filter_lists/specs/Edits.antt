@@ -7,6 +7,7 @@ use Rattle.filter_state.specs.Steps.{Stepped}
 use Rattle.hook_lists.specs.declared.kept.Kept.{Kept}
 use Rattle.hook_lists.specs.States.{state_of}
 use Rattle.filter_lists.specs.Spells.{Spells}
+use Rattle.tc_base.specs.Memory.{no_memory}
 
 -- the state is as it was; only the room may be more
 abbrev pub Stays : Kept → Kept → Type 0
@@ -18,7 +19,7 @@ Stays old new = state_of new ≡ state_of old
 abbrev pub IsStepped : Kept → Kept → Result Done Refusal → Stepped → Type 0
 IsStepped old new (Ok done) (Ok (next, said)) = (done ≡ said) × Spells new next
 IsStepped old new (Err refusal) (Err said) = (refusal ≡ said) × Stays old new
-IsStepped old new (Err refusal) (Ok next) = (refusal ≡ refusals.NoMemory) × Stays old new
+IsStepped old new (Err refusal) (Ok next) = (refusal ≡ refusals.NoMemory no_memory) × Stays old new
 IsStepped old new (Ok done) (Err said) = ⊥
 
 -- An edit is prepared where the step accepts it, and refused for the step's reason, or for want of memory
@@ -26,7 +27,7 @@ IsStepped old new (Ok done) (Err said) = ⊥
 abbrev pub IsPrepared : {P : Type 0} → Result P Refusal → Stepped → Type 0
 IsPrepared (Ok prepared) (Ok next) = Unit {0}
 IsPrepared (Err refusal) (Err said) = refusal ≡ said
-IsPrepared (Err refusal) (Ok next) = refusal ≡ refusals.NoMemory
+IsPrepared (Err refusal) (Ok next) = refusal ≡ refusals.NoMemory no_memory
 IsPrepared (Ok prepared) (Err said) = ⊥
 
 -- what was prepared is done: the answer is the step's, and the lists spell the state that it leads to

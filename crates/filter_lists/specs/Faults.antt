@@ -13,4 +13,4 @@ refusal_for kind index faults.ActionExists = refusals.ActionExists
 refusal_for kind index (faults.ActionBound binds) = refusals.ActionBound binds
 refusal_for kind index faults.ActionsFull = refusals.ActionsFull
 refusal_for kind index faults.CountersFull = refusals.CountersFull
-refusal_for kind index faults.NoMemory = refusals.NoMemory
+refusal_for kind index (faults.NoMemory memory) = refusals.NoMemory memory

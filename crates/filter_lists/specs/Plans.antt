@@ -16,6 +16,7 @@ use Rattle.filter_lists.specs.OfReplacing.Replacements as replacements
 use Rattle.filter_lists.specs.OfRemoving.Removals as removals
 use Rattle.filter_lists.specs.declared.plan.Plan.{Plan}
 use Rattle.filter_lists.specs.declared.plan.Plan.TheVariants as plans
+use Rattle.tc_base.specs.Memory.{no_memory}
 
 -- the registry would make the action, and has room for it
 pub record MayMake (kept : Kept) (params : Params) (index : Option ℕ) : Type 0 where
@@ -54,4 +55,4 @@ Leads kept (plans.DelAction kind index) stepped =
 abbrev pub IsPlanned : Kept → Result Plan Refusal → Stepped → Type 0
 IsPlanned kept (Ok plan) stepped = Leads kept plan stepped
 IsPlanned kept (Err refusal) (Err said) = refusal ≡ said
-IsPlanned kept (Err refusal) (Ok next) = refusal ≡ refusals.NoMemory
+IsPlanned kept (Err refusal) (Ok next) = refusal ≡ refusals.NoMemory no_memory

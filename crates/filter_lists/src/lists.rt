@@ -93,6 +93,9 @@ impl Lists {
 
     /// Whether `step` and `prepare` may be called: fewer than 4,294,967,295 tables were made so far, and as
     /// few masks.
+    ///
+    /// No command calls it, since its own limit of lines says so: it carries the law that these two numbers
+    /// are all that an edit asks of lists.
     pub fn may_step(&self) -> bool
         ensures { IsTrue result → MayStep self.now }
     {

@@ -131,10 +131,8 @@ fn plan_make(kept: &mut Kept, params: Params, index: Option<u32>) -> Result<Plan
         Ok(()) => {}
         Err(fault) => return Err(refusal_for(fault, params.kind(), 0)),
     }
-    match kept.actions.reserve(1) {
-        Ok(()) => Ok(Plan::MakeAction { index, params }),
-        Err(_) => Err(Refusal::NoMemory),
-    }
+    kept.actions.reserve(1)?;
+    Ok(Plan::MakeAction { index, params })
 }
 
 // The refusal of an edit that names that kind and index, where the registry refused.
@@ -147,6 +145,6 @@ fn refusal_for(fault: RegistryFault, kind: Kind, index: u32) -> Refusal
         RegistryFault::ActionBound { binds } => Refusal::ActionBound { binds },
         RegistryFault::ActionsFull => Refusal::ActionsFull,
         RegistryFault::CountersFull => Refusal::CountersFull,
-        RegistryFault::NoMemory => Refusal::NoMemory,
+        RegistryFault::NoMemory(memory) => Refusal::NoMemory(memory),
     }
 }

@@ -59,13 +59,13 @@ pub enum Refusal {
     ActionsFull,
     /// 16,384 actions are made at most in a run.
     CountersFull,
-    NoMemory,
+    NoMemory(NoMemory),
 }
 
 impl From<NoMemory> for Refusal {
-    ghost from_gives = { λ _ e. e ≡ refusals.NoMemory };
+    ghost from_gives = { λ memory e. e ≡ refusals.NoMemory memory };
 
-    fn from(_: NoMemory) -> Self {
-        Refusal::NoMemory
+    fn from(memory: NoMemory) -> Self {
+        Refusal::NoMemory(memory)
     }
 }

@@ -84,7 +84,7 @@ pub fn row(field: u32) -> FieldRow
     rows()[field as usize]
 }
 
-// The place of the first row with that name.
+// The place of the first row with that name, for `field_of` alone.
 fn place_of(rows: &[FieldRow], name: &[u8]) -> Option<usize>
     ensures { result ≡ position (λ row. has_name name.now (field_of_row row)) rows.now }
 {
@@ -92,6 +92,8 @@ fn place_of(rows: &[FieldRow], name: &[u8]) -> Option<usize>
 }
 
 /// The number of the field with that name. `None` exactly where no field has it.
+///
+/// No command calls it: it carries the law that the table names each field as its definition does.
 pub fn field_of(name: &[u8]) -> Option<u32>
     ensures number { result ≡ field_named name.now }
     ensures below { IfSome result (λ field. field < 20) }

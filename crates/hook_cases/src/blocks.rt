@@ -2,12 +2,13 @@
 use crate::same::same;
 use act_kinds::{Control, Params, VlanOp};
 use block_codec::{
-    read_action, read_filter, read_mask, read_table, write_action, write_filter, write_mask,
+    StoredFilter, read_action, read_mask, read_table, write_action, write_filter, write_mask,
     write_table,
 };
+use flow_fields::Key;
 use std::test::Fail;
 use tc_base::Proto;
-use visit_room::{ActionName, MaskName};
+use visit_room::{ActionName, Hit, MaskName};
 
 // 2^32, with which a number in the high half of a word counts.
 const HIGH: u64 = 1 << 32;
@@ -23,7 +24,7 @@ fn block_of(named: &[u64]) -> [u64; 40] {
 }
 
 #[test]
-fn filter(rt: HostRuntime) -> Result<(), Fail> {
+fn filter(rt: HostRuntime) {
     let words = block_of(&[
         1,
         7,
@@ -45,31 +46,22 @@ fn filter(rt: HostRuntime) -> Result<(), Fail> {
         5 + 2 * HIGH,
         16_384 + 2_047 * HIGH,
     ]);
-    let Some((stored, link)) = read_filter(&words) else {
-        return Err(Fail::new("no filter"));
+    let mut actions = Hit::new();
+    actions.push(ActionName { serial: 5, slot: 2 });
+    actions.push(ActionName {
+        serial: 16_384,
+        slot: 2_047,
+    });
+    let stored = StoredFilter {
+        handle: 7,
+        key: Key {
+            words: [10, 11, 12, 13, 14, 15, 16, 17, 18, 19, 20, 21, 22, 23],
+        },
+        actions,
     };
-    same(&rt, (stored.handle, link), (7, Some(8)));
-    same(
-        &rt,
-        stored.key.words,
-        [10, 11, 12, 13, 14, 15, 16, 17, 18, 19, 20, 21, 22, 23],
-    );
-    same(
-        &rt,
-        stored.actions.actions(),
-        [
-            ActionName { serial: 5, slot: 2 },
-            ActionName {
-                serial: 16_384,
-                slot: 2_047,
-            },
-        ]
-        .as_slice(),
-    );
-    let mut again = [1; 40];
-    write_filter(&stored, link, &mut again);
-    same(&rt, again, words);
-    Ok(())
+    let mut written = [1; 40];
+    write_filter(&stored, Some(8), &mut written);
+    same(&rt, written, words);
 }
 
 #[test]

@@ -1,11 +1,11 @@
-//! Numbers that threads draw, and totals of what they count.
+//! Numbers that threads draw.
 ghost use Rattle.std.specs.Prelude.{◌≡◌, ◌<◌, ◌≤◌, [], length};
 
 use crate::same::same;
 use std::alloc::{AllocError, Global};
 use std::test::Fail;
 use std::thread::{Threads, join};
-use step_counts::{ClaimSeat, Claims, CounterSeat, Counters, make_claims, make_counters};
+use step_counts::{ClaimSeat, Claims, make_claims};
 
 // As many numbers as each thread draws.
 const DRAWN: usize = 50;
@@ -78,65 +78,5 @@ fn threads_draw_each_number_once(rt: HostRuntime) -> Result<(), Fail> {
     for (at, number) in numbers.iter().enumerate() {
         same(&rt, *number, at as u64);
     }
-    Ok(())
-}
-
-// Counts 50 executions of the first serial on frames of this length, and 50 of the last on frames of 9,000
-// bytes.
-fn add_all(counters: &Counters, mut seat: CounterSeat, length: u32) -> CounterSeat
-    requires { seat.making ≡ counters.now }
-    ensures { result.making ≡ counters.now }
-{
-    for _ in 0..50 {
-        counters.add(&mut seat, 1, length);
-        counters.add(&mut seat, 16_384, 9_000);
-    }
-    seat
-}
-
-// The same on two threads at once.
-fn add_twice<R: Threads + Sync>(
-    rt: &R,
-    counters: &Counters,
-    one: CounterSeat,
-    two: CounterSeat,
-    lengths: (u32, u32),
-) -> (CounterSeat, CounterSeat)
-    requires one { one.making ≡ counters.now }
-    requires two { two.making ≡ counters.now }
-    ensures one { result.0.making ≡ counters.now }
-    ensures two { result.1.making ≡ counters.now }
-{
-    join(
-        rt,
-        || add_all(counters, one, lengths.0),
-        || add_all(counters, two, lengths.1),
-    )
-}
-
-// Whatever the schedule, the totals are the sums over four threads.
-#[test]
-fn threads_add_up(rt: HostRuntime) -> Result<(), Fail> {
-    let (counters, mut seats) = make_counters(rt.alloc(), 4)?;
-    let (Some(a), Some(b), Some(c), Some(d)) = (
-        seats.take(),
-        seats.take(),
-        seats.take(),
-        seats.take(),
-    ) else {
-        return Err(Fail::from("a seat is missing"));
-    };
-    assert!(rt; seats.take().is_none(), "a fifth seat");
-    let ((mut one, two), (three, four)) = join(
-        &rt,
-        || add_twice(&rt, &counters, a, b, (60, 64)),
-        || add_twice(&rt, &counters, c, d, (1500, 0)),
-    );
-    counters.give_back(&mut one, two);
-    counters.give_back(&mut one, three);
-    counters.give_back(&mut one, four);
-    same(&rt, counters.totals(&mut one, 1), (200, 81_200));
-    same(&rt, counters.totals(&mut one, 2), (0, 0));
-    same(&rt, counters.totals(&mut one, 16_384), (200, 1_800_000));
     Ok(())
 }

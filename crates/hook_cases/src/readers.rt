@@ -2,11 +2,12 @@
 ghost use Rattle.std.specs.Prelude.{◌≡◌, ◌<◌, ◌^◌};
 ghost use Rattle.pin_store.specs.Calls.{pin_of, IsInside, IsOutside, IsSeatOf};
 
-use block_codec::places::{BLOCK_WORDS, BLOCKS, READERS, ROOTS};
+use block_codec::places::{BLOCK_WORDS, BLOCKS, READERS};
 use hook_reader::{HookReader, HookReceipt, Walking};
 use hook_store_law::{HookLaw, HookStore};
 use pin_store::{Shape, make_store};
 use std::test::Fail;
+use store_history::places::ROOTS;
 use tc_base::{Hook, Point};
 use visit_room::HeadRoom;
 use walk_steps::Visits;

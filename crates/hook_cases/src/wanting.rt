@@ -176,12 +176,12 @@ fn edit(
     let edits = editor.desk.journal_len();
     let mut answer = editor.step(line)?;
     let mut is_like = true;
-    if let Err(ApplyFault::Refused(Refusal::NoMemory)) = answer {
+    if let Err(ApplyFault::Refused(Refusal::NoMemory(_))) = answer {
         is_like = plain.is_like(editor, outside, edits)?;
         answer = editor.step(line)?;
     }
     let said = step(&mut plain.lists, line)?;
-    if let Err(Refusal::NoMemory) = said {
+    if let Err(Refusal::NoMemory(_)) = said {
         return Err(Trouble::NoMemory);
     }
     if said.is_err() || !is_alike(&answer, &said) {

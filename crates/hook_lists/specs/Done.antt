@@ -10,6 +10,7 @@ use Rattle.filter_tables.specs.Rows.{all_rows, BothWhole}
 use Rattle.hook_lists.specs.declared.kept.Kept.{Kept}
 use Rattle.hook_lists.specs.States.{both_of, state_of}
 use Rattle.hook_lists.specs.Steps.{IsRoomier}
+use Rattle.tc_base.specs.Memory.{no_memory}
 
 -- the state is the one that the step leads to, the answer is the step's, the tables are whole, and the
 -- filters are counted
@@ -24,5 +25,5 @@ pub record IsDone (kept : Kept) (done : Done) (next : State) (said : Done) : Typ
 abbrev pub IsDoneAtOnce : Kept → Kept → Result Done Refusal → Stepped → Type 0
 IsDoneAtOnce old new (Ok done) (Ok (next, said)) = IsDone new done next said
 IsDoneAtOnce old new (Err refusal) (Err said) = (refusal ≡ said) × IsRoomier old new
-IsDoneAtOnce old new (Err refusal) (Ok next) = (refusal ≡ refusals.NoMemory) × IsRoomier old new
+IsDoneAtOnce old new (Err refusal) (Ok next) = (refusal ≡ refusals.NoMemory no_memory) × IsRoomier old new
 IsDoneAtOnce old new (Ok done) (Err said) = ⊥

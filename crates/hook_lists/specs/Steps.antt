@@ -7,6 +7,7 @@ use Rattle.filter_state.specs.Steps.{Stepped}
 use Rattle.action_plan.specs.declared.planned.PlannedAction.{PlannedAction}
 use Rattle.action_plan.specs.Plans.{made_of, AreFit, made_by}
 use Rattle.hook_lists.specs.declared.kept.Kept.{Kept}
+use Rattle.tc_base.specs.Memory.{no_memory}
 
 -- the refusal that a check answered
 abbrev pub refusal_of : {T : Type 0} → Result T Refusal → Option Refusal
@@ -45,5 +46,5 @@ pub record SameTables (old new : Kept) : Type 0 where
 abbrev pub IsPrepared : {P : Type 0} → Result P Refusal → Stepped → Type 0
 IsPrepared (Ok prepared) (Ok next) = Unit {0}
 IsPrepared (Err refusal) (Err said) = refusal ≡ said
-IsPrepared (Err refusal) (Ok next) = refusal ≡ refusals.NoMemory
+IsPrepared (Err refusal) (Ok next) = refusal ≡ refusals.NoMemory no_memory
 IsPrepared (Ok prepared) (Err said) = ⊥

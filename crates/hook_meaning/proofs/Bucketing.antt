@@ -24,6 +24,7 @@ use Rattle.hook_law.specs.Telling.{Tells}
 use Rattle.hook_law.specs.Keeping.{Keeps}
 use Rattle.hook_law.specs.Slots.{slotted}
 use Rattle.store_history.proofs.Lists.{some_is}
+use Rattle.store_history.specs.declared.places.TheConstants.{ROWS}
 use Rattle.hook_law.proofs.Points.{tells_all}
 use Rattle.hook_law.proofs.Pushing.{last_at_end}
 use Rattle.hook_law.proofs.Slots.{bucket_slotted}
@@ -60,7 +61,7 @@ in_bucket h size bucket (f ∷ fs) = at (hash_of f.key % size == bucket) (in_buc
 
 -- ---- the row of a bucket
 row_there : (mask : StoredMask) (bucket : ℕ) → IsWithin mask → bucket < mask.size
-    → (slice_get mask.rows (bucket / 16) ≡ Some (slice_index mask.rows (bucket / 16))) × (slice_index mask.rows (bucket / 16) < 8192)
+    → (slice_get mask.rows (bucket / 16) ≡ Some (slice_index mask.rows (bucket / 16))) × (slice_index mask.rows (bucket / 16) < ROWS)
 row_there mask bucket is less = let rows = is.rows in let inside : bucket / 16 < length mask.rows = omega arith in
     (slice_get-get_or mask.rows (bucket / 16) 0 inside, is.small (bucket / 16) 0 inside)
 

@@ -6,5 +6,7 @@ pub mod Counting
 pub mod Masking
 pub mod Bucketing
 pub mod Matching
-pub mod OfEffects
-pub mod OfMaskAnswers
+pub use Rattle.edit_effects.proofs.OfEffects
+pub use Rattle.edit_effects.proofs.OfMaskAnswers
+pub mod OfEdits
+pub mod OfVisits

@@ -5,7 +5,7 @@ use Rattle.store_history.specs.declared.history.Commit.{Commit}
 use Rattle.store_history.specs.History.{root_of, edits_of}
 use Rattle.filter_state.specs.declared.edit.Edit.{Edit}
 use Rattle.filter_state.specs.States.{State}
-use Rattle.hook_meaning.specs.OfEffects.Parts.{words_of}
+use Rattle.edit_effects.specs.OfEffects.Parts.{words_of}
 use Rattle.flow_mask.specs.Sizes.{size_of}
 use Rattle.block_codec.specs.OfReadings.Read.{mask_of_words}
 use Rattle.hook_law.specs.Records.{MaskRecord}

@@ -11,7 +11,7 @@ use Rattle.filter_state.specs.Order.{of_mask}
 use Rattle.filter_state.specs.Sound.{Each, EachPair, GoTogether}
 use Rattle.filter_state.proofs.Pairs.{pairs_filter, each_passing}
 use Rattle.filter_state.proofs.Places.{each_at, pair_at}
-use Rattle.hook_meaning.specs.OfEffects.Parts.{filter_of, filters_of}
+use Rattle.edit_effects.specs.OfEffects.Parts.{filter_of, filters_of}
 use Rattle.block_codec.specs.declared.filter.StoredFilter.{StoredFilter}
 use Rattle.hook_law.specs.Keeping.{Keeps}
 use Rattle.hook_meaning.specs.Stated.{filter_stated, filters_at, hook_meaning}

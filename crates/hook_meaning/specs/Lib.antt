@@ -1,5 +1,8 @@
 pub mod Stated
 pub mod Blocks
 pub mod Told
-pub mod OfEffects
-pub mod OfMaskAnswers
+pub use Rattle.edit_effects.specs.OfEffects
+pub use Rattle.edit_effects.specs.OfMaskAnswers
+pub mod Kept
+pub mod OfEdits
+pub mod OfVisits

@@ -12,7 +12,7 @@ use Rattle.filter_state.specs.Actions.{has_serial}
 use Rattle.filter_state.specs.Tables.{first_where}
 use Rattle.filter_state.specs.Steps.{step}
 use Rattle.filter_state.specs.Journals.{state_after, IsLawful}
-use Rattle.hook_meaning.specs.OfEffects.Parts.{Filter, filters_of, words_of}
+use Rattle.edit_effects.specs.OfEffects.Parts.{Filter, filters_of, words_of}
 use Rattle.walk_rules.specs.Questions.{Head}
 use Rattle.walk_rules.specs.Heads.{heads_on}
 use Rattle.hook_law.specs.Records.{StatedTable, StatedFilter}

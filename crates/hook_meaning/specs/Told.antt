@@ -8,7 +8,7 @@ use Rattle.store_history.specs.History.{edits_of}
 use Rattle.filter_state.specs.declared.edit.Edit.{Edit}
 use Rattle.filter_state.specs.States.{State}
 use Rattle.filter_state.specs.Journals.{state_at}
-use Rattle.hook_meaning.specs.OfEffects.Parts.{words_of}
+use Rattle.edit_effects.specs.OfEffects.Parts.{words_of}
 use Rattle.walk_rules.specs.Questions.{Head}
 use Rattle.walk_rules.specs.Heads.{heads_on}
 use Rattle.block_codec.specs.declared.filter.StoredFilter.{StoredFilter}

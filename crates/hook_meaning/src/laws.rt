@@ -5,7 +5,7 @@ ghost use Rattle.filter_state.specs.declared.edit.Edit.{Edit};
 ghost use Rattle.filter_state.specs.States.{State};
 ghost use Rattle.filter_state.specs.Journals.{state_at};
 ghost use Rattle.filter_state.specs.Sound.{Sound};
-ghost use Rattle.hook_meaning.specs.OfEffects.Parts.{params_at};
+ghost use Rattle.edit_effects.specs.OfEffects.Parts.{params_at};
 ghost use Rattle.hook_law.specs.Meaning as law;
 ghost use Rattle.hook_law.specs.Keeping.{Keeps};
 ghost use Rattle.hook_meaning.specs.Stated.{ActionTerms, action_at, hook_meaning};

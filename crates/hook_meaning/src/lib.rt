@@ -15,27 +15,31 @@
 //!
 //! A law of `hook_law` speaks of one root after some commits. Whoever reads the store asks for what `MaskLaw`
 //! and `HeadLaw` say, in the types of blocks and of visits. The lemmas in `proofs/` lead from the one to the
-//! other, and the crate that states the law of the store takes them as they are. They stand below it, since
-//! the items of a law can only cite proofs of another crate.
+//! other, and `hook_store_law`, which makes of them a type that a store keeps, takes them as they are. It
+//! stands above, since the items of a law can only cite proofs of another crate, and passes on all modules of
+//! this one: whoever keeps such a store names that crate alone.
 //!
 //! The filters of a bucket are the state's, slots and all, since a bucket's root still holds what it held at
 //! a time at which the bucket stood. That a hook has 256 tables at most, and that no two filters of a mask
 //! have one key, follows from the soundness of every state that lawful edits lead to.
 //!
-//! `effects` is of plain states alone, and knows nothing of a store: what a state has of one mask and of one
-//! action, and what each kind of edit changes of it.
+//! What a state has of one mask and of one action, and what each kind of edit changes of it, is said below,
+//! of plain states alone (`edit_effects`).
 //!
-//! `mask_answers` says that a search of one mask's filters finds what the plain state answers.
+//! `KeepsHook` (`specs/Kept.antt`) is what the commits of a hook's store keep: the law at these terms, and
+//! that the stamps of each root rise. `edits` says of each kind of edit that it meets what the law asks about
+//! the states before and after its commit. `visits` leads from what a reader loads to the answers of the plain
+//! state.
 //!
 //! Nothing here has code: the functions do nothing, and any thread may call them. Not promised: that an
 //! edit's commits meet the premises of their kind, which whoever makes them has to show; and that an action's
 //! root is read at all, for which no call stands here.
 #![tactic(auto)]
 
-pub mod effects;
+pub mod edits;
 mod laws;
-pub mod mask_answers;
 mod terms;
+pub mod visits;
 
 pub use laws::{actions_have_their_parameters, opens_at_nothing, states_stay_sound};
 pub use terms::HookTerms;

@@ -5,6 +5,7 @@ use Rattle.std.proofs.lemmas.Option.{none-some, same_Some}
 use Rattle.store_history.specs.declared.history.Commit.{Commit}
 use Rattle.store_history.specs.History.{root_of}
 use Rattle.store_history.specs.Reads.{read_first}
+use Rattle.store_history.specs.declared.places.TheConstants.{MASK_SLOTS}
 use Rattle.pin_store.specs.Calls.{seen_by, floor_start, IsSameReader}
 use Rattle.filter_state.specs.declared.edit.Edit.{Edit}
 use Rattle.visit_room.specs.declared.names.ActionName.{ActionName}
@@ -18,9 +19,9 @@ use Rattle.walk_rules.specs.Answers.{answer_of}
 use Rattle.hook_law.specs.Places.{action_root}
 use Rattle.hook_law.specs.Meaning.{point_of}
 use Rattle.hook_law.specs.Keeping.{Keeps}
-use Rattle.hook_meaning.specs.Stated.{hook_meaning}
-use Rattle.hook_meaning.specs.Blocks.{hook_codec}
-use Rattle.hook_meaning.specs.Told.{state_after_edits}
+use Rattle.hook_store_law.specs.Stated.{hook_meaning}
+use Rattle.hook_store_law.specs.Blocks.{hook_codec}
+use Rattle.hook_store_law.specs.Told.{state_after_edits}
 use Rattle.hook_store_law.proofs.OfVisits.Actions.{action_answered}
 use Rattle.hook_reader.specs.Seats.{HookSeat, IsReading}
 use Rattle.hook_reader.specs.Known.{KnowsAction}
@@ -68,4 +69,4 @@ module _ (old new : HookSeat) (is : IsReading old) (longer : IsPrefix (seen_by o
     pub act_reading : new.head ≡ old.head → new.points ≡ old.points → IsReading new
     act_reading head points = let grown : old.latest ≤ new.latest = omega (arith, latest) in
         reading old new is longer same point latest act_reached (heads_still old new is longer same grown head)
-        (subst (λ (ps : List ℕ). Rattle.std.proofs.Common.length ps ≡ 8192) (sym points) is.wide) (points_still old new is longer same grown points)
+        (subst (λ (ps : List ℕ). Rattle.std.proofs.Common.length ps ≡ MASK_SLOTS) (sym points) is.wide) (points_still old new is longer same grown points)

@@ -14,15 +14,15 @@ use Rattle.filter_state.specs.declared.edit.Edit.{Edit}
 use Rattle.block_codec.specs.declared.table.StoredTable.{StoredTable}
 use Rattle.block_codec.specs.OfReadings.Read.{table_in}
 use Rattle.miniq_pair.specs.Heads.{plain, told_of, head_root, HeadTold}
-use Rattle.hook_meaning.proofs.Heading.{heads_most}
+use Rattle.hook_store_law.proofs.Heading.{heads_most}
 use Rattle.std.proofs.lemmas.List.{length-map}
 use Rattle.miniq_pair.proofs.Putting as putting
 use Rattle.root_word_laws.specs.Words.{StampsRise}
 use Rattle.root_word_laws.proofs.Words.{one_stamp}
 use Rattle.hook_law.specs.Keeping.{Keeps}
-use Rattle.hook_meaning.specs.Stated.{hook_meaning}
-use Rattle.hook_meaning.specs.Blocks.{hook_codec}
-use Rattle.hook_meaning.specs.Told.{heads_after}
+use Rattle.hook_store_law.specs.Stated.{hook_meaning}
+use Rattle.hook_store_law.specs.Blocks.{hook_codec}
+use Rattle.hook_store_law.specs.Told.{heads_after}
 use Rattle.hook_store_law.proofs.OfVisits.Heads.{kept_told}
 use Rattle.tc_base.specs.declared.hook.Hook.TheVariants as hooks
 use Rattle.hook_reader.specs.KeptHeads.{Kept, IsKept, KeepsHeads}

@@ -14,7 +14,7 @@ use Rattle.visit_room.specs.declared.table_head.TableHead.{TableHead}
 use Rattle.walk_steps.specs.Told.{MasksKnown}
 use Rattle.mask_table.specs.Told.{edits_by}
 use Rattle.hook_law.specs.Meaning.{point_of}
-use Rattle.hook_meaning.specs.Told.{stands_at}
+use Rattle.hook_store_law.specs.Told.{stands_at}
 use Rattle.hook_store_law.specs.OfVisits.Known.{MaskStood}
 use Rattle.hook_reader.specs.Seats.{FirstHead, HookSeat, IsHeadOf, IsReading}
 use Rattle.hook_reader.specs.Known.{KnowsMask, KnowsAction}

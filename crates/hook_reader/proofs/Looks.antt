@@ -15,14 +15,14 @@ use Rattle.visit_room.specs.declared.names.ActionName.{ActionName}
 use Rattle.visit_room.specs.declared.names.MaskName.{MaskName}
 use Rattle.hook_law.specs.Meaning.{point_of}
 use Rattle.hook_law.specs.Keeping.{Keeps}
-use Rattle.hook_meaning.specs.Stated.{hook_meaning}
-use Rattle.hook_meaning.specs.Blocks.{hook_codec}
+use Rattle.hook_store_law.specs.Stated.{hook_meaning}
+use Rattle.hook_store_law.specs.Blocks.{hook_codec}
 use Rattle.hook_store_law.specs.OfVisits.Known.{MaskStood, ActionLived}
 use Rattle.hook_store_law.proofs.OfVisits.Names.{one_mask, edits_all}
 use Rattle.hook_reader.specs.Seats.{FirstHead, HookSeat, IsReading}
 use Rattle.hook_reader.specs.Known.{KnowsMask, KnowsAction}
 use Rattle.hook_reader.specs.Told.{head_point}
-use Rattle.hook_meaning.specs.Told.{state_after_edits, stands_at, words_after, filters_after}
+use Rattle.hook_store_law.specs.Told.{state_after_edits, stands_at, words_after, filters_after}
 use Rattle.hook_store_law.proofs.OfVisits.Looks.{mask_known, look_answered, actions_known}
 use Rattle.mask_table.specs.Told.{LookedUp}
 use Rattle.flow_fields.specs.Values.{values_of}
@@ -31,6 +31,7 @@ use Rattle.walk_rules.specs.Answers.{answer_of}
 use Rattle.walk_steps.specs.Told.{filter_told}
 use Rattle.store_history.specs.History.{edits_of}
 use Rattle.store_history.proofs.Histories.{prefix_length, prefix_take}
+use Rattle.store_history.specs.declared.places.TheConstants.{MASK_SLOTS}
 use Rattle.hook_reader.proofs.Visits.{mask_kept, named_kept, reading, heads_still}
 
 -- the greatest point that a mask's name has to reach
@@ -70,7 +71,7 @@ module _ (old new : HookSeat) (longer : IsPrefix (seen_by old.place) (seen_by ne
 
 -- ---- what it leaves
 module _ (old new : HookSeat) (is : IsReading old) (longer : IsPrefix (seen_by old.place) (seen_by new.place)) (same : IsSameReader old.place new.place)
-    (keeps : Keeps hook_meaning hook_codec (seen_by new.place) (floor_start new.place)) (mask : MaskName) (known : KnowsMask old mask) (small : mask.slot < 8192)
+    (keeps : Keeps hook_meaning hook_codec (seen_by new.place) (floor_start new.place)) (mask : MaskName) (known : KnowsMask old mask) (small : mask.slot < MASK_SLOTS)
     (loaded point : ℕ) (point_is : point ≡ max loaded (max (head_point old.head) (slice_index old.points mask.slot)))
     (stood : MaskStood (seen_by new.place) (floor_start new.place) point mask.slot mask.serial)
     (latest : new.latest ≡ max old.latest point) (head : new.head ≡ old.head) (points : new.points ≡ slice_set old.points mask.slot point) where

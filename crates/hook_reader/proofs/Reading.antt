@@ -8,6 +8,7 @@ use Rattle.atomic_table.specs.declared.shared.Seat.{Seat}
 use Rattle.store_history.specs.declared.history.Commit.{Commit}
 use Rattle.store_history.specs.History.{edits_of}
 use Rattle.store_history.proofs.Histories.{prefix_length, prefix_take}
+use Rattle.store_history.specs.declared.places.TheConstants.{MASK_SLOTS}
 use Rattle.pin_store.specs.declared.view.View.{View}
 use Rattle.pin_store.specs.Calls.{seen_by, floor_start, floor_of, start_in}
 use Rattle.filter_state.specs.declared.edit.Edit.{Edit}
@@ -30,23 +31,23 @@ pub start_none : (p : Place) → floor_of p ≡ None → floor_start p ≡ 0
 start_none p none = ap start_in none
 
 -- ---- before a walk, into it and out
-pub new_reading : (p : Place) (points : List ℕ) → floor_of p ≡ None → points ≡ replicate 8192 0 → IsReading (record { place = p; visits = 0; latest = 0; head = None; points = points })
+pub new_reading : (p : Place) (points : List ℕ) → floor_of p ≡ None → points ≡ replicate MASK_SLOTS 0 → IsReading (record { place = p; visits = 0; latest = 0; head = None; points = points })
 new_reading p points none empty = let start = start_none p none in record {
   recent = omega (arith, start);
   late = omega arith;
   head = tt;
-  wide = ap length empty ∙ length-replicate {A = ℕ} 8192 0;
-  each = subst (All (λ point. point ≤ 0)) (sym empty) (All-replicate (λ point. point ≤ 0) 8192 0 (omega arith));
+  wide = ap length empty ∙ length-replicate {A = ℕ} MASK_SLOTS 0;
+  each = subst (All (λ point. point ≤ 0)) (sym empty) (All-replicate (λ point. point ≤ 0) MASK_SLOTS 0 (omega arith));
 }
 
-pub entered_reading : (p q : Place) (visits latest : ℕ) (points : List ℕ) → IsPrefix (seen_by p) (seen_by q) → floor_start q ≤ length (seen_by q) → latest ≤ point_of (seen_by p) → points ≡ replicate 8192 0
+pub entered_reading : (p q : Place) (visits latest : ℕ) (points : List ℕ) → IsPrefix (seen_by p) (seen_by q) → floor_start q ≤ length (seen_by q) → latest ≤ point_of (seen_by p) → points ≡ replicate MASK_SLOTS 0
     → IsReading (record { place = q; visits = visits; latest = latest; head = None; points = points })
 entered_reading p q visits latest points longer recent late empty = let on = point_longer (seen_by p) (seen_by q) longer in record {
   recent = recent;
   late = omega (arith, on, late);
   head = tt;
-  wide = ap length empty ∙ length-replicate {A = ℕ} 8192 0;
-  each = subst (All (λ point. point ≤ latest)) (sym empty) (All-replicate (λ point. point ≤ latest) 8192 0 (omega arith));
+  wide = ap length empty ∙ length-replicate {A = ℕ} MASK_SLOTS 0;
+  each = subst (All (λ point. point ≤ latest)) (sym empty) (All-replicate (λ point. point ≤ latest) MASK_SLOTS 0 (omega arith));
 }
 
 -- a reader that has left, or learnt, without a floor

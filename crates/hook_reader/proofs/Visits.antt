@@ -4,12 +4,13 @@ use Rattle.std.specs.Prelude.{All}
 use mathlib.Core.List.{IsPrefix}
 use Rattle.store_history.specs.declared.history.Commit.{Commit}
 use Rattle.store_history.proofs.Histories.{prefix_length, prefix_take}
+use Rattle.store_history.specs.declared.places.TheConstants.{MASK_SLOTS}
 use Rattle.pin_store.specs.Calls.{seen_by, floor_start, start_in, IsSameReader}
 use Rattle.filter_state.specs.declared.edit.Edit.{Edit}
 use Rattle.visit_room.specs.declared.names.ActionName.{ActionName}
 use Rattle.visit_room.specs.declared.names.MaskName.{MaskName}
 use Rattle.hook_law.specs.Meaning.{point_of}
-use Rattle.hook_meaning.specs.Told.{stands_at}
+use Rattle.hook_store_law.specs.Told.{stands_at}
 use Rattle.hook_store_law.specs.OfVisits.Known.{MaskStood, ActionLived}
 use Rattle.hook_store_law.proofs.OfVisits.Names.{mask_longer, action_longer}
 use Rattle.hook_reader.specs.Seats.{FirstHead, HookSeat, IsHeadOf, IsReading}
@@ -70,7 +71,7 @@ module _ (old new : HookSeat) (is : IsReading old) (longer : IsPrefix (seen_by o
       pick None all = tt
       pick (Some first) all = head_still grown first all
 
-  pub reading : (point : ℕ) → new.latest ≡ max old.latest point → point ≤ point_of h → IfSome new.head (IsHeadOf new) → length new.points ≡ 8192 → All (λ p. p ≤ new.latest) new.points → IsReading new
+  pub reading : (point : ℕ) → new.latest ≡ max old.latest point → point ≤ point_of h → IfSome new.head (IsHeadOf new) → length new.points ≡ MASK_SLOTS → All (λ p. p ≤ new.latest) new.points → IsReading new
   reading point latest reached head wide each = let late = late_old in record {
     recent = recent_new;
     late = omega (arith, latest, reached, late);
@@ -82,5 +83,5 @@ module _ (old new : HookSeat) (is : IsReading old) (longer : IsPrefix (seen_by o
   pub points_still : old.latest ≤ new.latest → new.points ≡ old.points → All (λ p. p ≤ new.latest) new.points
   points_still grown points = subst (All (λ p. p ≤ new.latest)) (sym points) (λ k d less. let low = is.each k d less in omega (arith, low, grown))
 
-  pub point_at : (slot : ℕ) → slot < 8192 → slice_index old.points slot ≤ old.latest
+  pub point_at : (slot : ℕ) → slot < MASK_SLOTS → slice_index old.points slot ≤ old.latest
   point_at slot small = let wide = is.wide in is.each slot 0 (omega (arith, wide, small))

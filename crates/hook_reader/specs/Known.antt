@@ -3,7 +3,7 @@ use Rattle.std.specs.Prelude.{◌≡◌, true, take, max, slice_index, Some}
 use Rattle.pin_store.specs.Calls.{seen_by, floor_start}
 use Rattle.visit_room.specs.declared.names.ActionName.{ActionName}
 use Rattle.visit_room.specs.declared.names.MaskName.{MaskName}
-use Rattle.hook_meaning.specs.Told.{stands_at}
+use Rattle.hook_store_law.specs.Told.{stands_at}
 use Rattle.hook_store_law.specs.OfVisits.Known.{MaskStood, ActionLived}
 use Rattle.hook_reader.specs.Seats.{FirstHead, HookSeat}
 

@@ -1,5 +1,5 @@
 -- A reader of a hook's store, as contracts see it (this project's own).
-use Rattle.block_codec.specs.declared.places.TheConstants.{MASK_SLOTS}
+use Rattle.store_history.specs.declared.places.TheConstants.{MASK_SLOTS}
 use Rattle.std.specs.Prelude.{◌≡◌, ℕ, ◌≤◌, Bool, List, length, Option, IfSome, All}
 use Rattle.std.specs.Option.{option_map}
 use Rattle.atomic_table.specs.declared.shared.Seat.{Seat}

@@ -12,9 +12,9 @@ use Rattle.miniq_pair.specs.Heads.{head_root}
 use Rattle.hook_law.specs.Places.{action_root}
 use Rattle.hook_law.specs.Meaning.{point_of}
 use Rattle.hook_law.specs.Keeping.{Keeps}
-use Rattle.hook_meaning.specs.Stated.{hook_meaning}
-use Rattle.hook_meaning.specs.Blocks.{hook_codec}
-use Rattle.hook_meaning.specs.Told.{state_after_edits}
+use Rattle.hook_store_law.specs.Stated.{hook_meaning}
+use Rattle.hook_store_law.specs.Blocks.{hook_codec}
+use Rattle.hook_store_law.specs.Told.{state_after_edits}
 use Rattle.hook_reader.specs.Seats.{FirstHead, HookSeat, IsReading}
 use Rattle.hook_reader.specs.Known.{KnowsMask, KnowsAction}
 

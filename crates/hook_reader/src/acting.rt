@@ -9,7 +9,7 @@ use tc_base::Point;
 use visit_room::ActionName;
 
 impl HookReader {
-    ghost use Rattle.block_codec.specs.declared.places.TheConstants.{ROOTS};
+    ghost use Rattle.store_history.specs.declared.places.TheConstants.{ROOTS};
     ghost use Rattle.std.specs.Prelude.{◌≡◌, ◌≤◌, ℕ};
     ghost use Rattle.act_kinds.specs.Acts.{FitsFrames};
     ghost use Rattle.pin_store.specs.Calls.{IsInside, IsSeatOf};

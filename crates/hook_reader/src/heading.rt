@@ -32,7 +32,7 @@ fn note_head(head: &mut Option<HeadSeen>, reader: &Reader<HookLaw>, point: Point
 }
 
 impl HookReader {
-    ghost use Rattle.block_codec.specs.declared.places.TheConstants.{ROOTS};
+    ghost use Rattle.store_history.specs.declared.places.TheConstants.{ROOTS};
     ghost use Rattle.std.specs.Prelude.{◌≡◌, ◌≤◌, ℕ};
     ghost use Rattle.pin_store.specs.Calls.{IsInside, IsSeatOf};
     ghost use Rattle.visit_room.specs.declared.names.MaskName.{MaskName};

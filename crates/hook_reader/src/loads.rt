@@ -1,5 +1,5 @@
 //! The loads of the three visits, which nobody counts here.
-ghost use Rattle.block_codec.specs.declared.places.TheConstants.{ACTION_SLOTS, MASK_SLOTS, ROOTS};
+ghost use Rattle.store_history.specs.declared.places.TheConstants.{ACTION_SLOTS, MASK_SLOTS, ROOTS};
 ghost use Rattle.std.specs.Prelude.{◌≡◌, ◌<◌, ◌≤◌, ◌-◌, ℕ, length, take};
 ghost use Rattle.std.specs.Option.{option_map};
 ghost use mathlib.Core.List.{IsPrefix};
@@ -14,9 +14,9 @@ ghost use Rattle.mask_table.specs.Told.{LookedUp, IsLoadedPoint};
 ghost use Rattle.miniq_pair.specs.Heads.{head_root, HeadTold};
 ghost use Rattle.hook_law.specs.Places.{action_root};
 ghost use Rattle.hook_law.specs.Keeping.{Keeps};
-ghost use Rattle.hook_meaning.specs.Stated.{hook_meaning};
-ghost use Rattle.hook_meaning.specs.Blocks.{hook_codec};
-ghost use Rattle.hook_meaning.specs.Told.{heads_after, stands_at, words_after, filters_after};
+ghost use Rattle.hook_store_law.specs.Stated.{hook_meaning};
+ghost use Rattle.hook_store_law.specs.Blocks.{hook_codec};
+ghost use Rattle.hook_store_law.specs.Told.{heads_after, stands_at, words_after, filters_after};
 ghost use Rattle.kept_records.specs.Keeping.{KeepsRecords};
 
 use act_kinds::Params;

@@ -40,7 +40,7 @@ fn clear_unless(found: bool, into: &mut Hit)
 }
 
 impl HookReader {
-    ghost use Rattle.block_codec.specs.declared.places.TheConstants.{ROOTS};
+    ghost use Rattle.store_history.specs.declared.places.TheConstants.{ROOTS};
     ghost use Rattle.std.specs.Prelude.{◌≡◌, ◌≤◌, ℕ};
     ghost use Rattle.pin_store.specs.Calls.{IsInside, IsSeatOf};
     ghost use Rattle.flow_fields.specs.Values.{values_of};

@@ -51,7 +51,7 @@ impl Model for HookReader {
 }
 
 impl HookReader {
-    ghost use Rattle.block_codec.specs.declared.places.TheConstants.{MASK_SLOTS};
+    ghost use Rattle.store_history.specs.declared.places.TheConstants.{MASK_SLOTS};
     ghost use Rattle.std.specs.Prelude.{◌≡◌, ◌+◌, ◌^◌, ◌<◌, [], max, replicate, None, IfOk};
     ghost use mathlib.Core.List.{IsPrefix};
     ghost use Rattle.pin_store.specs.Calls.{seen_by, number_of, pin_of, floor_of, IsInside, IsOutside};

@@ -1,8 +1,8 @@
 //! The points of a walk's look-ups.
 
-use block_codec::places::MASK_SLOTS;
 use std::alloc::Global;
 use std::marker::Model;
+use store_history::places::MASK_SLOTS;
 use tc_base::{NoMemory, Point};
 
 /// The point of the last look-up at a slot, and the walk that made it.
@@ -27,7 +27,7 @@ pub(crate) struct SlotPoints {
 }
 
 impl Model for SlotPoints {
-    ghost use Rattle.block_codec.specs.declared.places.TheConstants.{MASK_SLOTS};
+    ghost use Rattle.store_history.specs.declared.places.TheConstants.{MASK_SLOTS};
     ghost use Rattle.std.specs.Prelude.{◌≡◌, ◌≤◌, ℕ, List, length, All};
     ghost use Rattle.hook_reader.specs.Marks.{points_in};
 
@@ -40,7 +40,7 @@ impl Model for SlotPoints {
 }
 
 impl SlotPoints {
-    ghost use Rattle.block_codec.specs.declared.places.TheConstants.{MASK_SLOTS};
+    ghost use Rattle.store_history.specs.declared.places.TheConstants.{MASK_SLOTS};
     ghost use Rattle.std.specs.Prelude.{◌≡◌, ◌<◌, length, replicate, slice_index, slice_set, IfOk};
 
     /// Takes the room. No other call takes memory.

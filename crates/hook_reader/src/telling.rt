@@ -1,5 +1,5 @@
 //! A head that is told from what was kept of it, or read.
-ghost use Rattle.block_codec.specs.declared.places.TheConstants.{ROOTS};
+ghost use Rattle.store_history.specs.declared.places.TheConstants.{ROOTS};
 ghost use Rattle.std.specs.Prelude.{◌≡◌, ◌≤◌};
 ghost use mathlib.Core.List.{IsPrefix};
 ghost use Rattle.store_history.specs.History.{root_of};
@@ -7,16 +7,16 @@ ghost use Rattle.pin_store.specs.Calls.{seen_by, floor_start, IsInside, IsSeatOf
 ghost use Rattle.block_chain.specs.Ways.{block_words};
 ghost use Rattle.miniq_pair.specs.Heads.{head_root, HeadTold};
 ghost use Rattle.hook_law.specs.Keeping.{Keeps};
-ghost use Rattle.hook_meaning.specs.Stated.{hook_meaning};
-ghost use Rattle.hook_meaning.specs.Blocks.{hook_codec};
-ghost use Rattle.hook_meaning.specs.Told.{heads_after};
+ghost use Rattle.hook_store_law.specs.Stated.{hook_meaning};
+ghost use Rattle.hook_store_law.specs.Blocks.{hook_codec};
+ghost use Rattle.hook_store_law.specs.Told.{heads_after};
 ghost use Rattle.hook_reader.specs.KeptHeads.{IsKept, KeepsHeads};
 
 use crate::kept_head::KeptHead;
 use crate::loads::{load_word, read_head};
-use block_codec::places::HEAD_ROOTS;
 use hook_store_law::{HookLaw, HookStore};
 use pin_store::Reader;
+use store_history::places::HEAD_ROOTS;
 use tc_base::{Hook, Point};
 use visit_room::HeadRoom;
 

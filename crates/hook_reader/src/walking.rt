@@ -1,5 +1,5 @@
 //! Who answers a walk from the store.
-ghost use Rattle.block_codec.specs.declared.places.TheConstants.{ROOTS};
+ghost use Rattle.store_history.specs.declared.places.TheConstants.{ROOTS};
 ghost use Rattle.std.specs.Prelude.{◌≡◌, ◌≤◌};
 ghost use Rattle.pin_store.specs.Calls.{IsInside, IsSeatOf};
 ghost use Rattle.block_chain.specs.Ways.{block_words};

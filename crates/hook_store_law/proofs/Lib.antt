@@ -1,2 +1,12 @@
-pub mod OfEdits
-pub mod OfVisits
+pub use Rattle.hook_meaning.proofs.Reading
+pub use Rattle.hook_meaning.proofs.States
+pub use Rattle.hook_meaning.proofs.Opening
+pub use Rattle.hook_meaning.proofs.Heading
+pub use Rattle.hook_meaning.proofs.Counting
+pub use Rattle.hook_meaning.proofs.Masking
+pub use Rattle.hook_meaning.proofs.Bucketing
+pub use Rattle.hook_meaning.proofs.Matching
+pub use Rattle.hook_meaning.proofs.OfEffects
+pub use Rattle.hook_meaning.proofs.OfMaskAnswers
+pub use Rattle.hook_meaning.proofs.OfEdits
+pub use Rattle.hook_meaning.proofs.OfVisits

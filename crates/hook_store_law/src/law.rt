@@ -16,7 +16,7 @@ pub type HookStore = Store<HookLaw>;
 impl Law for HookLaw {
     ghost use Rattle.hook_meaning.proofs.Opening.{hook_opens, hook_rises};
     ghost use Rattle.root_word_laws.proofs.Words.{none_rise};
-    ghost use Rattle.hook_store_law.specs.Kept.{KeepsHook};
+    ghost use Rattle.hook_meaning.specs.Kept.{KeepsHook};
 
     type Entry = Edit;
 

@@ -111,7 +111,7 @@ module _ {S : Type 0} (held : S → Option Held) (read_faults : S → ℕ) (fail
     reached = reached_sooner (held old) files more why.batches why.captures why.file why.reached;
     breaks = why.breaks;
   }
-  fails_sooner old new files more statuses.NoMemory why = tt
+  fails_sooner old new files more (statuses.NoMemory memory) why = tt
   fails_sooner old new files more status why = absurd why
 
   pub add_fails_sooner : (old new : S) (loaded : Loaded) (files more : List JobFile) (status : Status)
@@ -142,7 +142,7 @@ module _ {S : Type 0} (held : S → Option Held) (read_faults : S → ℕ) (fail
   )
   fails_later first old new files (statuses.BadInput name place kind) same later why =
       subst (λ (told : Option Held). FilesBreak told files name place kind) same why
-  fails_later first old new files statuses.NoMemory same later why = tt
+  fails_later first old new files (statuses.NoMemory memory) same later why = tt
   fails_later first old new files status same later why = absurd why
 
   -- a fault behind files that were loaded in earlier calls

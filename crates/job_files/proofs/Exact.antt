@@ -359,5 +359,5 @@ module _ {S : Type 0} (held : S → Option Held) (read_faults : S → ℕ) (fail
   due_or_outside old new name (Err (statuses.ReadFault file)) done (reads, inl none) some due is =
       absurd (missing_not_due (held old) name file due is reads none)
   due_or_outside old new name (Err (statuses.ReadFault file)) done (reads, inr failed) some due is = inr failed.0
-  due_or_outside old new name (Err statuses.NoMemory) done why some due is = inr tt
+  due_or_outside old new name (Err (statuses.NoMemory memory)) done why some due is = inr tt
   due_or_outside old new name (Err status) done why some due is = absurd why

@@ -1,4 +1,5 @@
 pub mod Adding
+pub mod Asking
 pub mod Exact
 pub mod Joined
 pub mod Numbers

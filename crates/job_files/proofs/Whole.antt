@@ -38,7 +38,7 @@ module _ {S : Type 0} (held : S → Option Held) (read_faults : S → ℕ) (fail
   own_fails old new name (statuses.ReadFault file) why =
       (inl why.0, subst (ReadFails held read_faults failed_name old new) (sym why.0) why.1)
   own_fails old new name (statuses.BadInput file place kind) why = inl why
-  own_fails old new name statuses.NoMemory why = tt
+  own_fails old new name (statuses.NoMemory memory) why = tt
   own_fails old new name status why = why
 
   job_fails : (old new : S) (name : List ℕ) (job : Job) (status : Status) → HasJobFile (held old) name job
@@ -46,7 +46,7 @@ module _ {S : Type 0} (held : S → Option Held) (read_faults : S → ℕ) (fail
       → JobFails held read_faults failed_name old new name status
   job_fails old new name job (statuses.ReadFault file) says why = (inr (job, says, why.0), why.1)
   job_fails old new name job (statuses.BadInput file place kind) says why = inr (job, says, why)
-  job_fails old new name job statuses.NoMemory says why = tt
+  job_fails old new name job (statuses.NoMemory memory) says why = tt
   job_fails old new name job status says why = why
 
   pub files_fail : (old mid new : S) (name : List ℕ) (job : Job) (rounds : List Round) (loaded : Loaded)

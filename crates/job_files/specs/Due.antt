@@ -20,7 +20,7 @@ CallsFor told job (Err status) = CallsForFailure told job status
 -- a failure to which what is due yields: a read failed, or memory ran out
 abbrev pub IsOutside : {S : Type 0} → (S → ℕ) → S → S → Status → Type 0
 IsOutside read_faults old new (statuses.ReadFault name) = Rose (read_faults old) (read_faults new)
-IsOutside read_faults old new statuses.NoMemory = Unit {0}
+IsOutside read_faults old new (statuses.NoMemory memory) = Unit {0}
 IsOutside read_faults old new status = ⊥
 
 abbrev pub FailedOutside : {S : Type 0} → (S → ℕ) → S → S → Result LoadedJob Status → Type 0

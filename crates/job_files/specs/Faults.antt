@@ -4,8 +4,6 @@ use Rattle.batch_run.specs.declared.limit.TheConstants.{COMMANDS_MAX}
 use Rattle.std.specs.Prelude.{◌≡◌, ◌⊎◌, ℕ, ◌-◌, List, ◌∷◌, ◌++◌, Option}
 use Rattle.tc_base.specs.Outside.{Held}
 use Rattle.pcap_io.specs.declared.capture.Capture.{Capture}
-use Rattle.job_lines.specs.declared.fault.JobFault.{JobFault}
-use Rattle.job_lines.specs.declared.fault.JobFault.TheVariants as job_faults
 use Rattle.job_lines.specs.declared.fault.JobKind.{JobKind}
 use Rattle.job_lines.specs.declared.fault.JobKind.TheVariants as job_kinds
 use Rattle.job_lines.specs.declared.job.Job.{Job}
@@ -19,6 +17,7 @@ use Rattle.job_files.specs.OfInputs.Holdings.{Holds, HasTooManyLines, HasBreak}
 use Rattle.job_files.specs.OfInputs.Failures.{ReadFails, LoadFails}
 use Rattle.job_files.specs.Named.{JobFile, name_of, files_of}
 use Rattle.job_files.specs.Holdings.{HasFiles, HasJobFile}
+use Rattle.tc_base.specs.Memory.{no_memory}
 
 -- ---- the job's own file
 abbrev pub kind_of : JobKind → InputKind
@@ -32,12 +31,6 @@ pub record HasFormFault (told : Option Held) (name : List ℕ) (place : ℕ) (ki
   pub held : Holds told name bytes
   pub is : IsFormFault bytes place what
   pub told_as : kind ≡ kind_of what
-
--- a fault of the job file under the name is told, unless memory ran out
-abbrev pub IsToldFault : List ℕ → JobFault → Status → Type 0
-IsToldFault name (job_faults.Form line kind) status =
-    (status ≡ statuses.NoMemory) ⊎ (status ≡ statuses.BadInput name line (kind_of kind))
-IsToldFault name job_faults.NoMemory status = status ≡ statuses.NoMemory
 
 -- why the job file gave no job
 abbrev pub JobFileFails : {S : Type 0} → (S → Option Held) → (S → ℕ) → (S → Option (List ℕ)) → S → S → List ℕ
@@ -106,5 +99,5 @@ JobFails held read_faults failed_name old new job (statuses.ReadFault name) =
     JobReads (held old) job name × ReadFails held read_faults failed_name old new name
 JobFails held read_faults failed_name old new job (statuses.BadInput name place kind) =
     JobBreaks (held old) job name place kind
-JobFails held read_faults failed_name old new job statuses.NoMemory = Unit {0}
+JobFails held read_faults failed_name old new job (statuses.NoMemory memory) = Unit {0}
 JobFails held read_faults failed_name old new job status = ⊥

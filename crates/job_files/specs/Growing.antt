@@ -28,7 +28,7 @@ FilesFail held read_faults failed_name old new files (statuses.ReadFault name) =
     FilesRead (held old) files name × ReadFails held read_faults failed_name old new name
 FilesFail held read_faults failed_name old new files (statuses.BadInput name place kind) =
     FilesBreak (held old) files name place kind
-FilesFail held read_faults failed_name old new files statuses.NoMemory = Unit {0}
+FilesFail held read_faults failed_name old new files (statuses.NoMemory memory) = Unit {0}
 FilesFail held read_faults failed_name old new files status = ⊥
 
 -- why these weren't loaded behind whatever files gave what was loaded before

@@ -1,7 +1,9 @@
 //! The files of a job that were loaded so far.
 ghost use Rattle.std.specs.Prelude.{◌≡◌, ◌≤◌, [], ◌∷◌, IfErr, OnOk};
+ghost use Rattle.tc_base.specs.Outside.{AsksFor};
 ghost use Rattle.job_files.specs.Named.{JobFile, AreNames, batch_files, capture_files, round_files};
 ghost use Rattle.job_files.specs.Named.{rounds_files};
+ghost use Rattle.job_files.specs.Inputs.{names_of};
 ghost use Rattle.job_files.specs.Growing.{nothing, Grows, AddFails};
 
 use crate::inputs::{load_batch, load_capture};
@@ -63,6 +65,8 @@ impl LoadedFiles {
         ensures later { S.read_faults shelf.old ≤ S.read_faults shelf.new }
         ensures failed_name { OnOk result (S.failed_name shelf.new ≡ S.failed_name shelf.old) }
         ensures write_faults { S.write_faults shelf.new ≡ S.write_faults shelf.old }
+        ensures fetched { AsksFor (S.fetched shelf.old) (S.fetched shelf.new) (name.now ∷ []) result }
+        ensures put_names { S.put_names shelf.new ≡ S.put_names shelf.old }
     {
         let batch = load_batch(alloc, shelf, text_of(name), COMMANDS_MAX - self.commands)?;
         self.batches.push(batch.bytes)?;
@@ -86,6 +90,8 @@ impl LoadedFiles {
         ensures later { S.read_faults shelf.old ≤ S.read_faults shelf.new }
         ensures failed_name { OnOk result (S.failed_name shelf.new ≡ S.failed_name shelf.old) }
         ensures write_faults { S.write_faults shelf.new ≡ S.write_faults shelf.old }
+        ensures fetched { AsksFor (S.fetched shelf.old) (S.fetched shelf.new) (name.now ∷ []) result }
+        ensures put_names { S.put_names shelf.new ≡ S.put_names shelf.old }
     {
         let capture = load_capture(alloc, shelf, text_of(name), PACKETS_MAX - self.packets)?;
         let packets = capture.packets.len();
@@ -109,6 +115,8 @@ impl LoadedFiles {
         ensures later { S.read_faults shelf.old ≤ S.read_faults shelf.new }
         ensures failed_name { OnOk result (S.failed_name shelf.new ≡ S.failed_name shelf.old) }
         ensures write_faults { S.write_faults shelf.new ≡ S.write_faults shelf.old }
+        ensures fetched { AsksFor (S.fetched shelf.old) (S.fetched shelf.new) (names_of (batch_files batches.now)) result }
+        ensures put_names { S.put_names shelf.new ≡ S.put_names shelf.old }
     {
         for batch in batches {
             self.add_batch(alloc, shelf, batch.name.as_slice())?;
@@ -131,6 +139,8 @@ impl LoadedFiles {
         ensures later { S.read_faults shelf.old ≤ S.read_faults shelf.new }
         ensures failed_name { OnOk result (S.failed_name shelf.new ≡ S.failed_name shelf.old) }
         ensures write_faults { S.write_faults shelf.new ≡ S.write_faults shelf.old }
+        ensures fetched { AsksFor (S.fetched shelf.old) (S.fetched shelf.new) (names_of (capture_files capture.now)) result }
+        ensures put_names { S.put_names shelf.new ≡ S.put_names shelf.old }
     {
         match capture {
             None => Ok(()),
@@ -153,6 +163,8 @@ impl LoadedFiles {
         ensures later { S.read_faults shelf.old ≤ S.read_faults shelf.new }
         ensures failed_name { OnOk result (S.failed_name shelf.new ≡ S.failed_name shelf.old) }
         ensures write_faults { S.write_faults shelf.new ≡ S.write_faults shelf.old }
+        ensures fetched { AsksFor (S.fetched shelf.old) (S.fetched shelf.new) (names_of (round_files round.now)) result }
+        ensures put_names { S.put_names shelf.new ≡ S.put_names shelf.old }
     {
         self.add_batches(alloc, shelf, round.batches.as_slice())?;
         self.add_captures(alloc, shelf, &round.capture)
@@ -173,6 +185,8 @@ impl LoadedFiles {
         ensures later { S.read_faults shelf.old ≤ S.read_faults shelf.new }
         ensures failed_name { OnOk result (S.failed_name shelf.new ≡ S.failed_name shelf.old) }
         ensures write_faults { S.write_faults shelf.new ≡ S.write_faults shelf.old }
+        ensures fetched { AsksFor (S.fetched shelf.old) (S.fetched shelf.new) (names_of (rounds_files rounds.now)) result }
+        ensures put_names { S.put_names shelf.new ≡ S.put_names shelf.old }
     {
         for round in rounds {
             self.add_round(alloc, shelf, round)?;

@@ -20,5 +20,5 @@ mod loading;
 
 pub use batches::{LoadedBatch, load_batch};
 pub use captures::load_capture;
-pub use faults::bad_input;
+pub use faults::{bad_input, copied_name};
 pub use loading::load;

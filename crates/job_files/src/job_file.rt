@@ -1,9 +1,10 @@
 //! The file that says a job.
-ghost use Rattle.std.specs.Prelude.{◌≡◌, ◌≤◌, IfOk, IfErr, OnOk};
+ghost use Rattle.std.specs.Prelude.{◌≡◌, [], ◌∷◌, ◌≤◌, IfOk, IfErr, OnOk};
+ghost use Rattle.tc_base.specs.Outside.{AsksFor};
 ghost use Rattle.job_files.specs.Holdings.{HasJobFile};
-ghost use Rattle.job_files.specs.Faults.{kind_of, IsToldFault, JobFileFails};
+ghost use Rattle.job_files.specs.Faults.{kind_of, JobFileFails};
 
-use crate::inputs::{bad_input, load};
+use crate::inputs::{bad_input, copied_name, load};
 use job_lines::{Job, JobFault, JobKind, read_job};
 use std::alloc::Global;
 use tc_base::Shelf;
@@ -15,16 +16,6 @@ fn input_kind(kind: JobKind) -> InputKind
     match kind {
         JobKind::JobSyntax => InputKind::JobSyntax,
         JobKind::TooManyRounds => InputKind::TooManyRounds,
-    }
-}
-
-// How a fault of the job file under the name is told.
-fn told(alloc: Global, name: &str, fault: JobFault) -> Status
-    ensures { IsToldFault name.now fault result }
-{
-    match fault {
-        JobFault::NoMemory => Status::NoMemory,
-        JobFault::Form { line, kind } => bad_input(alloc, name, line, input_kind(kind)),
     }
 }
 
@@ -41,10 +32,16 @@ pub(crate) fn load_job_file<S: Shelf>(
     ensures later { S.read_faults shelf.old ≤ S.read_faults shelf.new }
     ensures failed_name { OnOk result (S.failed_name shelf.new ≡ S.failed_name shelf.old) }
     ensures write_faults { S.write_faults shelf.new ≡ S.write_faults shelf.old }
+    ensures fetched { AsksFor (S.fetched shelf.old) (S.fetched shelf.new) (name.now ∷ []) result }
+    ensures put_names { S.put_names shelf.new ≡ S.put_names shelf.old }
 {
     let bytes = load(alloc, shelf, name)?;
     match read_job(alloc, &bytes) {
         Ok(job) => Ok(job),
-        Err(fault) => Err(told(alloc, name, fault)),
+        Err(JobFault::NoMemory(memory)) => Err(Status::NoMemory(memory)),
+        Err(JobFault::Form { line, kind }) => {
+            let name = copied_name(alloc, name)?;
+            Err(bad_input(name, line, input_kind(kind)))
+        }
     }
 }

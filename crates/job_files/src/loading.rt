@@ -1,10 +1,12 @@
 //! Loading a job with its files.
-ghost use Rattle.std.specs.Prelude.{◌≡◌, ◌⊎◌, ◌≤◌, Result, IfOk, IfErr, OnOk, IsSome};
+ghost use Rattle.std.specs.Prelude.{◌≡◌, [], ◌⊎◌, ◌≤◌, Result, IfOk, IfErr, OnOk, IsSome};
+ghost use Rattle.tc_base.specs.Outside.{Appended};
 ghost use Rattle.lawful_runs.specs.declared.loaded.LoadedJob.{LoadedJob};
 ghost use Rattle.lawful_runs.specs.Given.{IsLoaded};
 ghost use Rattle.tool_words.specs.declared.status.Status.{Status};
 ghost use Rattle.job_files.specs.Holdings.{HasJob};
 ghost use Rattle.job_files.specs.Faults.{JobFails};
+ghost use Rattle.job_files.specs.Inputs.{FetchesInput, input_names};
 ghost use Rattle.job_files.specs.Due.{CallsFor, FailedOutside};
 
 use crate::files::LoadedFiles;
@@ -31,6 +33,11 @@ pub fn load_job<S: Shelf>(alloc: Global, shelf: &mut S, name: &str) -> Result<Lo
     ensures later { S.read_faults shelf.old ≤ S.read_faults shelf.new }
     ensures failed_name { OnOk result (S.failed_name shelf.new ≡ S.failed_name shelf.old) }
     ensures write_faults { S.write_faults shelf.new ≡ S.write_faults shelf.old }
+    ensures fetched { IfOk result (λ loaded. Appended (S.fetched shelf.old) (S.fetched shelf.new)
+        (input_names name.now loaded.job)) }
+    ensures fetched_up_to { FetchesInput (S.held shelf.old) (S.fetched shelf.old) (S.fetched shelf.new) name.now
+        [] }
+    ensures put_names { S.put_names shelf.new ≡ S.put_names shelf.old }
 {
     let job = load_job_file(alloc, shelf, name)?;
     let mut files = LoadedFiles::new(alloc);

@@ -91,7 +91,7 @@ line_fault bytes i text state (faults.Form line kinds.TooManyRounds) lt is e wit
     let at = stands (file_lines bytes) i text lt is parts.0 in
     let many = round_too_many (front (file_lines bytes) i) (record { number = i + 1; words = words_of text }) at.back state next e within parts.1 past in
     subst (λ (n : ℕ). IsRoundTooMany (lines_in bytes) n) (sym number) (subst (λ (ls : List Line). IsRoundTooMany ls (i + 1)) (sym at.are) many)
-line_fault bytes i text state faults.NoMemory lt is e within h = tt
+line_fault bytes i text state (faults.NoMemory memory) lt is e within h = tt
 
 -- ---- the end of a file
 all_lines : (texts : List (List ℕ)) (i : ℕ) → length texts ≤ i → front texts i ≡ lines_from 1 texts

@@ -90,4 +90,4 @@ IsFormFault bytes line kinds.TooManyRounds = IsRoundTooMany (lines_in bytes) lin
 -- the fault of a file, of which want of memory is free
 abbrev pub IsFaultOf : List ℕ → JobFault → Type 0
 IsFaultOf bytes (faults.Form line kind) = IsFormFault bytes line kind
-IsFaultOf bytes faults.NoMemory = Unit {0}
+IsFaultOf bytes (faults.NoMemory memory) = Unit {0}

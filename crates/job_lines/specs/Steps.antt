@@ -136,4 +136,4 @@ LineFails state number words (faults.Form line kinds.JobSyntax) = (line ≡ numb
     × (after_line state words ≡ None)
 LineFails state number words (faults.Form line kinds.TooManyRounds) = (line ≡ number)
     × ((next : State) × (after_line state words ≡ Some next) × (most_rounds < begun_in next))
-LineFails state number words faults.NoMemory = Unit {0}
+LineFails state number words (faults.NoMemory memory) = Unit {0}

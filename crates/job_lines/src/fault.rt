@@ -19,17 +19,18 @@ pub enum JobFault {
     /// number of its lines plus 1.
     Form { line: u64, kind: JobKind },
     /// Memory was refused.
-    NoMemory,
+    NoMemory(NoMemory),
 }
 
 impl From<AllocError> for JobFault {
     ghost use Rattle.std.specs.Prelude.{◌≡◌};
     ghost use Rattle.job_lines.specs.declared.fault.JobFault.TheVariants as faults;
+    ghost use Rattle.tc_base.specs.Memory.{no_memory};
 
-    ghost from_gives = { λ _ e. e ≡ faults.NoMemory };
+    ghost from_gives = { λ _ e. e ≡ faults.NoMemory no_memory };
 
-    fn from(_: AllocError) -> Self {
-        JobFault::NoMemory
+    fn from(refused: AllocError) -> Self {
+        JobFault::NoMemory(NoMemory::from(refused))
     }
 }
 
@@ -37,9 +38,9 @@ impl From<NoMemory> for JobFault {
     ghost use Rattle.std.specs.Prelude.{◌≡◌};
     ghost use Rattle.job_lines.specs.declared.fault.JobFault.TheVariants as faults;
 
-    ghost from_gives = { λ _ e. e ≡ faults.NoMemory };
+    ghost from_gives = { λ memory e. e ≡ faults.NoMemory memory };
 
-    fn from(_: NoMemory) -> Self {
-        JobFault::NoMemory
+    fn from(memory: NoMemory) -> Self {
+        JobFault::NoMemory(memory)
     }
 }

@@ -1,5 +1,4 @@
-//! Lists of a job, which contracts see as lists. Each is made from a `Vec` and gives it back, and neither
-//! takes memory.
+//! Lists of a job, which contracts see as lists. Each is made from a `Vec`, which takes no memory.
 ghost use Rattle.std.specs.Prelude.{◌≡◌};
 
 use crate::job::{BatchName, Round};
@@ -26,14 +25,6 @@ impl BatchNames {
         ensures { result ≡ items.items }
     {
         BatchNames { items }
-    }
-
-    /// The items, in the `Vec` that they stand in.
-    pub fn into_vec(self) -> Vec<BatchName>
-        ensures { result.items ≡ self }
-    {
-        let BatchNames { items } = self;
-        items
     }
 
     /// The items, in order.
@@ -65,14 +56,6 @@ impl Rounds {
         ensures { result ≡ items.items }
     {
         Rounds { items }
-    }
-
-    /// The items, in the `Vec` that they stand in.
-    pub fn into_vec(self) -> Vec<Round>
-        ensures { result.items ≡ self }
-    {
-        let Rounds { items } = self;
-        items
     }
 
     /// The items, in order.

@@ -1,6 +1,7 @@
 pub mod OfRoundState
 pub mod RoundPackets
 pub mod Zipping
+pub mod Ifs
 pub mod RoundCommands
 pub mod RoundEvents
 pub mod RoundNames

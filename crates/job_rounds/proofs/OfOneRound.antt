@@ -1,3 +1,4 @@
+pub mod Numbered
 pub mod Through
 pub mod Zips
 pub mod Starts

@@ -5,6 +5,7 @@ pub mod Left
 pub mod Visited
 pub mod SoFar
 pub mod Taught
+pub mod Tidied
 pub mod Counted
 pub mod Runs
 pub mod OfOneRound

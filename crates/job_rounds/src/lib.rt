@@ -7,11 +7,11 @@
 //!
 //! # Between two rounds
 //!
-//! No thread is alive then, and no reader is inside. So the desk is tidied, and what left can be given again;
-//! no clause says so, as nothing but room hangs on it. Then each worker learns what the desk has seen. That
-//! is why no walk of the next round has a point before the edits of the rounds before it, and why the store's
-//! readers never have to look at each other. A worker keeps its reader for the whole run, which keeps what it
-//! has seen.
+//! No thread is alive then, and no reader is inside. So the desk is tidied, and what left can be given again:
+//! no round begins at a desk that wasn't tidied, unless its epochs are over (`IsReadied`). Then each worker
+//! learns what the desk has seen. That is why no walk of the next round has a point before the edits of the
+//! rounds before it, and why the store's readers never have to look at each other. A worker keeps its reader
+//! for the whole run, which keeps what it has seen.
 //!
 //! The record of the run has room for all rounds before the first one begins. So nothing is lost for want of
 //! memory once a round has ended. Counters are made of the record's executions behind the last round.

@@ -22,6 +22,13 @@
 //! and the caller calls it, with the same clause. Behind the join the desk meets each reader, the seats are
 //! put together, and the logs become the round's outcomes (`outcomes`).
 //!
+//! # What is known of its threads
+//!
+//! A control or a worker has the handle of a thread, which only a call that started one gives; or it is told
+//! that it had nothing to do, or that the system made none (`begun.rt`). No round ends without that list. What
+//! a control did under the lock is known of some state of this round: that its line was met, or that none was
+//! left. Not that it was this state's turn, nor when.
+//!
 //! # What ends it
 //!
 //! An edit may be held, as long as a reader is in its way. Its control gives the lock back and tries again; a
@@ -36,7 +43,9 @@
 //! their outcomes (`walks_are_seen`), and that they may go inside again (`walks_are_few`).
 //!
 //! Not promised: that any two threads run at the same time, in which order controls get the lock, that a held
-//! edit is ever accepted, and so that a round ends. After 2^60 epochs it waits for ever.
+//! edit is ever accepted, and so that a round ends. After 2^60 epochs it waits for ever: one in each nanosecond
+//! would go on for 36 years.
+mod begun;
 mod bell;
 mod controls;
 mod ending;

@@ -4,6 +4,7 @@ ghost use Rattle.pin_store.specs.Calls.{IsSeatOf};
 ghost use Rattle.job_rounds.specs.OfRoundState.Views.{journal};
 ghost use Rattle.job_rounds.specs.OfRoundState.Rounds.{store_name};
 ghost use Rattle.job_rounds.specs.Taught.{IsAway, IsTaught, AreTaught};
+ghost use Rattle.job_rounds.specs.Tidied.{IsReadied};
 
 use crate::one_round::EPOCHS_MAX;
 use crate::round_state::Desk;
@@ -16,6 +17,7 @@ fn teach(store: &HookStore, desk: &mut Desk, worker: &mut Worker)
     requires away { IsAway (store_name store.now) worker.old }
     ensures desk { IsSeatOf store.now desk.new.place }
     ensures journal { journal desk.new ≡ journal desk.old }
+    ensures same { (desk.new.place.me ≡ desk.old.place.me) × (desk.new.left ≡ desk.old.left) }
     ensures taught { IsTaught (store_name store.now) (length (journal desk.old)) worker.old worker.new }
 {
     let receipt = desk.receipt(store);
@@ -28,6 +30,7 @@ fn teach_all(store: &HookStore, desk: &mut Desk, workers: &mut [Worker])
     requires away { All (IsAway (store_name store.now)) workers.old }
     ensures desk { IsSeatOf store.now desk.new.place }
     ensures journal { journal desk.new ≡ journal desk.old }
+    ensures same { (desk.new.place.me ≡ desk.old.place.me) × (desk.new.left ≡ desk.old.left) }
     ensures taught { AreTaught (store_name store.now) (length (journal desk.old)) workers.old workers.new }
 {
     for worker in workers.iter_mut() {
@@ -40,6 +43,7 @@ fn tidy(store: &HookStore, desk: &mut Desk)
     requires desk { IsSeatOf store.now desk.old.place }
     ensures desk { IsSeatOf store.now desk.new.place }
     ensures journal { journal desk.new ≡ journal desk.old }
+    ensures tidied { IsReadied desk.new }
 {
     if desk.epochs() < EPOCHS_MAX {
         desk.tidy(store);
@@ -52,6 +56,7 @@ pub(crate) fn make_ready(store: &HookStore, desk: &mut Desk, workers: &mut [Work
     requires away { All (IsAway (store_name store.now)) workers.old }
     ensures desk { IsSeatOf store.now desk.new.place }
     ensures journal { journal desk.new ≡ journal desk.old }
+    ensures tidied { IsReadied desk.new }
     ensures taught { AreTaught (store_name store.now) (length (journal desk.old)) workers.old workers.new }
 {
     tidy(store, desk);

@@ -54,10 +54,13 @@ fn end_of<E: Ear>(
 {
     let _rounds = &job.job.rounds;
     let _words = store;
-    let Ok(counters) = counters_of(alloc, &course.past.rounds, &course.past.made) else {
-        // Here and below in one call: part by part it is long to prove.
-        drop(course);
-        return Err(NoMemory);
+    let counters = match counters_of(alloc, &course.past.rounds, &course.past.made) {
+        Ok(counters) => counters,
+        Err(memory) => {
+            // Here and below in one call: part by part it is long to prove.
+            drop(course);
+            return Err(memory);
+        }
     };
     let Course {
         desk,
@@ -66,9 +69,12 @@ fn end_of<E: Ear>(
         past,
         ..
     } = course;
-    let Ok(readers) = readers_of(alloc, workers) else {
-        drop((desk, ear, past, counters));
-        return Err(NoMemory);
+    let readers = match readers_of(alloc, workers) {
+        Ok(readers) => readers,
+        Err(memory) => {
+            drop((desk, ear, past, counters));
+            return Err(memory);
+        }
     };
     let run = RunRecord {
         rounds: RoundRecords::from_vec(past.rounds),
@@ -105,13 +111,19 @@ fn run_over<E: Ear, G: Gate, T: Tender, R: Threads + Wait + Sync>(
         (ear_of E.name E.heard E.spare ear)) }
     ensures tender { T.name tender.new ≡ T.name tender.old }
 {
-    let Ok(past) = nothing_past(alloc, job.job.rounds.as_slice().len()) else {
-        drop((desk, readers, ear));
-        return Err(NoMemory);
+    let past = match nothing_past(alloc, job.job.rounds.as_slice().len()) {
+        Ok(past) => past,
+        Err(memory) => {
+            drop((desk, readers, ear));
+            return Err(memory);
+        }
     };
-    let Ok(workers) = workers_of(alloc, readers) else {
-        drop((desk, ear, past));
-        return Err(NoMemory);
+    let workers = match workers_of(alloc, readers) {
+        Ok(workers) => workers,
+        Err(memory) => {
+            drop((desk, ear, past));
+            return Err(memory);
+        }
     };
     let course = Course {
         desk,

@@ -10,8 +10,8 @@
 //! costs the root's word and a comparison; else the chain is searched (`searches`).
 //!
 //! Records are kept in places, which roots share by their numbers (`things`). `HookRecords` is what is kept,
-//! with the two visits that use it. Their clauses are those of `lookup` of `mask_table` and of `load_action`
-//! of `roots` of `desk_actions`; nothing in them tells whether something was kept.
+//! with the two visits that use it. Their clauses speak of what roots name, as `specs/Told.antt` of
+//! `mask_table` says of a look-up; nothing in them tells whether something was kept.
 //!
 //! # Who may call what
 //!

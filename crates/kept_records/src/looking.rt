@@ -1,5 +1,5 @@
 //! The two visits that use what is kept.
-ghost use Rattle.block_codec.specs.declared.places.TheConstants.{ACTION_SLOTS, MASK_SLOTS, ROOTS, ROWS};
+ghost use Rattle.store_history.specs.declared.places.TheConstants.{ACTION_SLOTS, MASK_SLOTS, ROOTS, ROWS};
 ghost use Rattle.std.specs.Prelude.{◌≡◌, ◌+◌, ◌*◌, ◌<◌, ◌≤◌, length, All};
 ghost use Rattle.mask_table.specs.Buckets.{bucket_root, bucket_for};
 
@@ -8,12 +8,12 @@ use crate::records::HookRecords;
 use crate::renewing::{renew_action, renew_mask};
 use act_kinds::Params;
 use block_codec::StoredMask;
-use block_codec::places::{ACTION_ROOTS, BUCKET_ROOTS, MASK_ROOTS, ROW_BUCKETS};
 use flow_fields::Key;
 use flow_mask::{hash, masked};
 use hook_store_law::{HookLaw, HookStore};
 use pin_store::{Reader, Steps};
 use std::sync::ledger::Ledger;
+use store_history::places::{ACTION_ROOTS, BUCKET_ROOTS, MASK_ROOTS, ROW_BUCKETS};
 use tc_base::Point;
 use visit_room::Hit;
 
@@ -51,9 +51,9 @@ impl HookRecords {
     ghost use Rattle.mask_table.specs.Told.{LookedUp, IsLoadedPoint};
     ghost use Rattle.hook_law.specs.Places.{action_root};
     ghost use Rattle.hook_law.specs.Keeping.{Keeps};
-    ghost use Rattle.hook_meaning.specs.Stated.{hook_meaning};
-    ghost use Rattle.hook_meaning.specs.Blocks.{hook_codec};
-    ghost use Rattle.hook_meaning.specs.Told.{stands_at, words_after, filters_after};
+    ghost use Rattle.hook_store_law.specs.Stated.{hook_meaning};
+    ghost use Rattle.hook_store_law.specs.Blocks.{hook_codec};
+    ghost use Rattle.hook_store_law.specs.Told.{stands_at, words_after, filters_after};
     ghost use Rattle.kept_records.specs.Keeping.{KeepsRecords};
 
     /// Whether the mask at a slot has a filter with the packet's key under the mask, with its actions, and

@@ -52,11 +52,10 @@ module _ (workers : ℕ) (rounds : List GivenRound) (its : List RoundRecord) (jo
         (sym played.whole) (ap (λ (n : ℕ). max n seen) before) by_end
         (over_longer so_far played.rest (max (length played.start) seen) (length so_far) arrival outcome (omega arith) walked)
 
-    -- no event, no edit: all points are one
-    pub quiet_walk : IsLawful journal → it.events ≡ [] → IsRecordOf outcome (plain_walk (state_at (edits_in (take round its)) journal) arrival.hook arrival.packet.bytes)
-    quiet_walk lawful quiet =
+    -- no edit: all points are one
+    pub quiet_walk : IsLawful journal → accepted_count it.events ≡ 0 → IsRecordOf outcome (plain_walk (state_at (edits_in (take round its)) journal) arrival.hook arrival.packet.bytes)
+    quiet_walk lawful none =
         let more = edits_more its round it is in
-        let none : accepted_count it.events ≡ 0 = ap accepted_count quiet in
         let floor : ℕ = max (edits_in (take round its)) (seen_by outcome.worker (outcomes_in (take round its) ++ take place it.outcomes)) in
         let ceiling : ℕ = edits_in (take (round + 1) its) in
         plain_at journal floor ceiling (edits_in (take round its)) arrival outcome lawful packet_walked

@@ -52,7 +52,7 @@ pub fn each_line_has_its_result()
 
 /// Each packet of a round is walked over the journal of the whole run: not before the edits that were
 /// accepted in earlier rounds, nor before what its worker had seen, and not past the edits that were accepted
-/// by the round's end. In a round without events it is the plain walk of one state.
+/// by the round's end. In a round in which no edit was accepted it is the plain walk of one state.
 pub fn each_packet_is_walked()
     ensures walked { (loaded : LoadedJob) (run : RunRecord) (journal : List Edit) (round place : ℕ)
         (given : GivenRound) (it : RoundRecord) (arrival : Arrival) (outcome : Outcome) →
@@ -68,13 +68,13 @@ pub fn each_packet_is_walked()
         IsRunWith loaded run journal → slice_get (given_rounds loaded) round ≡ Some given
         → slice_get run.rounds round ≡ Some it
         → slice_get given.arrivals place ≡ Some arrival → slice_get it.outcomes place ≡ Some outcome
-        → it.events ≡ []
+        → accepted_count it.events ≡ 0
         → IsRecordOf outcome
         (plain_walk (state_at (edits_in (take round run.rounds)) journal) arrival.hook arrival.packet.bytes) }
 {}
 
 /// The walk of a packet is one over the states of the journal. Where all its visits may have one point alone,
-/// as in a round without events, it is the plain walk of that state.
+/// as in a round in which no edit was accepted, it is the plain walk of that state.
 pub fn walks_over_one_journal()
     ensures over { (journal : List Edit) (floor ceiling : ℕ) (arrival : Arrival) (outcome : Outcome)
         → IsWalked journal floor ceiling arrival outcome

@@ -29,14 +29,6 @@ impl Captures {
         Captures { items }
     }
 
-    /// The items, in the `Vec` that they stand in.
-    pub fn into_vec(self) -> Vec<Capture>
-        ensures { result.items ≡ self }
-    {
-        let Captures { items } = self;
-        items
-    }
-
     /// The items, in order.
     pub fn as_slice(&self) -> &[Capture]
         ensures { result.now ≡ self.now }

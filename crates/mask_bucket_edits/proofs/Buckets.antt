@@ -5,6 +5,7 @@ use Rattle.std.proofs.lemmas.Option.{slice_get_within}
 use Rattle.store_history.specs.declared.history.Link.{Link}
 use Rattle.store_history.specs.declared.history.Named.{Named}
 use Rattle.store_history.specs.Reads.{read_all}
+use Rattle.store_history.specs.declared.places.TheConstants.{BUCKET_ROOTS}
 use Rattle.pin_store.specs.declared.shape.Shape.{Shape}
 use Rattle.pin_store.specs.Layout.{block_words, links_of}
 use Rattle.block_codec.specs.declared.filter.StoredFilter.{StoredFilter}
@@ -44,8 +45,8 @@ module _ (mirror : Mirror) (shape : Shape) (cells : List ℕ) (roots : ℕ → N
   is_found k less place is room gathered count b e has =
       let was = bucket mirror shape cells roots slot kept stands keeps k less in
       let same : room ≡ was.blocks = gathered was.blocks (subst (λ (p : ℕ). Spells mirror.next.items (get_or mirror.first.items p 0) was.blocks) (sym is) was.chain.spelled) in
-      let root = ap (λ (p : ℕ). 10243 + p) is ∙ sym (at_root kept.mask k) in
-      let named : (roots (10243 + place)).chain ≡ links_of shape cells was.blocks = ap (λ (r : ℕ). (roots r).chain) root ∙ was.named in
+      let root = ap (λ (p : ℕ). BUCKET_ROOTS + p) is ∙ sym (at_root kept.mask k) in
+      let named : (roots (BUCKET_ROOTS + place)).chain ≡ links_of shape cells was.blocks = ap (λ (r : ℕ). (roots r).chain) root ∙ was.named in
       let there : slice_get was.blocks count ≡ Some b = subst (λ (bs : List ℕ). slice_get bs count ≡ Some b) same e in
       let read = first_read mirror.filters.items shape cells kept.mask.size k was.blocks was.chain.hold count in
       let within = slice_get_within was.blocks count b there in
@@ -73,12 +74,12 @@ module _ (mirror : Mirror) (shape : Shape) (cells : List ℕ) (roots : ℕ → N
 
 -- ---- what was found
 module _ (roots : ℕ → Named) (mask : StoredMask) (handle place count : ℕ) (blocks : List ℕ) (found : IsFound roots mask handle place count blocks) where
-  pub front_read : read_all filter_in (take count (roots (10243 + place)).chain) ≡ Some found.front
-  front_read = ap (λ (n : ℕ). read_all filter_in (take n (roots (10243 + place)).chain)) (sym found.counted) ∙ found.there.before
+  pub front_read : read_all filter_in (take count (roots (BUCKET_ROOTS + place)).chain) ≡ Some found.front
+  front_read = ap (λ (n : ℕ). read_all filter_in (take n (roots (BUCKET_ROOTS + place)).chain)) (sym found.counted) ∙ found.there.before
 
-  pub front_is : (front : List StoredFilter) → read_all filter_in (take count (roots (10243 + place)).chain) ≡ Some front → front ≡ found.front
+  pub front_is : (front : List StoredFilter) → read_all filter_in (take count (roots (BUCKET_ROOTS + place)).chain) ≡ Some front → front ≡ found.front
   front_is front e = let both : Some front ≡ Some found.front = sym e ∙ front_read in cc both
 
   -- the blocks up to the filter's
-  pub blocks_left : (left : List ℕ) → left ≡ take (count + 1) blocks → left ≡ map (λ (l : Link). l.block) (take (length found.front + 1) (roots (10243 + place)).chain)
-  blocks_left left e = e ∙ ((λ t. take (sym found.counted t + 1) (sym found.blocks_are t)) ∙ take-map (λ (l : Link). l.block) (length found.front + 1) (roots (10243 + place)).chain)
+  pub blocks_left : (left : List ℕ) → left ≡ take (count + 1) blocks → left ≡ map (λ (l : Link). l.block) (take (length found.front + 1) (roots (BUCKET_ROOTS + place)).chain)
+  blocks_left left e = e ∙ ((λ t. take (sym found.counted t + 1) (sym found.blocks_are t)) ∙ take-map (λ (l : Link). l.block) (length found.front + 1) (roots (BUCKET_ROOTS + place)).chain)

@@ -9,6 +9,7 @@ use Rattle.store_history.specs.declared.history.Link.{Link}
 use Rattle.store_history.specs.declared.history.Named.{Named}
 use Rattle.store_history.specs.History.{first_block}
 use Rattle.store_history.specs.Reads.{read_all}
+use Rattle.store_history.specs.declared.places.TheConstants.{BUCKET_ROOTS, POOL_BLOCKS}
 use Rattle.pin_store.specs.declared.shape.Shape.{Shape}
 use Rattle.pin_store.specs.Layout.{block_words, links_of}
 use Rattle.block_codec.specs.declared.filter.StoredFilter.{StoredFilter}
@@ -55,14 +56,14 @@ links_put filters shape cells size bucket (b ∷ bs) tail (f ∷ fs) e s =
 -- ---- the chain in which a filter was found
 module _ (mirror : Mirror) (shape : Shape) (cells : List ℕ) (roots : ℕ → Named) (slot : ℕ) (kept : KeptMask) (stands : Stands mirror slot kept) (keeps : IsKept mirror shape cells roots) (handle place count : ℕ) (blocks : List ℕ)
     (found : IsFound roots kept.mask handle place count blocks) where
-  abbrev pub own : BucketAt mirror (10243 + place)
+  abbrev pub own : BucketAt mirror (BUCKET_ROOTS + place)
   own = record { slot = slot; bucket = found.there.bucket; kept = kept; stands = stands; within = found.there.within; same = found.there.is_root }
 
   pub place_is : place ≡ bucket_at kept.mask found.there.bucket
   place_is = let root = found.there.is_root in let at = at_root kept.mask found.there.bucket in omega arith
 
   abbrev was : KeepsBucket mirror shape cells roots kept.mask found.there.bucket
-  was = keeps.buckets (10243 + place) own
+  was = keeps.buckets (BUCKET_ROOTS + place) own
 
   blocks_are : was.blocks ≡ blocks
   blocks_are = sym (link_blocks shape cells was.blocks) ∙ (ap (map (λ (l : Link). l.block)) (sym (ap (λ (r : ℕ). (roots r).chain) found.there.is_root ∙ was.named)) ∙ found.blocks_are)
@@ -71,13 +72,13 @@ module _ (mirror : Mirror) (shape : Shape) (cells : List ℕ) (roots : ℕ → N
   chain = subst (HoldsChain mirror shape cells kept.mask.size found.there.bucket (get_or mirror.first.items place 0)) blocks_are
       (subst (λ (p : ℕ). HoldsChain mirror shape cells kept.mask.size found.there.bucket (get_or mirror.first.items p 0) was.blocks) (sym place_is) was.chain)
 
-  pub named : (roots (10243 + place)).chain ≡ links_of shape cells blocks
+  pub named : (roots (BUCKET_ROOTS + place)).chain ≡ links_of shape cells blocks
   named = ap (λ (r : ℕ). (roots r).chain) found.there.is_root ∙ (was.named ∙ ap (links_of shape cells) blocks_are)
 
-  pub names : (k b : ℕ) → slice_get blocks k ≡ Some b → Names roots (10243 + place) b
-  names = names_each roots (10243 + place) shape cells blocks named
+  pub names : (k b : ℕ) → slice_get blocks k ≡ Some b → Names roots (BUCKET_ROOTS + place) b
+  names = names_each roots (BUCKET_ROOTS + place) shape cells blocks named
 
-  pub low : (k b : ℕ) → slice_get blocks k ≡ Some b → b < 16384
+  pub low : (k b : ℕ) → slice_get blocks k ≡ Some b → b < POOL_BLOCKS
   low = spelled_low mirror.next.items (get_or mirror.first.items place 0) blocks chain.spelled
 
   pub has : (k b : ℕ) → slice_get blocks k ≡ Some b → HasFilter mirror.filters.items b
@@ -90,7 +91,7 @@ module _ (mirror : Mirror) (shape : Shape) (cells : List ℕ) (roots : ℕ → N
   pub within : count < length blocks
   within = slice_get_within blocks count found.there.link.block (block_there shape cells blocks count found.there.link link_at)
 
-  pub short : count < 16384
+  pub short : count < POOL_BLOCKS
   short = let inside = within in let few = few_blocks mirror.next.items (get_or mirror.first.items place 0) blocks chain.spelled in omega arith
 
   pub there : slice_get blocks count ≡ Some (get_or blocks count 0)
@@ -103,10 +104,10 @@ module _ (mirror : Mirror) (shape : Shape) (cells : List ℕ) (roots : ℕ → N
   }
 
   -- a filter whose root is the bucket's is one of the bucket
-  pub in_bucket : (f : StoredFilter) → 10243 + place ≡ root_for kept.mask f → bucket_for kept.mask.size f.key.words ≡ found.there.bucket
+  pub in_bucket : (f : StoredFilter) → BUCKET_ROOTS + place ≡ root_for kept.mask f → bucket_for kept.mask.size f.key.words ≡ found.there.bucket
   in_bucket f root = let less = found.there.within in
-      let at : BucketAt mirror (10243 + place) = record { slot = slot; bucket = bucket_for kept.mask.size f.key.words; kept = kept; stands = stands; within = mod_below (hash_of f.key.words) kept.mask.size (omega arith); same = root } in
-      (keeps.apart (10243 + place) at own).1
+      let at : BucketAt mirror (BUCKET_ROOTS + place) = record { slot = slot; bucket = bucket_for kept.mask.size f.key.words; kept = kept; stands = stands; within = mod_below (hash_of f.key.words) kept.mask.size (omega arith); same = root } in
+      (keeps.apart (BUCKET_ROOTS + place) at own).1
 
   -- the filters are those that are read
   pub one_kept : get_or mirror.filters.items (get_or blocks count 0) None ≡ Some found.filter
@@ -119,7 +120,7 @@ module _ (mirror : Mirror) (shape : Shape) (cells : List ℕ) (roots : ℕ → N
       let both : Some h.1.filter ≡ Some found.filter = sym read ∙ (ap filter_in (sym words) ∙ found.there.read) in
       h.1.kept ∙ both
 
-  pub front_kept : (front : List StoredFilter) → read_all filter_in (take count (roots (10243 + place)).chain) ≡ Some front → map (λ (b : ℕ). get_or mirror.filters.items b None) (take count blocks) ≡ map Some front
+  pub front_kept : (front : List StoredFilter) → read_all filter_in (take count (roots (BUCKET_ROOTS + place)).chain) ≡ Some front → map (λ (b : ℕ). get_or mirror.filters.items b None) (take count blocks) ≡ map Some front
   front_kept front e =
       let r = first_read mirror.filters.items shape cells kept.mask.size found.there.bucket blocks chain.hold count in
       let links = ap (take count) named ∙ take-map (λ (x : ℕ). record { block = x; words = block_words shape cells x }) count blocks in

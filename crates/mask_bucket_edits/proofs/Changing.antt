@@ -9,6 +9,7 @@ use Rattle.store_history.specs.declared.history.Named.{Named}
 use Rattle.store_history.specs.declared.history.Commit.{Commit}
 use Rattle.store_history.specs.History.{root_of}
 use Rattle.store_history.specs.Reads.{read_all}
+use Rattle.store_history.specs.declared.places.TheConstants.{BUCKET_ROOTS, POOL_BLOCKS, BUCKETS}
 use Rattle.pin_store.specs.declared.shape.Shape.{Shape}
 use Rattle.pin_store.specs.Layout.{block_words, links_of, commit_of}
 use Rattle.block_codec.specs.declared.filter.StoredFilter.{StoredFilter}
@@ -47,9 +48,9 @@ listed_few (Some f) = omega arith
 
 -- a commit of such blocks is the one that writes a chain anew
 pub commit_is : {E : Type 0} (h : List (Commit E)) (shape : Shape) (cells : List ℕ) (place count : ℕ) (given bs : List ℕ) (fs : List StoredFilter) (number : ℕ) (edit : E)
-    → links_of shape cells bs ≡ linked (placed given fs) (drop (count + 1) (root_of h (10243 + place)).chain)
-    → commit_of shape cells (10243 + place) bs number (Some number) edit ≡ rewrite_at h (10243 + place) given fs count number edit
-commit_is h shape cells place count given bs fs number edit links = λ t. record { root = 10243 + place; named = record { chain = links t; stamp = number }; edit = Some (number, edit) }
+    → links_of shape cells bs ≡ linked (placed given fs) (drop (count + 1) (root_of h (BUCKET_ROOTS + place)).chain)
+    → commit_of shape cells (BUCKET_ROOTS + place) bs number (Some number) edit ≡ rewrite_at h (BUCKET_ROOTS + place) given fs count number edit
+commit_is h shape cells place count given bs fs number edit links = λ t. record { root = BUCKET_ROOTS + place; named = record { chain = links t; stamp = number }; edit = Some (number, edit) }
 
 -- and such commits are the same where their parts are
 pub same_commit : {E : Type 0} (h : List (Commit E)) (root root2 : ℕ) (given given2 : List ℕ) (fs fs2 : List StoredFilter) (count count2 number : ℕ) (edit : E) → root ≡ root2 → given ≡ given2 → fs ≡ fs2 → count ≡ count2
@@ -64,7 +65,7 @@ module _ (mirror mirror1 : Mirror) (shape : Shape) (old new : List ℕ) (roots :
   AreIn = (f : StoredFilter) → IsAmong f more → bucket_for kept.mask.size f.key.words ≡ found.there.bucket
 
   all_away : (k b : ℕ) → slice_get blocks k ≡ Some b → IsAmong b given → ⊥
-  all_away k b e i = free b i (10243 + place) (names mirror shape old roots slot kept stands keeps handle place count blocks found k b e)
+  all_away k b e i = free b i (BUCKET_ROOTS + place) (names mirror shape old roots slot kept stands keeps handle place count blocks found k b e)
 
   tail_away : AreApart (drop (suc count) blocks) given
   tail_away b (k, e) i = let r = among_drop b (suc count) blocks k e in all_away r.0 b r.1 i
@@ -85,44 +86,44 @@ module _ (mirror mirror1 : Mirror) (shape : Shape) (old new : List ℕ) (roots :
   pub new_chain : AreIn → HoldsChain mirror1 shape new kept.mask.size found.there.bucket number (given ++ drop (suc count) blocks)
   new_chain of = put.chain kept.mask.size found.there.bucket (drop (suc count) blocks) tail_away (of_bucket of) (behind mirror shape old roots slot kept stands keeps handle place count blocks found)
 
-  abbrev own_now : BucketAt mirror1 (10243 + place)
+  abbrev own_now : BucketAt mirror1 (BUCKET_ROOTS + place)
   own_now = record { slot = slot; bucket = found.there.bucket; kept = kept; stands = ap (λ (xs : List (Option KeptMask)). get_or xs slot None) put.filled.slots ∙ stands; within = found.there.within; same = found.there.is_root }
 
-  are_own : AreOwn mirror1 roots (10243 + place) (given ++ drop (suc count) blocks)
+  are_own : AreOwn mirror1 roots (BUCKET_ROOTS + place) (given ++ drop (suc count) blocks)
   are_own k b other e at naming = pick (among_either b given (drop (suc count) blocks) k e)
     where
-      pick : IsAmong b given ⊎ IsAmong b (drop (suc count) blocks) → other ≡ 10243 + place
+      pick : IsAmong b given ⊎ IsAmong b (drop (suc count) blocks) → other ≡ BUCKET_ROOTS + place
       pick (inl i) = absurd (free b i other naming)
       pick (inr (j, i)) = let r = among_drop b (suc count) blocks j i in
-          keeps.once other (10243 + place) b (bucket_with mirror mirror1 other put.filled.slots at) (own mirror shape old roots slot kept stands keeps handle place count blocks found) naming
+          keeps.once other (BUCKET_ROOTS + place) b (bucket_with mirror mirror1 other put.filled.slots at) (own mirror shape old roots slot kept stands keeps handle place count blocks found) naming
           (names mirror shape old roots slot kept stands keeps handle place count blocks found r.0 b r.1)
 
-  pub chain_ready : AreIn → (own : BucketAt mirror1 (10243 + place)) × (bs : List ℕ) × HoldsChain mirror1 shape new own.kept.mask.size own.bucket number bs × AreOwn mirror1 roots (10243 + place) bs
+  pub chain_ready : AreIn → (own : BucketAt mirror1 (BUCKET_ROOTS + place)) × (bs : List ℕ) × HoldsChain mirror1 shape new own.kept.mask.size own.bucket number bs × AreOwn mirror1 roots (BUCKET_ROOTS + place) bs
   chain_ready of = (own_now, given ++ drop (suc count) blocks, new_chain of, are_own)
 
   -- its links
-  filters_put : (front : List StoredFilter) → read_all filter_in (take count (roots (10243 + place)).chain) ≡ Some front → map (λ (b : ℕ). get_or mirror1.filters.items b None) given ≡ map Some (front ++ more)
+  filters_put : (front : List StoredFilter) → read_all filter_in (take count (roots (BUCKET_ROOTS + place)).chain) ≡ Some front → map (λ (b : ℕ). get_or mirror1.filters.items b None) given ≡ map Some (front ++ more)
   filters_put front e = sym (filters_in mirror1 given) ∙ (ap (map (λ (k : ℕ × Option StoredFilter). k.1)) put.have
       ∙ (map-append (λ (k : ℕ × Option StoredFilter). k.1) (map (kept_in mirror) (take count blocks)) (aged age more)
       ∙ ((λ t. (filters_in mirror (take count blocks) ∙ front_kept mirror shape old roots slot kept stands keeps handle place count blocks found front e) t ++ filters_aged age more t)
       ∙ sym (map-append Some front more))))
 
-  links_behind : 16384 ≤ shape.blocks → links_of shape new (drop (suc count) blocks) ≡ drop (count + 1) (roots (10243 + place)).chain
+  links_behind : POOL_BLOCKS ≤ shape.blocks → links_of shape new (drop (suc count) blocks) ≡ drop (count + 1) (roots (BUCKET_ROOTS + place)).chain
   links_behind wide = let step : suc count ≡ count + 1 = omega arith in
       links_same shape old new (drop (suc count) blocks) (λ k b e. let r = among_drop b (suc count) blocks k e in
       let less = low mirror shape old roots slot kept stands keeps handle place count blocks found r.0 b r.1 in put.filled.others b (tail_away b (k, e)) (omega arith))
       ∙ (sym (drop-map (λ (b : ℕ). record { block = b; words = block_words shape old b }) (suc count) blocks)
       ∙ (λ t. drop (step t) (sym (named mirror shape old roots slot kept stands keeps handle place count blocks found) t)))
 
-  pub links_new : 16384 ≤ shape.blocks → AreIn → (front : List StoredFilter) → read_all filter_in (take count (roots (10243 + place)).chain) ≡ Some front → (bs : List ℕ) → Spells mirror1.next.items number bs
-      → links_of shape new bs ≡ linked (placed given (front ++ more)) (drop (count + 1) (roots (10243 + place)).chain)
+  pub links_new : POOL_BLOCKS ≤ shape.blocks → AreIn → (front : List StoredFilter) → read_all filter_in (take count (roots (BUCKET_ROOTS + place)).chain) ≡ Some front → (bs : List ℕ) → Spells mirror1.next.items number bs
+      → links_of shape new bs ≡ linked (placed given (front ++ more)) (drop (count + 1) (roots (BUCKET_ROOTS + place)).chain)
   links_new wide of front e bs s = let whole = new_chain of in
       ap (links_of shape new) (same_blocks mirror1.next.items number number bs (given ++ drop (suc count) blocks) refl s whole.spelled)
       ∙ (links_put mirror1.filters.items shape new kept.mask.size found.there.bucket given (drop (suc count) blocks) (front ++ more) (filters_put front e) whole.hold
       ∙ ap (linked (placed given (front ++ more))) (links_behind wide))
 
   -- ---- the filters of masks, once that the root names the longer chain
-  module _ (mirror2 : Mirror) (small : place < 131072) (renamed : IsRenamed mirror1 mirror2 place number) (roots1 : ℕ → Named) (keeps1 : IsKept mirror1 shape new roots1) where
+  module _ (mirror2 : Mirror) (small : place < BUCKETS) (renamed : IsRenamed mirror1 mirror2 place number) (roots1 : ℕ → Named) (keeps1 : IsKept mirror1 shape new roots1) where
     -- those of other masks
     pub lists_stay : (other last : ℕ) (fs : List StoredFilter) → other ≢ slot → HasFilters mirror1 other last fs → HasFilters mirror2 other last fs
     lists_stay = lists_renamed mirror1 mirror2 place number renamed shape new roots1 keeps1 own_now
@@ -137,7 +138,7 @@ module _ (mirror mirror1 : Mirror) (shape : Shape) (old new : List ℕ) (roots :
     other_chain : (other : ℕ) → other ≢ found.there.bucket → other < kept.mask.size → SameChain mirror1 mirror2 (bucket_at kept.mask other)
     other_chain other apart less = chain_renamed mirror1 mirror2 place number renamed shape new roots1 keeps1 (bucket_root kept.mask other)
         (record { slot = slot; bucket = other; kept = kept; stands = own_now.stands; within = less; same = refl })
-        (λ e. apart (keeps1.apart (10243 + place) (record { slot = slot; bucket = other; kept = kept; stands = own_now.stands; within = less; same = sym e }) own_now).1)
+        (λ e. apart (keeps1.apart (BUCKET_ROOTS + place) (record { slot = slot; bucket = other; kept = kept; stands = own_now.stands; within = less; same = sym e }) own_now).1)
 
     -- its own chain still was the old one before that
     old_spelled : Spells mirror1.next.items (get_or mirror1.first.items (bucket_at kept.mask found.there.bucket) 0) blocks

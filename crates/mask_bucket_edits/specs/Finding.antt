@@ -1,5 +1,5 @@
 -- Filters that are looked for by their handle (this project's own).
-use Rattle.block_codec.specs.declared.places.TheConstants.{BUCKET_ROOTS}
+use Rattle.store_history.specs.declared.places.TheConstants.{BUCKET_ROOTS}
 use Rattle.std.specs.Prelude.{◌≡◌, ℕ, ◌+◌, List, length, map, slice_get, slice_index, slice_index_or, Option}
 use Rattle.std.specs.Prelude.{Some, None}
 use Rattle.store_history.specs.declared.history.Link.{Link}

@@ -1,5 +1,5 @@
 //! Filters copied from the blocks of a chain into others.
-ghost use Rattle.block_codec.specs.declared.places.TheConstants.{POOL_BLOCKS};
+ghost use Rattle.store_history.specs.declared.places.TheConstants.{POOL_BLOCKS};
 ghost use Rattle.std.specs.Prelude.{◌≡◌, ℕ, ◌+◌, ◌<◌, ◌≤◌, ◌∷◌, ◌++◌, [], List, length, map, slice_get, Some};
 ghost use Rattle.store_history.specs.History.{root_of};
 ghost use Rattle.pin_store.specs.Sheets.{base_of, IsSameButCells};

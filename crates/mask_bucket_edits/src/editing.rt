@@ -1,5 +1,5 @@
 //! Filters that are taken out of masks, and others that take their places.
-ghost use Rattle.block_codec.specs.declared.places.TheConstants.{MASK_SLOTS};
+ghost use Rattle.store_history.specs.declared.places.TheConstants.{MASK_SLOTS};
 ghost use Rattle.std.specs.Prelude.{◌≡◌, ◌≢◌, ℕ, ◌+◌, ◌<◌, ◌≤◌, ◌++◌, ◌∷◌, [], List, length, map, take};
 ghost use Rattle.store_history.specs.declared.history.Link.{Link};
 ghost use Rattle.store_history.specs.History.{root_of};

@@ -1,6 +1,6 @@
 //! Where the filter with a handle stands.
-ghost use Rattle.block_codec.specs.declared.places.TheConstants.{BUCKETS, BUCKET_ROOTS, MASK_SLOTS};
-ghost use Rattle.block_codec.specs.declared.places.TheConstants.{POOL_BLOCKS};
+ghost use Rattle.store_history.specs.declared.places.TheConstants.{BUCKETS, BUCKET_ROOTS, MASK_SLOTS};
+ghost use Rattle.store_history.specs.declared.places.TheConstants.{POOL_BLOCKS};
 ghost use Rattle.std.specs.Prelude.{◌≡◌, ◌+◌, ◌<◌, ◌≤◌, ◌↔◌, ℕ, List, length, slice_get, slice_index, Some};
 ghost use Rattle.std.specs.Prelude.{None, IfSome, IsTrue, All};
 ghost use Rattle.store_history.specs.declared.history.Named.{Named};

@@ -1,5 +1,5 @@
 //! A bucket's root that comes to name another chain.
-ghost use Rattle.block_codec.specs.declared.places.TheConstants.{BUCKETS, BUCKET_ROOTS};
+ghost use Rattle.store_history.specs.declared.places.TheConstants.{BUCKETS, BUCKET_ROOTS};
 ghost use Rattle.std.specs.Prelude.{◌≡◌, ℕ, ◌+◌, ◌<◌, ◌≤◌, ◌++◌, ◌∷◌, [], List, Some};
 ghost use Rattle.store_history.specs.History.{root_of};
 ghost use Rattle.pin_store.specs.Layout.{commit_of};
@@ -9,9 +9,9 @@ ghost use Rattle.block_codec.specs.Shapes.{HasPoolAndRoots};
 ghost use Rattle.mask_table.specs.OfMirrors.Kept.{Spells, HoldsChain, BucketAt, IsKept, AreOwn};
 ghost use Rattle.mask_table.specs.OfMirrors.Changes.{IsRenamed};
 
-use block_codec::places::BUCKET_ROOTS;
 use mask_table::mirrors::{Mirror, NumberRoom, name_chain};
 use pin_store::{Store, Writer};
+use store_history::places::BUCKET_ROOTS;
 use store_history::{EditName, Law};
 use tc_base::Point;
 

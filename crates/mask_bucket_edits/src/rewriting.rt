@@ -1,5 +1,5 @@
 //! What stands in front of a place of a bucket's chain, written anew.
-ghost use Rattle.block_codec.specs.declared.places.TheConstants.{BUCKETS, BUCKET_ROOTS};
+ghost use Rattle.store_history.specs.declared.places.TheConstants.{BUCKETS, BUCKET_ROOTS};
 ghost use Rattle.std.specs.Prelude.{◌≡◌, ◌≢◌, ℕ, ◌+◌, ◌<◌, ◌≤◌, ◌++◌, ◌∷◌, [], List, length, take, Some};
 ghost use Rattle.store_history.specs.History.{root_of};
 ghost use Rattle.store_history.specs.Reads.{read_all};

@@ -8,6 +8,7 @@ use Rattle.std.proofs.lemmas.Nat.{mod_below}
 use Rattle.std.proofs.lemmas.Option.{slice_get-get_or}
 use Rattle.flow_mask.specs.Hashes.{hash_of}
 use Rattle.store_history.specs.declared.history.Named.{Named}
+use Rattle.store_history.specs.declared.places.TheConstants.{BUCKET_ROOTS, BUCKETS}
 use Rattle.pin_store.specs.declared.shape.Shape.{Shape}
 use Rattle.block_codec.specs.declared.filter.StoredFilter.{StoredFilter}
 use Rattle.block_codec.specs.declared.mask.StoredMask.{StoredMask}
@@ -51,9 +52,9 @@ bucket_aside mirror shape cells roots keeps mask is rows k less at =
 
 -- so is its place
 pub place_aside : (mirror : Mirror) (shape : Shape) (cells : List ℕ) (roots : ℕ → Named) → IsKept mirror shape cells roots → (mask : StoredMask) → IsStorableMask mask → AreFreeRows mirror mask.rows
-    → (k place : ℕ) → k < mask.size → place ≡ bucket_at mask k → BucketAt mirror (10243 + place) → ⊥
+    → (k place : ℕ) → k < mask.size → place ≡ bucket_at mask k → BucketAt mirror (BUCKET_ROOTS + place) → ⊥
 place_aside mirror shape cells roots keeps mask is rows k place less at b =
-    bucket_aside mirror shape cells roots keeps mask is rows k less (subst (BucketAt mirror) (ap (λ (n : ℕ). 10243 + n) at ∙ sym (at_root mask k)) b)
+    bucket_aside mirror shape cells roots keeps mask is rows k less (subst (BucketAt mirror) (ap (λ (n : ℕ). BUCKET_ROOTS + n) at ∙ sym (at_root mask k)) b)
 
 -- a key has a bucket
 pub bucket_within : (mask : StoredMask) → IsStorableMask mask → (key : List ℕ) → bucket_for mask.size key < mask.size
@@ -100,11 +101,11 @@ module _ (mirror mirror2 : Mirror) (next : mirror2.next.items ≡ mirror.next.it
 
 -- ---- the numbers of buckets
 -- what was read at a place is what is kept there
-pub first_read : (mirror : Mirror) (place found : ℕ) → place < 131072 → found ≡ get_or mirror.first.items place found → found ≡ get_or mirror.first.items place 0
+pub first_read : (mirror : Mirror) (place found : ℕ) → place < BUCKETS → found ≡ get_or mirror.first.items place found → found ≡ get_or mirror.first.items place 0
 first_read mirror place found small e = let long = mirror.first_long in e ∙ get_or_default mirror.first.items place found 0 (omega arith)
 
 -- once a place has 0, so has one that had it before or is the same
-pub zero_at : (mirror mirror2 : Mirror) (place at : ℕ) → place < 131072 → IsRenamed mirror mirror2 place 0 → (at ≢ place → get_or mirror.first.items at 0 ≡ 0) → get_or mirror2.first.items at 0 ≡ 0
+pub zero_at : (mirror mirror2 : Mirror) (place at : ℕ) → place < BUCKETS → IsRenamed mirror mirror2 place 0 → (at ≢ place → get_or mirror.first.items at 0 ≡ 0) → get_or mirror2.first.items at 0 ≡ 0
 zero_at mirror mirror2 place at small renamed before = ap (λ (ns : List ℕ). get_or ns at 0) renamed.first ∙ pick (eqb_tells at place)
   where
     pick : ((eqb at place ≡ true) × (at ≡ place)) ⊎ ((eqb at place ≡ false) × (at ≢ place)) → get_or (set mirror.first.items place 0) at 0 ≡ 0
@@ -112,7 +113,7 @@ zero_at mirror mirror2 place at small renamed before = ap (λ (ns : List ℕ). g
     pick (inr (e, is)) = get_or-set_other mirror.first.items place at 0 0 is ∙ before is
 
 -- ---- a chain begins at a place that is no standing mask's
-module _ (mirror mirror2 : Mirror) (place number : ℕ) (renamed : IsRenamed mirror mirror2 place number) (aside : BucketAt mirror (10243 + place) → ⊥) where
+module _ (mirror mirror2 : Mirror) (place number : ℕ) (renamed : IsRenamed mirror mirror2 place number) (aside : BucketAt mirror (BUCKET_ROOTS + place) → ⊥) where
   first_stays : (root : ℕ) (at : BucketAt mirror root) → get_or mirror2.first.items (bucket_at at.kept.mask at.bucket) 0 ≡ get_or mirror.first.items (bucket_at at.kept.mask at.bucket) 0
   first_stays root at = let start = bucket_at at.kept.mask at.bucket in
       let away : start ≢ place = λ e. aside (record {
@@ -121,7 +122,7 @@ module _ (mirror mirror2 : Mirror) (place number : ℕ) (renamed : IsRenamed mir
         kept = at.kept;
         stands = at.stands;
         within = at.within;
-        same = sym (at_root at.kept.mask at.bucket ∙ ap (λ (k : ℕ). 10243 + k) e);
+        same = sym (at_root at.kept.mask at.bucket ∙ ap (λ (k : ℕ). BUCKET_ROOTS + k) e);
       }) in
       ap (λ (xs : List ℕ). get_or xs start 0) renamed.first ∙ get_or-set_other mirror.first.items place start number 0 away
 

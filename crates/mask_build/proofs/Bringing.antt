@@ -10,6 +10,7 @@ use Rattle.std.proofs.lemmas.Map.Steps.{length-le_from_distinct_below}
 use Rattle.std.proofs.lemmas.Option.{slice_get_within, get_or_from_slice_get, slice_get-get_or}
 use Rattle.store_history.proofs.Lists.{some_is}
 use Rattle.store_history.specs.declared.history.Commit.{Commit}
+use Rattle.store_history.specs.declared.places.TheConstants.{POOL_BLOCKS}
 use Rattle.pin_store.specs.declared.shape.Shape.{Shape}
 use Rattle.block_codec.specs.declared.filter.StoredFilter.{StoredFilter}
 use Rattle.block_codec.specs.declared.mask.StoredMask.{StoredMask}
@@ -38,8 +39,8 @@ any_among x (y ∷ ys) e = pick (eqb x y) refl e (any_among x ys)
     pick false is e rest = let r = rest e in (suc r.0, r.1)
 
 -- no more blocks are given than the pool has
-pub few_given : {E : Type 0} (base : ℕ) (h : List (Commit E)) (bs : List ℕ) → AreGiven base h bs → length bs ≤ 16384
-few_given base h bs given = length-le_from_distinct_below bs 16384 given.different (λ q e. let there = any_among q bs e in given.pool there.0 q there.1)
+pub few_given : {E : Type 0} (base : ℕ) (h : List (Commit E)) (bs : List ℕ) → AreGiven base h bs → length bs ≤ POOL_BLOCKS
+few_given base h bs given = length-le_from_distinct_below bs POOL_BLOCKS given.different (λ q e. let there = any_among q bs e in given.pool there.0 q there.1)
 
 -- ---- what is laid in given blocks
 pub laid_first : (bs : List ℕ) → laid_in bs [] ≡ []

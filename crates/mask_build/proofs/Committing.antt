@@ -9,6 +9,7 @@ use Rattle.std.proofs.lemmas.List.FromFn.{map-range_with_len_more, take-map-rang
 use Rattle.store_history.specs.declared.history.Commit.{Commit}
 use Rattle.store_history.specs.History.{root_of, IsLinked}
 use Rattle.store_history.proofs.Histories.{root_own, root_other}
+use Rattle.store_history.specs.declared.places.TheConstants.{MASK_ROOTS, BUCKET_ROOTS}
 use Rattle.pin_store.specs.declared.shape.Shape.{Shape}
 use Rattle.pin_store.specs.Layout.{block_words, links_of, commit_of}
 use Rattle.block_codec.specs.declared.mask.StoredMask.{StoredMask}
@@ -33,11 +34,11 @@ spelled_at mirror shape cells mask xs laid bucket place number less at was =
 
 -- makes the commit of the bucket
 pub bucket_commit_is : {E : Type 0} (mirror : Mirror) (shape : Shape) (cells : List ℕ) (mask : StoredMask) (xs : List Laid) → IsLaid mirror shape cells mask xs → (bucket place number : ℕ) → bucket < mask.size → place ≡ bucket_at mask bucket
-    → number ≡ get_or mirror.first.items place 0 → (blocks : List ℕ) → Spells mirror.next.items number blocks → (stamp : ℕ) (edit : E) → commit_of shape cells (10243 + place) blocks stamp None edit ≡ bucket_commit mask (places xs) stamp bucket
+    → number ≡ get_or mirror.first.items place 0 → (blocks : List ℕ) → Spells mirror.next.items number blocks → (stamp : ℕ) (edit : E) → commit_of shape cells (BUCKET_ROOTS + place) blocks stamp None edit ≡ bucket_commit mask (places xs) stamp bucket
 bucket_commit_is {E} mirror shape cells mask xs laid bucket place number less at was blocks spelled stamp edit =
     let is = same_blocks mirror.next.items number number blocks (blocks_in mask.size bucket xs) refl spelled (spelled_at mirror shape cells mask xs laid bucket place number less at was) in
     let links = ap (links_of shape cells) is ∙ links_laid mirror shape cells mask xs laid bucket less in
-    let root : 10243 + place ≡ bucket_root mask bucket = ap (λ (k : ℕ). 10243 + k) at ∙ sym (at_root mask bucket) in
+    let root : BUCKET_ROOTS + place ≡ bucket_root mask bucket = ap (λ (k : ℕ). BUCKET_ROOTS + k) at ∙ sym (at_root mask bucket) in
     λ t. record { root = root t; named = record { chain = links t; stamp = stamp }; edit = None }
 
 few_words : (mask : StoredMask) → length mask.mask.words ≡ 14 → length (mask_words mask) ≤ 39
@@ -50,8 +51,8 @@ record_linked shape cells b mask wide is = subst (λ (w : ℕ). IsLinked w (link
 
 -- and the commit of the slot
 pub mask_commit_is : {E : Type 0} (shape : Shape) (cells : List ℕ) (slot b : ℕ) (mask : StoredMask) → IsMaskBlock (block_words shape cells b) (mask, None) → (stamp : ℕ) (edit : E)
-    → commit_of shape cells (3 + slot) (b ∷ []) stamp None edit ≡ mask_commit slot mask b stamp
-mask_commit_is shape cells slot b mask is stamp edit = λ t. record { root = 3 + slot; named = record { chain = record { block = b; words = is.words_are t } ∷ []; stamp = stamp }; edit = None }
+    → commit_of shape cells (MASK_ROOTS + slot) (b ∷ []) stamp None edit ≡ mask_commit slot mask b stamp
+mask_commit_is shape cells slot b mask is stamp edit = λ t. record { root = MASK_ROOTS + slot; named = record { chain = record { block = b; words = is.words_are t } ∷ []; stamp = stamp }; edit = None }
 
 -- ---- all commits
 module _ {E : Type 0} (h : List (Commit E)) (mask : StoredMask) (ps : List Placed) (stamp : ℕ) where

@@ -5,6 +5,7 @@ use Rattle.std.specs.List.{IsDistinct}
 use Rattle.std.proofs.lemmas.Bool.Decides.{eqb_tells}
 use Rattle.std.proofs.lemmas.List.{map-append}
 use Rattle.store_history.specs.History.{first_block}
+use Rattle.store_history.specs.declared.places.TheConstants.{BUCKET_ROOTS}
 use Rattle.pin_store.specs.declared.shape.Shape.{Shape}
 use Rattle.pin_store.specs.Layout.{links_of}
 use Rattle.block_codec.specs.declared.filter.StoredFilter.{StoredFilter}
@@ -151,7 +152,7 @@ module _ (mirror mid mirror2 : Mirror) (shape : Shape) (old new : List ℕ) (mas
   other_first : (bucket : ℕ) → bucket < mask.size → own ≢ bucket → first_at mirror2 bucket ≡ first_at mirror bucket
   other_first bucket less other =
       let far : bucket_at mask bucket ≢ place = λ e. other (bucket_once mask storable different own bucket some less
-      (at_root mask own ∙ (ap (λ (k : ℕ). 10243 + k) (sym at ∙ sym e) ∙ sym (at_root mask bucket)))) in
+      (at_root mask own ∙ (ap (λ (k : ℕ). BUCKET_ROOTS + k) (sym at ∙ sym e) ∙ sym (at_root mask bucket)))) in
       ap (λ (ns : List ℕ). get_or ns (bucket_at mask bucket) 0) begun.first
       ∙ (get_or-set_other mid.first.items place (bucket_at mask bucket) (b + 1) 0 far ∙ ap (λ (ns : List ℕ). get_or ns (bucket_at mask bucket) 0) filled.first)
 

@@ -7,6 +7,7 @@ use Rattle.store_history.specs.declared.history.Named.{Named}
 use Rattle.store_history.specs.declared.history.Commit.{Commit}
 use Rattle.store_history.specs.History.{root_of}
 use Rattle.store_history.proofs.Histories.{root_own, root_other}
+use Rattle.store_history.specs.declared.places.TheConstants.{MASK_SLOTS, POOL_BLOCKS}
 use Rattle.pin_store.specs.declared.shape.Shape.{Shape}
 use Rattle.pin_store.specs.Layout.{block_words, links_of}
 use Rattle.block_codec.specs.declared.filter.StoredFilter.{StoredFilter}
@@ -39,7 +40,7 @@ one_bucket : (filters : List (Option StoredFilter)) (size j k b : ℕ) → ((f :
 one_bucket filters size j k b (f, there, hashed) (g, here, mixed) = let both : Some f ≡ Some g = sym there ∙ here in let same : f ≡ g = cc in sym hashed ∙ (ap (λ (x : StoredFilter). bucket_for size x.key.words) same ∙ mixed)
 
 -- ---- a mask is kept at a slot
-module _ (mirror mirror2 : Mirror) (slot : ℕ) (new : KeptMask) (small : slot < 8192) (slots : mirror2.slots.items ≡ set mirror.slots.items slot (Some new)) where
+module _ (mirror mirror2 : Mirror) (slot : ℕ) (new : KeptMask) (small : slot < MASK_SLOTS) (slots : mirror2.slots.items ≡ set mirror.slots.items slot (Some new)) where
   pub stands_new : Stands mirror2 slot new
   stands_new = let long = mirror.slots_long in ap (λ (xs : List (Option KeptMask)). get_or xs slot None) slots ∙ get_or-set_same mirror.slots.items slot (Some new) None (omega arith)
 
@@ -59,7 +60,7 @@ module _ (mirror mirror2 : Mirror) (slot : ℕ) (new : KeptMask) (small : slot <
 
   module _ (shape : Shape) (cells : List ℕ) (roots roots2 : ℕ → Named) (xs : List Laid)
       (first : mirror2.first.items ≡ mirror.first.items) (next : mirror2.next.items ≡ mirror.next.items) (filters : mirror2.filters.items ≡ mirror.filters.items)
-      (is : IsMaskBlock (block_words shape cells new.block) (new.mask, None)) (low : new.block < 16384) (rows : AreFreeRows mirror new.mask.rows)
+      (is : IsMaskBlock (block_words shape cells new.block) (new.mask, None)) (low : new.block < POOL_BLOCKS) (rows : AreFreeRows mirror new.mask.rows)
       (keeps : IsKept mirror shape cells roots) (laid : IsLaid mirror shape cells new.mask xs) (free : (b : ℕ) → IsAmong b (laid_blocks xs) → (root : ℕ) → Names roots root b → ⊥)
       (others : (r : ℕ) → r ≢ mask_root slot → ((k : ℕ) → k < new.mask.size → r ≢ bucket_root new.mask k) → (roots2 r).chain ≡ (roots r).chain)
       (owns : (k : ℕ) → k < new.mask.size → (roots2 (bucket_root new.mask k)).chain ≡ links_of shape cells (blocks_in new.mask.size k xs))
@@ -175,14 +176,14 @@ module _ (mirror mirror2 : Mirror) (slot : ℕ) (new : KeptMask) (small : slot <
 
 -- ---- the commits of a raising
 module _ {E : Type 0} (mirror : Mirror) (shape : Shape) (old new : List ℕ) (mask : StoredMask) (base : ℕ) (h : List (Commit E)) (slot b stamp : ℕ) (xs : List Laid)
-    (wide : 16384 ≤ shape.blocks) (others : (other : ℕ) → other ≢ b → other < shape.blocks → block_words shape new other ≡ block_words shape old other) (ready : IsReady mirror shape old mask base h b xs) where
+    (wide : POOL_BLOCKS ≤ shape.blocks) (others : (other : ℕ) → other ≢ b → other < shape.blocks → block_words shape new other ≡ block_words shape old other) (ready : IsReady mirror shape old mask base h b xs) where
   filled : IsFilled mirror mirror shape old new b
   filled = record { wide = wide; others = others; slots = refl; first = refl; next = λ c apart. refl; filters = λ c apart. refl; ages = λ c apart. refl }
 
   pub laid_still : IsLaid mirror shape new mask xs
   laid_still = laid_filled mirror shape old new b mask xs filled ready.apart ready.laid
 
-  module _ (mirror2 : Mirror) (small : slot < 8192) (slots : mirror2.slots.items ≡ set mirror.slots.items slot (Some (record { block = b; mask = mask })))
+  module _ (mirror2 : Mirror) (small : slot < MASK_SLOTS) (slots : mirror2.slots.items ≡ set mirror.slots.items slot (Some (record { block = b; mask = mask })))
       (first : mirror2.first.items ≡ mirror.first.items) (next : mirror2.next.items ≡ mirror.next.items) (filters : mirror2.filters.items ≡ mirror.filters.items)
       (is : IsMaskBlock (block_words shape new b) (mask, None)) (rows : AreFreeRows mirror mask.rows) (recent : base ≤ length h) (keeps : IsKept mirror shape old (root_of h)) where
     abbrev before : List (Commit E)

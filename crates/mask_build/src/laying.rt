@@ -1,5 +1,5 @@
 //! Filters laid into blocks for a mask that no root names yet.
-ghost use Rattle.block_codec.specs.declared.places.TheConstants.{POOL_BLOCKS};
+ghost use Rattle.store_history.specs.declared.places.TheConstants.{POOL_BLOCKS};
 ghost use Rattle.std.specs.Prelude.{◌≡◌, ◌≢◌, ℕ, ◌<◌, ◌≤◌, ◌+◌, ◌*◌, ◌++◌, ◌∷◌, [], List, length, All};
 ghost use Rattle.store_history.specs.History.{root_of};
 ghost use Rattle.pin_store.specs.Layout.{block_words};

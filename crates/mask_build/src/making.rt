@@ -1,5 +1,5 @@
 //! A mask made from nothing.
-ghost use Rattle.block_codec.specs.declared.places.TheConstants.{MASK_SLOTS};
+ghost use Rattle.store_history.specs.declared.places.TheConstants.{MASK_SLOTS};
 ghost use Rattle.std.specs.Prelude.{◌≡◌, ◌≢◌, ℕ, ◌+◌, ◌<◌, ◌≤◌, ◌++◌, List, length, take, slice_index};
 ghost use Rattle.std.specs.Prelude.{slice_set, Some, All};
 ghost use Rattle.store_history.specs.History.{root_of};

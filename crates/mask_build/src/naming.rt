@@ -1,5 +1,5 @@
 //! The roots of a mask that come to name what was laid for it.
-ghost use Rattle.block_codec.specs.declared.places.TheConstants.{MASK_SLOTS, POOL_BLOCKS};
+ghost use Rattle.store_history.specs.declared.places.TheConstants.{MASK_SLOTS, POOL_BLOCKS};
 ghost use Rattle.std.specs.Prelude.{◌≡◌, ℕ, ◌<◌, ◌≤◌, ◌++◌, ◌∷◌, [], List, None};
 ghost use Rattle.pin_store.specs.Layout.{block_words};
 ghost use Rattle.pin_store.specs.Sheets.{base_of};
@@ -11,9 +11,9 @@ ghost use Rattle.mask_table.specs.OfMirrors.Linked.{bucket_commits, mask_commit}
 ghost use Rattle.mask_build.specs.Laid.{Laid, places, IsLaid};
 
 use block_codec::StoredMask;
-use block_codec::places::{BUCKET_ROOTS, MASK_ROOTS};
 use mask_table::mirrors::{Mirror, NumberRoom, name_chain, place_of};
 use pin_store::{Store, Writer};
+use store_history::places::{BUCKET_ROOTS, MASK_ROOTS};
 use store_history::{EditName, Law};
 use tc_base::Point;
 

@@ -1,5 +1,5 @@
 //! A mask that comes to stand.
-ghost use Rattle.block_codec.specs.declared.places.TheConstants.{MASK_SLOTS};
+ghost use Rattle.store_history.specs.declared.places.TheConstants.{MASK_SLOTS};
 ghost use Rattle.std.specs.Prelude.{◌≡◌, ◌≢◌, ℕ, ◌+◌, ◌<◌, ◌≤◌, ◌++◌, List, take, slice_set, Some};
 ghost use Rattle.store_history.specs.History.{root_of};
 ghost use Rattle.pin_store.specs.Layout.{block_words};

@@ -7,6 +7,7 @@ use Rattle.std.proofs.lemmas.List.{map-append, length-map}
 use Rattle.std.proofs.lemmas.List.Elements.{All-append, All-nil, All-from_recursion}
 use Rattle.std.proofs.lemmas.List.Sorted.{IsPermutation-refl, IsPermutation-trans, IsPermutation-cons, IsPermutation-append_left, IsPermutation-to_front, length_permutation}
 use Rattle.store_history.specs.declared.history.Named.{Named}
+use Rattle.store_history.specs.declared.places.TheConstants.{POOL_BLOCKS}
 use Rattle.pin_store.specs.declared.shape.Shape.{Shape}
 use Rattle.block_codec.specs.declared.filter.StoredFilter.{StoredFilter}
 use Rattle.block_codec.specs.declared.mask.StoredMask.{StoredMask}
@@ -62,7 +63,7 @@ all_once size some (d ∷ ds) = IsPermutation-trans (dated_to size size (d ∷ d
     (one_more size size d ds (omega arith)) (IsPermutation-cons (kept_as d) (dated_to size size ds) (map kept_as ds) (all_once size some ds))
 
 -- ---- the blocks
-low_blocks : (next : List ℕ) (number : ℕ) (bs : List ℕ) → Spells next number bs → AllByRecursion (λ b. b < 16384) bs
+low_blocks : (next : List ℕ) (number : ℕ) (bs : List ℕ) → Spells next number bs → AllByRecursion (λ b. b < POOL_BLOCKS) bs
 low_blocks next number [] s = tt
 low_blocks next number (b ∷ bs) s = (s.1, low_blocks next (get_or next b 0) bs s.2)
 
@@ -77,9 +78,9 @@ module _ (mirror : Mirror) (shape : Shape) (cells : List ℕ) (roots : ℕ → N
       subst (All P) (sym (one_suc k less)) (All-append P (bucket_blocks roots kept.mask k) (bucket mirror shape cells roots slot kept stands keeps k less).blocks (all_to P each k (omega arith)) (each k less))
 
   -- each block of the mask is one of the pool
-  pub all_low : All (λ b. b < 16384) (bucket_blocks roots kept.mask kept.mask.size)
-  all_low = all_to (λ b. b < 16384) (λ k less. let own = bucket mirror shape cells roots slot kept stands keeps k less in
-      All-from_recursion (λ b. b < 16384) own.blocks (low_blocks mirror.next.items _ own.blocks own.chain.spelled)) kept.mask.size (omega arith)
+  pub all_low : All (λ b. b < POOL_BLOCKS) (bucket_blocks roots kept.mask kept.mask.size)
+  all_low = all_to (λ b. b < POOL_BLOCKS) (λ k less. let own = bucket mirror shape cells roots slot kept stands keeps k less in
+      All-from_recursion (λ b. b < POOL_BLOCKS) own.blocks (low_blocks mirror.next.items _ own.blocks own.chain.spelled)) kept.mask.size (omega arith)
 
   module _ (last : ℕ) (fs : List StoredFilter) (has : HasFilters mirror slot last fs) where
     -- each chain has what is to be kept of its bucket

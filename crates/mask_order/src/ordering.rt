@@ -1,5 +1,5 @@
 //! The blocks of a mask, put in order by age.
-ghost use Rattle.block_codec.specs.declared.places.TheConstants.{POOL_BLOCKS};
+ghost use Rattle.store_history.specs.declared.places.TheConstants.{POOL_BLOCKS};
 ghost use Rattle.std.specs.Prelude.{◌≡◌, ℕ, ◌<◌, List, map, All};
 ghost use Rattle.std.specs.List.Sorted.{IsPermutation};
 ghost use Rattle.store_history.specs.declared.history.Named.{Named};

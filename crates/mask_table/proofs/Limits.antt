@@ -4,6 +4,7 @@ use Rattle.std.specs.Prelude.{All, if◌then◌else◌}
 use Rattle.std.proofs.lemmas.List.FromFn.{length-map-range_with_len, take-map-range_with_len}
 use Rattle.store_history.specs.declared.history.Link.{Link}
 use Rattle.store_history.specs.Reads.{read_first}
+use Rattle.store_history.specs.declared.places.TheConstants.{ROWS, ROOTS}
 use Rattle.block_codec.specs.declared.mask.StoredMask.{StoredMask}
 use Rattle.block_codec.specs.Reading.{HasMask, row_in, rows_of, mask_read}
 use Rattle.block_codec.proofs.Masking.{sized}
@@ -15,7 +16,7 @@ pub record IsWithin (mask : StoredMask) : Type 0 where
   pub some : 0 < mask.size
   pub most : mask.size ≤ 1024
   pub rows : mask.size ≡ 16 * length mask.rows
-  pub small : All (λ row. row < 8192) mask.rows
+  pub small : All (λ row. row < ROWS) mask.rows
 
 read_within : (words : List ℕ) → HasMask words → IsWithin (mask_read words)
 read_within words h =
@@ -25,7 +26,7 @@ read_within words h =
       some = grind (arith, sixteen, h.front.size);
       most = most;
       rows = omega arith;
-      small = subst (All (λ row. row < 8192)) (take-map-range_with_len (row_in words) 0 64 count few) h.rows.rows;
+      small = subst (All (λ row. row < ROWS)) (take-map-range_with_len (row_in words) 0 64 count few) h.rows.rows;
     }
 
 of_words : (words : List ℕ) (mask : StoredMask) → mask_of_words words ≡ Some mask → IsWithin mask
@@ -40,5 +41,5 @@ within [] mask e = absurd (cc (e))
 within (l ∷ ls) mask e = of_words l.words mask e
 
 -- the root of a bucket is one of the store's
-pub root_low : (mask : StoredMask) (bucket : ℕ) → IsWithin mask → bucket < mask.size → bucket_root mask bucket < 141315
+pub root_low : (mask : StoredMask) (bucket : ℕ) → IsWithin mask → bucket < mask.size → bucket_root mask bucket < ROOTS
 root_low mask bucket is less = let rows = is.rows in let row = is.small (bucket / 16) 0 (omega arith) in omega arith

@@ -1,5 +1,5 @@
--- The point of a look-up out of the stamps that it loaded.
-use Rattle.std.proofs.Common.{◌≡◌, ◌∙◌, ℕ, List, Option, Some, None, Bool, false, max, refl, sym, subst}
+-- The point of a look-up whose slot named no record.
+use Rattle.std.proofs.Common.{◌≡◌, ℕ, List, Option, None, false, max, refl, sym, subst}
 use Rattle.std.specs.Prelude.{MatchOption}
 use mathlib.Core.List.{IsPrefix}
 use Rattle.store_history.specs.declared.history.Commit.{Commit}
@@ -21,16 +21,4 @@ module _ {E : Type 0} where
     until = prefix_self first;
     stamps = subst (λ (o : Option StoredMask). MatchOption o ((false ≡ false) × (point ≡ (root_of first (mask_root slot)).stamp))
         (λ mask. point ≡ max (root_of first (mask_root slot)).stamp (root_of first (key_root mask key)).stamp)) (sym none) (refl, is);
-  }
-
-  -- it named one, and then its bucket was searched
-  pub with_record : (old first new : List (Commit E)) (slot : ℕ) (key : List ℕ) (mask : StoredMask) (found : Bool) (one other point : ℕ) → IsPrefix old first → IsPrefix first new
-      → read_first mask_of_words (root_of first (mask_root slot)).chain ≡ Some mask → one ≡ (root_of first (mask_root slot)).stamp → other ≡ (root_of new (key_root mask key)).stamp → point ≡ max one other
-      → IsLoadedPoint old new slot key found point
-  with_record old first new slot key mask found one other point since until some is_one is_other is = record {
-    first = first;
-    since = since;
-    until = until;
-    stamps = subst (λ (o : Option StoredMask). MatchOption o ((found ≡ false) × (point ≡ (root_of first (mask_root slot)).stamp))
-        (λ mask. point ≡ max (root_of first (mask_root slot)).stamp (root_of new (key_root mask key)).stamp)) (sym some) (is ∙ λ t. max (is_one t) (is_other t));
   }

@@ -1,5 +1,5 @@
 -- The buckets of a mask, and what a search of filters answers (this project's own).
-use Rattle.block_codec.specs.declared.places.TheConstants.{BUCKET_ROOTS, ROW_BUCKETS}
+use Rattle.store_history.specs.declared.places.TheConstants.{BUCKET_ROOTS, ROW_BUCKETS, MASK_ROOTS}
 use Rattle.std.specs.Prelude.{◌≡◌, ◌≢◌, ℕ, ◌+◌, ◌*◌, ◌/◌, ◌%◌, ◌==◌, Bool, true, false, List, [], ◌∷◌, ◌++◌}
 use Rattle.std.specs.Prelude.{slice_get, slice_index, Some, if◌then◌else◌}
 use Rattle.flow_mask.specs.Hashes.{hash_of}
@@ -14,7 +14,7 @@ IsAmong {A = A} x xs = (place : ℕ) × (slice_get xs place ≡ Some x)
 -- the roots of the hook's store: each mask has one for its record, at its slot, and one for each of its
 -- buckets
 abbrev pub mask_root : ℕ → ℕ
-mask_root slot = 3 + slot
+mask_root slot = MASK_ROOTS + slot
 
 -- sixteen buckets of a mask are a row
 abbrev pub bucket_root : StoredMask → ℕ → ℕ

@@ -5,8 +5,8 @@ use store_history::Law;
 /// A law of a store in which masks stand at slots.
 ///
 /// It tells which mask stands at a slot after some commits, and the words and the filters of a mask after
-/// each number of the edits that commits carry. Whoever states it decides what these are; a look-up relies on
-/// what is said here alone.
+/// each number of the edits that commits carry. Whoever states it decides what these are; what a look-up
+/// tells rests on what is said here alone.
 pub trait MaskLaw: Law {
     ghost use Rattle.std.specs.Prelude.{◌≡◌, ℕ, List, length, take, slice_get, Some, ◌<◌, ◌≤◌};
     ghost use Rattle.store_history.specs.declared.history.Commit.{Commit};

@@ -1,9 +1,11 @@
-//! The masks of a shared store: how a reader looks a key up while one writer changes what it reads.
+//! The masks of a shared store: what a reader's look-up of a key tells while one writer changes what it
+//! reads, and what that writer keeps.
 //!
 //! A mask is a hash table of buckets. Its root, at the mask's slot, names one block, the mask's record: its
 //! serial, its words, how many buckets there are, and the rows that have their roots. A bucket's root names
 //! the chain of the bucket's filters, the latest first. So a look-up is two roots and the blocks of one
-//! bucket, whatever the number of filters; `lookup`'s clause bounds the loads.
+//! bucket, whatever the number of filters. The call is `look` of `kept_records`, which may know the record
+//! and the filter from before; what it tells is defined here (`specs/Told.antt`).
 //!
 //! # Why the point is the greatest of the stamps
 //!
@@ -21,20 +23,15 @@
 //!
 //! # Who may call what
 //!
-//! `lookup` is a reader's, made by the one thread that has it, inside the store. It takes no memory, and
-//! waits for nobody. Whoever states the store's law implements `MaskLaw` for it; this crate says nothing of
-//! how edits become commits.
+//! Whoever states the store's law implements `MaskLaw` for it; this crate says nothing of how edits become
+//! commits. No call here is a reader's. `mirrors` is the writer's side: what it keeps of the masks that it
+//! committed, and the steps in which it changes a chain.
 //!
-//! `mirrors` is the writer's side of the same: what it keeps of the masks that it committed, and the steps in
-//! which it changes a chain.
-//!
-//! Not promised: that two look-ups of one walk have rising points. The layer that walks raises them: a
-//! look-up's clause gives its answer for each higher point as well.
+//! Not promised: that two look-ups of one walk have rising points. The layer that walks raises them: what a
+//! look-up tells holds for each higher point as well.
 #![tactic(auto)]
 
-mod finding;
 mod law;
 pub mod mirrors;
 
-pub use finding::lookup;
 pub use law::MaskLaw;

@@ -3,6 +3,7 @@ use Rattle.std.proofs.Common.{◌≡◌, ◌≢◌, ◌∙◌, ℕ, ◌<◌, ◌
 use Rattle.std.proofs.lemmas.Bool.{eqb-false}
 use Rattle.std.proofs.lemmas.List.{length-set, set-get_or}
 use Rattle.store_history.specs.declared.history.Named.{Named}
+use Rattle.store_history.specs.declared.places.TheConstants.{MASK_SLOTS}
 use Rattle.pin_store.specs.declared.shape.Shape.{Shape}
 use Rattle.block_codec.specs.declared.filter.StoredFilter.{StoredFilter}
 use Rattle.mask_table.specs.declared.mirrors.mirror.Mirror.{Mirror}
@@ -20,7 +21,7 @@ use Rattle.mask_writer.proofs.Showing.{stands_kept, order_is, holds_shown}
 -- what becomes of the arrays and of the orders as the mask at a slot is edited, and its order comes to be
 -- another
 pub record IsEdit (mirror mirror2 : Mirror) (orders orders2 : List (Option Order)) (slot : ℕ) (after : Option Order) : Type 0 where
-  pub small : slot < 8192
+  pub small : slot < MASK_SLOTS
   pub told : IsTold mirror orders
   pub changed : orders2 ≡ set orders slot after
   pub kept : (shape : Shape) × (cells : List ℕ) × (roots : ℕ → Named) × IsKept mirror2 shape cells roots
@@ -70,7 +71,7 @@ pub told_before : (writer : Masks) (mirror : Mirror) (orders : List (Option Orde
 told_before writer mirror orders shown slot last fs has = sym (order_is writer mirror orders shown slot has.kept (stands_kept writer mirror orders shown slot has.kept has.stands)) ∙ has.told
 
 -- ---- the edits
-module _ (mirror mirror2 : Mirror) (orders orders2 : List (Option Order)) (slot : ℕ) (small : slot < 8192) (told : IsTold mirror orders)
+module _ (mirror mirror2 : Mirror) (orders orders2 : List (Option Order)) (slot : ℕ) (small : slot < MASK_SLOTS) (told : IsTold mirror orders)
     (kept : (shape : Shape) × (cells : List ℕ) × (roots : ℕ → Named) × IsKept mirror2 shape cells roots)
     (lists : (other last : ℕ) (fs : List StoredFilter) → other ≢ slot → HasFilters mirror other last fs → HasFilters mirror2 other last fs) where
   abbrev before : Option Order

@@ -7,6 +7,7 @@ use Rattle.std.proofs.lemmas.Nat.{mod_below}
 use Rattle.flow_mask.specs.Hashes.{hash_of}
 use Rattle.store_history.specs.declared.history.Commit.{Commit}
 use Rattle.store_history.specs.History.{root_of, first_block}
+use Rattle.store_history.specs.declared.places.TheConstants.{BUCKET_ROOTS, BUCKETS}
 use Rattle.pin_store.specs.declared.shape.Shape.{Shape}
 use Rattle.pin_store.specs.Layout.{block_words, links_of, commit_of, block_in}
 use Rattle.block_codec.specs.declared.filter.StoredFilter.{StoredFilter}
@@ -33,61 +34,61 @@ module _ {E : Type 0} (mirror mirror2 : Mirror) (shape : Shape) (old new : List 
   abbrev storable : IsStorableMask kept.mask
   storable = (keeps.masks slot kept stands).there.storable
 
-  abbrev own : BucketAt mirror (10243 + place)
+  abbrev own : BucketAt mirror (BUCKET_ROOTS + place)
   own = record {
     slot = slot;
     bucket = bucket_for kept.mask.size filter.key.words;
     kept = kept;
     stands = stands;
     within = mod_below (hash_of filter.key.words) kept.mask.size (some_buckets kept.mask storable);
-    same = ap (λ (k : ℕ). 10243 + k) at ∙ sym (at_root kept.mask (bucket_for kept.mask.size filter.key.words));
+    same = ap (λ (k : ℕ). BUCKET_ROOTS + k) at ∙ sym (at_root kept.mask (bucket_for kept.mask.size filter.key.words));
   }
 
   abbrev before : KeepsBucket mirror shape old (root_of h) kept.mask (bucket_for kept.mask.size filter.key.words)
-  before = keeps.buckets (10243 + place) own
+  before = keeps.buckets (BUCKET_ROOTS + place) own
 
   old_chain : HoldsChain mirror shape old kept.mask.size (bucket_for kept.mask.size filter.key.words) next before.blocks
   old_chain = subst (λ (k : ℕ). HoldsChain mirror shape old kept.mask.size (bucket_for kept.mask.size filter.key.words) k before.blocks) (sym (was ∙ ap (λ (k : ℕ). get_or mirror.first.items k 0) at)) before.chain
 
-  named : (root_of h (10243 + place)).chain ≡ links_of shape old before.blocks
+  named : (root_of h (BUCKET_ROOTS + place)).chain ≡ links_of shape old before.blocks
   named = ap (λ (k : ℕ). (root_of h k).chain) own.same ∙ before.named
 
   apart : (k c : ℕ) → slice_get before.blocks k ≡ Some c → c ≢ b
-  apart k c e is = free (10243 + place) (subst (Names (root_of h) (10243 + place)) is (names_each (root_of h) (10243 + place) shape old before.blocks named k c e))
+  apart k c e is = free (BUCKET_ROOTS + place) (subst (Names (root_of h) (BUCKET_ROOTS + place)) is (names_each (root_of h) (BUCKET_ROOTS + place) shape old before.blocks named k c e))
 
-  own_new : BucketAt mirror2 (10243 + place)
-  own_new = bucket_with mirror2 mirror (10243 + place) (sym filled.slots) own
+  own_new : BucketAt mirror2 (BUCKET_ROOTS + place)
+  own_new = bucket_with mirror2 mirror (BUCKET_ROOTS + place) (sym filled.slots) own
 
-  are_own : AreOwn mirror2 (root_of h) (10243 + place) (b ∷ before.blocks)
+  are_own : AreOwn mirror2 (root_of h) (BUCKET_ROOTS + place) (b ∷ before.blocks)
   are_own zero c other e there names = let is : b ≡ c = cc in absurd (free other (subst (Names (root_of h) other) (sym is) names))
-  are_own (suc k) c other e there names = keeps.once other (10243 + place) c (bucket_with mirror mirror2 other filled.slots there) own names (names_each (root_of h) (10243 + place) shape old before.blocks named k c e)
+  are_own (suc k) c other e there names = keeps.once other (BUCKET_ROOTS + place) c (bucket_with mirror mirror2 other filled.slots there) own names (names_each (root_of h) (BUCKET_ROOTS + place) shape old before.blocks named k c e)
 
   -- what the filling says of any chain
   abbrev Extends : Type 0
   Extends = (size : ℕ) (blocks : List ℕ) → ((k c : ℕ) → slice_get blocks k ≡ Some c → c ≢ b) → HoldsChain mirror shape old size (bucket_for size filter.key.words) next blocks
       → HoldsChain mirror2 shape new size (bucket_for size filter.key.words) (b + 1) (b ∷ blocks)
 
-  pub chain_ready : Extends → (own2 : BucketAt mirror2 (10243 + place)) × (blocks : List ℕ) × HoldsChain mirror2 shape new own2.kept.mask.size own2.bucket (b + 1) blocks × AreOwn mirror2 (root_of h) (10243 + place) blocks
+  pub chain_ready : Extends → (own2 : BucketAt mirror2 (BUCKET_ROOTS + place)) × (blocks : List ℕ) × HoldsChain mirror2 shape new own2.kept.mask.size own2.bucket (b + 1) blocks × AreOwn mirror2 (root_of h) (BUCKET_ROOTS + place) blocks
   unfolding own_new
   chain_ready more = (own_new, b ∷ before.blocks, more kept.mask.size before.blocks apart old_chain, are_own)
 
   -- the links are those of the insertion
   links_new : IsFilterBlock (block_words shape new b) (filter, block_in next)
-      → links_of shape new (b ∷ before.blocks) ≡ record { block = b; words = block (filter_words filter) (first_block (root_of h (10243 + place)).chain) } ∷ (root_of h (10243 + place)).chain
+      → links_of shape new (b ∷ before.blocks) ≡ record { block = b; words = block (filter_words filter) (first_block (root_of h (BUCKET_ROOTS + place)).chain) } ∷ (root_of h (BUCKET_ROOTS + place)).chain
   links_new there =
-      let link : block_in next ≡ first_block (root_of h (10243 + place)).chain = ap block_in (first_spelled mirror.next.items next before.blocks old_chain.spelled) ∙ (first_link_of shape old before.blocks ∙ ap first_block (sym named)) in
+      let link : block_in next ≡ first_block (root_of h (BUCKET_ROOTS + place)).chain = ap block_in (first_spelled mirror.next.items next before.blocks old_chain.spelled) ∙ (first_link_of shape old before.blocks ∙ ap first_block (sym named)) in
       let words = there.words_are ∙ ap (block (filter_words filter)) link in
       let rest = links_same shape old new before.blocks (λ k c e. let low = spelled_low mirror.next.items next before.blocks old_chain.spelled k c e in let wide = filled.wide in filled.others c (apart k c e) (omega arith)) ∙ sym named in
       λ t. record { block = b; words = words t } ∷ rest t
 
-  pub commit_is : IsFilterBlock (block_words shape new b) (filter, block_in next) → Extends → (blocks : List ℕ) → Spells mirror2.next.items (b + 1) blocks → (number : ℕ) (edit : E) → commit_of shape new (10243 + place) blocks number (Some number) edit ≡ insert_at h (root_for kept.mask filter) b filter number edit
+  pub commit_is : IsFilterBlock (block_words shape new b) (filter, block_in next) → Extends → (blocks : List ℕ) → Spells mirror2.next.items (b + 1) blocks → (number : ℕ) (edit : E) → commit_of shape new (BUCKET_ROOTS + place) blocks number (Some number) edit ≡ insert_at h (root_for kept.mask filter) b filter number edit
   commit_is there more blocks s number edit =
       let is = same_blocks mirror2.next.items (b + 1) (b + 1) blocks (b ∷ before.blocks) refl s (more kept.mask.size before.blocks apart old_chain).spelled in
       let links = ap (links_of shape new) is ∙ links_new there in
-      (λ t. record { root = 10243 + place; named = record { chain = links t; stamp = number }; edit = Some (number, edit) }) ∙ ap (λ (r : ℕ). insert_at h r b filter number edit) own.same
+      (λ t. record { root = BUCKET_ROOTS + place; named = record { chain = links t; stamp = number }; edit = Some (number, edit) }) ∙ ap (λ (r : ℕ). insert_at h r b filter number edit) own.same
 
   -- the mask's filters, once the chain is named as well
-  module _ (age edit : ℕ) (mirror3 : Mirror) (renamed : IsRenamed mirror2 mirror3 place (b + 1)) (keeps2 : IsKept mirror2 shape new (root_of h)) (low : place < 131072)
+  module _ (age edit : ℕ) (mirror3 : Mirror) (renamed : IsRenamed mirror2 mirror3 place (b + 1)) (keeps2 : IsKept mirror2 shape new (root_of h)) (low : place < BUCKETS)
       (dated : kept_in mirror2 b ≡ (age, Some filter)) (age_is : age ≡ age_of edit 0) (lists : (other last : ℕ) (fs : List StoredFilter) → HasFilters mirror other last fs → HasFilters mirror2 other last fs) where
     pub others_have : (other last : ℕ) (fs : List StoredFilter) → other ≢ slot → HasFilters mirror other last fs → HasFilters mirror3 other last fs
     unfolding own_new
@@ -120,8 +121,8 @@ module _ {E : Type 0} (mirror mirror2 : Mirror) (shape : Shape) (old new : List 
       less : bucket < mask.size
       less = subst (λ (m : StoredMask). bucket_for m.size filter.key.words < m.size) same own.within
 
-      abbrev own2 : BucketAt mirror2 (10243 + place)
-      own2 = record { slot = slot; bucket = bucket; kept = has2.kept; stands = has2.stands; within = less; same = ap (λ (k : ℕ). 10243 + k) at2 ∙ sym (at_root mask bucket) }
+      abbrev own2 : BucketAt mirror2 (BUCKET_ROOTS + place)
+      own2 = record { slot = slot; bucket = bucket; kept = has2.kept; stands = has2.stands; within = less; same = ap (λ (k : ℕ). BUCKET_ROOTS + k) at2 ∙ sym (at_root mask bucket) }
 
       spelled2 : Spells mirror2.next.items next before.blocks
       spelled2 = spells_same mirror.next.items mirror2.next.items next before.blocks (λ k c e. filled.next c (apart k c e)) old_chain.spelled
@@ -151,7 +152,7 @@ module _ {E : Type 0} (mirror mirror2 : Mirror) (shape : Shape) (old new : List 
       others3 : (other : ℕ) → other ≢ bucket → other < mask.size → SameChain mirror2 mirror3 (bucket_at mask other)
       others3 other away inside = let this = bucket_root mask other in
           chain_renamed mirror2 mirror3 place (b + 1) renamed shape new (root_of h) keeps2 this (record { slot = slot; bucket = other; kept = has2.kept; stands = has2.stands; within = inside; same = refl })
-          (λ e. away (keeps2.apart (10243 + place) (record { slot = slot; bucket = other; kept = has2.kept; stands = has2.stands; within = inside; same = sym e }) own2).1)
+          (λ e. away (keeps2.apart (BUCKET_ROOTS + place) (record { slot = slot; bucket = other; kept = has2.kept; stands = has2.stands; within = inside; same = sym e }) own2).1)
 
       rise3 : Rises 0 (age_of (edit + 1) 0) (has2.dated ++ newest ∷ [])
       rise3 = rises_append 0 (age_of (last + 1) 0) (age_of (edit + 1) 0) has2.dated (newest ∷ []) has2.rise (omega (arith, age_is), omega (arith, age_is))

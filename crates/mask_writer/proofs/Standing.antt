@@ -10,6 +10,7 @@ use Rattle.store_history.specs.declared.history.Link.{Link}
 use Rattle.store_history.specs.declared.history.Named.{Named}
 use Rattle.store_history.specs.History.{first_block}
 use Rattle.store_history.specs.Reads.{in_front, read_all, read_first}
+use Rattle.store_history.specs.declared.places.TheConstants.{MASK_SLOTS}
 use Rattle.pin_store.specs.declared.shape.Shape.{Shape}
 use Rattle.pin_store.specs.Layout.{block_words, links_of}
 use Rattle.block_codec.specs.declared.filter.StoredFilter.{StoredFilter}
@@ -29,7 +30,7 @@ use Rattle.mask_writer.specs.Masks.{Order, Masks}
 use Rattle.mask_writer.specs.Standing.{mask_in, masks_of, chain_at, StandsAt, IsEmptyAt, Holds, AreFiled, first_in, NamesChain, AreNamed}
 
 -- so many slots there are
-pub slots_count : (writer : Masks) (shape : Shape) (cells : List ℕ) (roots : ℕ → Named) → AreNamed writer shape cells roots → length (masks_of writer) ≡ 8192
+pub slots_count : (writer : Masks) (shape : Shape) (cells : List ℕ) (roots : ℕ → Named) → AreNamed writer shape cells roots → length (masks_of writer) ≡ MASK_SLOTS
 slots_count writer shape cells roots named = length-map writer.at mask_in ∙ named.slots
 
 -- one mask stands at a slot

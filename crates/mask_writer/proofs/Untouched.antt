@@ -7,6 +7,7 @@ use Rattle.store_history.specs.declared.history.Named.{Named}
 use Rattle.store_history.specs.declared.history.Commit.{Commit}
 use Rattle.store_history.specs.History.{root_of}
 use Rattle.store_history.proofs.Histories.{root_other}
+use Rattle.store_history.specs.declared.places.TheConstants.{MASK_SLOTS}
 use Rattle.pin_store.specs.declared.shape.Shape.{Shape}
 use Rattle.block_codec.specs.declared.mask.StoredMask.{StoredMask}
 use Rattle.block_codec.specs.Masks.{IsStorableMask}
@@ -81,7 +82,7 @@ module _ {E : Type 0} (mirror : Mirror) (shape : Shape) (cells : List ℕ) (h h2
       ∙ ap (λ (n : Named). n.chain) (root_other h c root (λ e. away ((keeps.apart c.root (record { slot = at.slot; bucket = at.bucket; kept = at.kept; stands = at.stands; within = at.within; same = e ∙ at.same }) own).0 ∙ mine)))
 
   -- those of a whole mask there, in free rows
-  pub raised_roots : slot < 8192 → (mask : StoredMask) (b : ℕ) (ps : List Placed) (stamp : ℕ) → IsStorableMask mask → AreFreeRows mirror mask.rows → h2 ≡ h ++ raise_commits slot mask b ps stamp
+  pub raised_roots : slot < MASK_SLOTS → (mask : StoredMask) (b : ℕ) (ps : List Placed) (stamp : ℕ) → IsStorableMask mask → AreFreeRows mirror mask.rows → h2 ≡ h ++ raise_commits slot mask b ps stamp
       → SameRoots mirror slot (root_of h) (root_of h2)
   raised_roots small mask b ps stamp is rows seen root at away =
       let cs : List (Commit E) = h ++ bucket_commits mask ps stamp mask.size in let last : Commit E = mask_commit slot mask b stamp in

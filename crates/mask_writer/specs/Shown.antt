@@ -1,6 +1,6 @@
 -- How the masks are seen that a writer keeps in its arrays, and what always holds of these (this project's
 -- own).
-use Rattle.block_codec.specs.declared.places.TheConstants.{MASK_SLOTS}
+use Rattle.store_history.specs.declared.places.TheConstants.{MASK_SLOTS}
 use Rattle.std.specs.Prelude.{◌≡◌, ℕ, zero, suc, List, [], ◌∷◌, length, map, slice_index, slice_index_or}
 use Rattle.std.specs.Prelude.{Option, Some, None}
 use Rattle.std.specs.List.{range_with_len}

@@ -1,6 +1,6 @@
 -- What stands at a writer of masks: the words in which its calls speak of what it is seen as (this project's
 -- own).
-use Rattle.block_codec.specs.declared.places.TheConstants.{MASK_SLOTS, POOL_BLOCKS, ROWS}
+use Rattle.store_history.specs.declared.places.TheConstants.{MASK_SLOTS, POOL_BLOCKS, ROWS}
 use Rattle.std.specs.Prelude.{◌≡◌, ◌≢◌, ℕ, ◌<◌, ◌≤◌, List, [], ◌∷◌, length, map, slice_index_or, Option, Some}
 use Rattle.std.specs.Prelude.{None, All, eqb}
 use Rattle.std.specs.List.{IsDistinct}

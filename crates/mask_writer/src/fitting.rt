@@ -8,7 +8,7 @@ use store_history::{EditName, Law};
 use tc_base::Point;
 
 impl MaskWriter {
-    ghost use Rattle.block_codec.specs.declared.places.TheConstants.{MASK_SLOTS};
+    ghost use Rattle.store_history.specs.declared.places.TheConstants.{MASK_SLOTS};
     ghost use Rattle.block_codec.specs.Shapes.{HasPoolAndRoots};
     ghost use Rattle.std.specs.Prelude.{◌≡◌, ◌≢◌, ◌<◌, ◌≤◌, ◌+◌, ◌*◌, ◌++◌, ◌∷◌, ℕ, List, length, take};
     ghost use Rattle.std.specs.Prelude.{slice_index, slice_set, Some, IsTrue};

@@ -44,7 +44,7 @@ impl Model for MaskWriter {
 }
 
 impl MaskWriter {
-    ghost use Rattle.block_codec.specs.declared.places.TheConstants.{MASK_SLOTS, POOL_BLOCKS};
+    ghost use Rattle.store_history.specs.declared.places.TheConstants.{MASK_SLOTS, POOL_BLOCKS};
     ghost use Rattle.block_codec.specs.Shapes.{HasPoolAndRoots};
     ghost use Rattle.std.specs.Prelude.{◌≢◌, ◌<◌, ◌+◌, ◌++◌, ◌∷◌, List, [], length, slice_index, slice_set};
     ghost use Rattle.store_history.specs.declared.history.Named.{Named};

@@ -1,5 +1,5 @@
 //! Masks that come to stand.
-ghost use Rattle.block_codec.specs.declared.places.TheConstants.{MASK_SLOTS};
+ghost use Rattle.store_history.specs.declared.places.TheConstants.{MASK_SLOTS};
 ghost use Rattle.block_codec.specs.Shapes.{HasPoolAndRoots};
 ghost use Rattle.std.specs.Prelude.{◌≡◌, ◌≢◌, ℕ, ◌+◌, ◌<◌, ◌≤◌, ◌++◌, ◌∷◌, List, [], length, take};
 ghost use Rattle.std.specs.Prelude.{slice_index, slice_set, Some, All};

@@ -1,5 +1,6 @@
 -- Blocks filled one after the other.
 use Rattle.std.proofs.Common.{◌≡◌, ◌∙◌, ℕ, ◌+◌, ◌≤◌, arith}
+use Rattle.block_codec.specs.declared.places.TheConstants.{BLOCKS}
 use Rattle.tc_base.specs.declared.hook.Hook.{Hook}
 use Rattle.tc_base.specs.declared.hook.Hook.TheVariants as hooks
 use Rattle.miniq_pair.specs.Pairs.{first_block_of}
@@ -20,6 +21,6 @@ same_cells a b c first later = record {
 }
 
 -- the blocks of all places are the store's
-pub places_within : (hook : Hook) (place at : ℕ) → place ≤ 1 → at ≤ 256 → first_block_of hook place + at ≤ 17408
+pub places_within : (hook : Hook) (place at : ℕ) → place ≤ 1 → at ≤ 256 → first_block_of hook place + at ≤ BLOCKS
 places_within hooks.Ingress place at low few = omega arith
 places_within hooks.Egress place at low few = omega arith

@@ -9,6 +9,7 @@ use Rattle.store_history.specs.declared.history.Commit.{Commit}
 use Rattle.store_history.specs.declared.history.Named.{Named}
 use Rattle.store_history.specs.History.{root_of, edits_of}
 use Rattle.store_history.specs.Reads.{read_all}
+use Rattle.store_history.specs.declared.places.TheConstants.{HEAD_ROOTS}
 use Rattle.block_codec.specs.declared.table.StoredTable.{StoredTable}
 use Rattle.block_codec.specs.OfReadings.Read.{table_in}
 
@@ -47,7 +48,7 @@ hook_number hooks.Egress = 1
 
 -- the root of a hook's tables
 abbrev pub head_root : Hook → ℕ
-head_root hook = 1 + hook_number hook
+head_root hook = HEAD_ROOTS + hook_number hook
 
 -- ---- what a law of heads says
 -- the tables that a hook's root names are right after each number of edits from its stamp up to e

@@ -4,8 +4,8 @@ ghost use Rattle.std.specs.Prelude.{◌≡◌, ◌≤◌};
 use crate::filling::{fill_tables, first_block_of, numbers_from};
 use crate::reading::hook_number;
 use crate::tables::StoredTables;
-use block_codec::places::HEAD_ROOTS;
 use pin_store::{Store, Writer};
+use store_history::places::HEAD_ROOTS;
 use store_history::{EditName, Law};
 use tc_base::{Hook, Point};
 

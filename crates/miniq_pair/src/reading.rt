@@ -11,10 +11,10 @@ ghost use Rattle.miniq_pair.specs.Heads.{told_of, hook_number, head_root, HeadTo
 use crate::law::HeadLaw;
 use block_chain::Walk;
 use block_codec::StoredTable;
-use block_codec::places::HEAD_ROOTS;
 use block_codec::readings::table_in;
 use pin_store::{Reader, Steps, Store};
 use std::sync::ledger::Ledger;
+use store_history::places::HEAD_ROOTS;
 use tc_base::{Hook, Point};
 use visit_room::{HeadRoom, MaskName};
 

@@ -43,7 +43,7 @@ stands_not_fails big bytes at p (faults.CutHeader offset) h f = f
 stands_not_fails big bytes at p faults.BadMagic h f = f
 stands_not_fails big bytes at p faults.BadVersion h f = f
 stands_not_fails big bytes at p faults.NotEthernet h f = f
-stands_not_fails big bytes at p faults.NoMemory h f = f
+stands_not_fails big bytes at p (faults.NoMemory memory) h f = f
 
 -- at the end of the bytes no packet fails
 end_not_fails : (big : Bool) (bytes : List ℕ) (at : ℕ) (fault : CaptureFault) → at ≡ length bytes → PacketFails big bytes at fault → ⊥
@@ -53,7 +53,7 @@ end_not_fails big bytes at (faults.CutHeader offset) e f = f
 end_not_fails big bytes at faults.BadMagic e f = f
 end_not_fails big bytes at faults.BadVersion e f = f
 end_not_fails big bytes at faults.NotEthernet e f = f
-end_not_fails big bytes at faults.NoMemory e f = f
+end_not_fails big bytes at (faults.NoMemory memory) e f = f
 
 clash : (big : Bool) (bytes : List ℕ) (at : ℕ) (ps qs : List Packet) (end : ℕ) (fault : CaptureFault) → StandFrom big bytes at ps end → PacketFails big bytes end fault → StandFrom big bytes at qs (length bytes) → ⊥
 clash big bytes at [] [] end fault h f k = end_not_fails big bytes end fault (sym h ∙ k) f
@@ -96,7 +96,7 @@ no_fault bytes c faults.NotEthernet h f =
     f.5 (ap (λ (b : Bool). number_in b 4 (drop 20 bytes)) big ∙ h.header.link)
 no_fault bytes c (faults.CutRecord offset) h f = behind_clash bytes c f.0 (faults.CutRecord offset) h f.1 f.2
 no_fault bytes c (faults.TooLong offset len) h f = behind_clash bytes c f.0 (faults.TooLong offset len) h f.1 f.2
-no_fault bytes c faults.NoMemory h f = f
+no_fault bytes c (faults.NoMemory memory) h f = f
 
 abbrev length_said : Bool → List ℕ → ℕ → ℕ
 length_said big bytes at = number_in big 4 (drop (at + 8) bytes)
@@ -119,7 +119,7 @@ cut_or_long big bytes at (faults.CutHeader offset) h = absurd h
 cut_or_long big bytes at faults.BadMagic h = absurd h
 cut_or_long big bytes at faults.BadVersion h = absurd h
 cut_or_long big bytes at faults.NotEthernet h = absurd h
-cut_or_long big bytes at faults.NoMemory h = absurd h
+cut_or_long big bytes at (faults.NoMemory memory) h = absurd h
 
 cut_not_long : (big : Bool) (bytes : List ℕ) (at : ℕ) → IsCut big bytes at → IsLong big bytes at → ⊥
 cut_not_long big bytes at (inl short) long = let whole = long.0 in omega arith
@@ -174,7 +174,7 @@ cut_header_alone bytes offset faults.BadVersion short is k = let whole = k.0 in 
 cut_header_alone bytes offset faults.NotEthernet short is k = let whole = k.0 in absurd (omega arith)
 cut_header_alone bytes offset (faults.CutRecord other) short is k = let whole = k.1.whole in absurd (omega arith)
 cut_header_alone bytes offset (faults.TooLong other len) short is k = let whole = k.1.whole in absurd (omega arith)
-cut_header_alone bytes offset faults.NoMemory short is k = absurd k
+cut_header_alone bytes offset (faults.NoMemory memory) short is k = absurd k
 
 magic_alone : (bytes : List ℕ) (g : CaptureFault) → 24 ≤ length bytes → kind_of (number_in true 4 bytes) ≡ None → IsFault bytes g → faults.BadMagic ≡ g
 magic_alone bytes (faults.CutHeader other) whole bad k = let short = k.0 in absurd (omega arith)
@@ -183,7 +183,7 @@ magic_alone bytes faults.BadVersion whole bad k = absurd (none-some k.1 (sym bad
 magic_alone bytes faults.NotEthernet whole bad k = absurd (none-some k.1 (sym bad ∙ k.2))
 magic_alone bytes (faults.CutRecord other) whole bad k = absurd (none-some k.0 (sym bad ∙ k.1.magic))
 magic_alone bytes (faults.TooLong other len) whole bad k = absurd (none-some k.0 (sym bad ∙ k.1.magic))
-magic_alone bytes faults.NoMemory whole bad k = absurd k
+magic_alone bytes (faults.NoMemory memory) whole bad k = absurd k
 
 version_alone : (bytes : List ℕ) (kind : Kind) (g : CaptureFault) → 24 ≤ length bytes → kind_of (number_in true 4 bytes) ≡ Some kind
     → (number_in kind.big 2 (drop 4 bytes) ≢ 2) ⊎ (number_in kind.big 2 (drop 6 bytes) ≢ 4) → IsFault bytes g → faults.BadVersion ≡ g
@@ -193,7 +193,7 @@ version_alone bytes kind faults.BadVersion whole is bad k = refl
 version_alone bytes kind faults.NotEthernet whole is bad k = absurd (version_clash bytes kind k.1 is k.2 bad k.3 k.4)
 version_alone bytes kind (faults.CutRecord other) whole is bad k = absurd (version_clash bytes kind k.0 is k.1.magic bad k.1.major k.1.minor)
 version_alone bytes kind (faults.TooLong other len) whole is bad k = absurd (version_clash bytes kind k.0 is k.1.magic bad k.1.major k.1.minor)
-version_alone bytes kind faults.NoMemory whole is bad k = absurd k
+version_alone bytes kind (faults.NoMemory memory) whole is bad k = absurd k
 
 link_alone : (bytes : List ℕ) (kind : Kind) (g : CaptureFault) → 24 ≤ length bytes → kind_of (number_in true 4 bytes) ≡ Some kind
     → number_in kind.big 2 (drop 4 bytes) ≡ 2 → number_in kind.big 2 (drop 6 bytes) ≡ 4 → number_in kind.big 4 (drop 20 bytes) ≢ 1 → IsFault bytes g → faults.NotEthernet ≡ g
@@ -203,7 +203,7 @@ link_alone bytes kind faults.BadVersion whole is major minor bad k = absurd (ver
 link_alone bytes kind faults.NotEthernet whole is major minor bad k = refl
 link_alone bytes kind (faults.CutRecord other) whole is major minor bad k = absurd (link_clash bytes kind k.0 is k.1.magic bad k.1.link)
 link_alone bytes kind (faults.TooLong other len) whole is major minor bad k = absurd (link_clash bytes kind k.0 is k.1.magic bad k.1.link)
-link_alone bytes kind faults.NoMemory whole is major minor bad k = absurd k
+link_alone bytes kind (faults.NoMemory memory) whole is major minor bad k = absurd k
 
 behind_alone : (bytes : List ℕ) (kind : Kind) (f g : CaptureFault) → IsHeader bytes kind.big kind.nanos → FailsBehind kind.big bytes f → IsFault bytes g → f ≡ g
 behind_alone bytes kind f (faults.CutHeader other) header behind k = let whole = header.whole in let short = k.0 in absurd (omega arith)
@@ -212,7 +212,7 @@ behind_alone bytes kind f faults.BadVersion header behind k = absurd (version_cl
 behind_alone bytes kind f faults.NotEthernet header behind k = absurd (link_clash bytes k.1 kind k.2 header.magic k.5 header.link)
 behind_alone bytes kind f (faults.CutRecord other) header behind k = same_behind bytes kind k.0 f (faults.CutRecord other) header behind k.1 k.2
 behind_alone bytes kind f (faults.TooLong other len) header behind k = same_behind bytes kind k.0 f (faults.TooLong other len) header behind k.1 k.2
-behind_alone bytes kind f faults.NoMemory header behind k = absurd k
+behind_alone bytes kind f (faults.NoMemory memory) header behind k = absurd k
 
 pub one_fault : (bytes : List ℕ) (f g : CaptureFault) → IsFault bytes f → IsFault bytes g → f ≡ g
 one_fault bytes (faults.CutHeader offset) g h k = cut_header_alone bytes offset g h.0 h.1 k
@@ -221,4 +221,4 @@ one_fault bytes faults.BadVersion g h k = version_alone bytes h.1 g h.0 h.2 h.3 
 one_fault bytes faults.NotEthernet g h k = link_alone bytes h.1 g h.0 h.2 h.3 h.4 h.5 k
 one_fault bytes (faults.CutRecord offset) g h k = behind_alone bytes h.0 (faults.CutRecord offset) g h.1 h.2 k
 one_fault bytes (faults.TooLong offset len) g h k = behind_alone bytes h.0 (faults.TooLong offset len) g h.1 h.2 k
-one_fault bytes faults.NoMemory g h k = absurd h
+one_fault bytes (faults.NoMemory memory) g h k = absurd h

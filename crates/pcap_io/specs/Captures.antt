@@ -63,11 +63,11 @@ pub record FailsBehind (big : Bool) (bytes : List ℕ) (fault : CaptureFault) : 
 
 -- the same for a fault that was answered, which may be want of memory
 abbrev pub PacketFault : Bool → List ℕ → ℕ → CaptureFault → Type 0
-PacketFault big bytes at faults.NoMemory = Unit {0}
+PacketFault big bytes at (faults.NoMemory memory) = Unit {0}
 PacketFault big bytes at fault = PacketFails big bytes at fault
 
 abbrev pub FaultBehind : Bool → List ℕ → CaptureFault → Type 0
-FaultBehind big bytes faults.NoMemory = Unit {0}
+FaultBehind big bytes (faults.NoMemory memory) = Unit {0}
 FaultBehind big bytes fault = FailsBehind big bytes fault
 
 -- the first fault of the bytes
@@ -81,7 +81,7 @@ HasFault bytes faults.NotEthernet = (24 ≤ length bytes) × (kind : Kind)
     × (kind_of (number_in true 4 bytes) ≡ Some kind)
     × (number_in kind.big 2 (drop 4 bytes) ≡ 2) × (number_in kind.big 2 (drop 6 bytes) ≡ 4)
     × (number_in kind.big 4 (drop 20 bytes) ≢ 1)
-HasFault bytes faults.NoMemory = Unit {0}
+HasFault bytes (faults.NoMemory memory) = Unit {0}
 HasFault bytes fault = (kind : Kind) × IsHeader bytes kind.big kind.nanos × FailsBehind kind.big bytes fault
 
 -- each packet has at most 262,144 bytes
@@ -90,5 +90,5 @@ AreShort packets = All (λ p. length p.bytes ≤ PACKET_MAX) packets
 
 -- the same without want of memory
 abbrev pub IsFault : List ℕ → CaptureFault → Type 0
-IsFault bytes faults.NoMemory = ⊥
+IsFault bytes (faults.NoMemory memory) = ⊥
 IsFault bytes fault = HasFault bytes fault

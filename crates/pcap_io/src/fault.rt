@@ -1,5 +1,6 @@
 ghost use Rattle.std.specs.Prelude.{◌≡◌};
 ghost use Rattle.pcap_io.specs.declared.fault.CaptureFault.TheVariants as faults;
+ghost use Rattle.tc_base.specs.Memory.{no_memory};
 
 use std::alloc::{AllocError, AllocFailed};
 use tc_base::NoMemory;
@@ -20,29 +21,29 @@ pub enum CaptureFault {
     /// The record at the offset says a captured length above 262,144.
     TooLong { offset: u64, length: u32 },
     /// Want of memory, which says nothing of the bytes.
-    NoMemory,
+    NoMemory(NoMemory),
 }
 
 impl From<NoMemory> for CaptureFault {
-    ghost from_gives = { λ _ e. e ≡ faults.NoMemory };
+    ghost from_gives = { λ memory e. e ≡ faults.NoMemory memory };
 
-    fn from(_: NoMemory) -> Self {
-        CaptureFault::NoMemory
+    fn from(memory: NoMemory) -> Self {
+        CaptureFault::NoMemory(memory)
     }
 }
 
 impl From<AllocError> for CaptureFault {
-    ghost from_gives = { λ _ e. e ≡ faults.NoMemory };
+    ghost from_gives = { λ _ e. e ≡ faults.NoMemory no_memory };
 
-    fn from(_: AllocError) -> Self {
-        CaptureFault::NoMemory
+    fn from(refused: AllocError) -> Self {
+        CaptureFault::NoMemory(NoMemory::from(refused))
     }
 }
 
 impl From<AllocFailed<u32>> for CaptureFault {
-    ghost from_gives = { λ _ e. e ≡ faults.NoMemory };
+    ghost from_gives = { λ _ e. e ≡ faults.NoMemory no_memory };
 
-    fn from(_: AllocFailed<u32>) -> Self {
-        CaptureFault::NoMemory
+    fn from(refused: AllocFailed<u32>) -> Self {
+        CaptureFault::NoMemory(NoMemory::from(refused))
     }
 }

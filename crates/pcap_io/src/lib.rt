@@ -1,10 +1,10 @@
-//! Captures in the file format of libpcap, version 2.4, with Ethernet frames: `read_whole` and `read` give
-//! what some bytes say or their first fault, and `write` gives the bytes of a capture.
+//! Captures in the file format of libpcap, version 2.4, with Ethernet frames: `read_whole` gives what some
+//! bytes say or their first fault, and `write` gives the bytes of a capture.
 //!
 //! The format is laid out by offsets, so that is how `specs/Captures.antt` states it: a header of 24
 //! bytes, and then records that stand one behind the other up to the end of the bytes. `one_reading`
 //! shows that bytes are one capture at most, that bytes with a fault are none, and that bytes have one
-//! first fault at most. So an answer of the two is the only right one.
+//! first fault at most. So an answer of `read_whole` is the only right one.
 //!
 //! A capture may have a million packets. `Packets` therefore keeps all of them in one buffer, each as its
 //! record and then its bytes, beside the places where they begin, 4 bytes each. `read_whole` takes over the
@@ -38,5 +38,5 @@ pub use law::one_reading;
 pub use layout::{PACKET_MAX, SNAP_LENGTH};
 pub use packet_iter::PacketIter;
 pub use packets::Packets;
-pub use reading::{read, read_whole};
+pub use reading::read_whole;
 pub use writing::write;

@@ -8,7 +8,7 @@ use crate::writing::put_packet;
 use crate::{PacketIter, PacketView};
 use std::alloc::Global;
 use std::marker::Model;
-use tc_base::NoMemory;
+use tc_base::{NoMemory, check_room};
 
 /// A list of packets. All of them lie in one buffer, each as its record and then its bytes.
 #[derive(Drop)]
@@ -129,8 +129,6 @@ fn start_behind(before: usize, length: usize) -> Result<u32, NoMemory>
     ensures reached { IfOk result (λ _. before + 16 + length < 2 ^ 32) }
 {
     let end = (before + RECORD).saturating_add(length);
-    if end > CONTENT_MAX {
-        return Err(NoMemory);
-    }
+    check_room(end, CONTENT_MAX)?;
     Ok(before as u32)
 }

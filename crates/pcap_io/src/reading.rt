@@ -11,6 +11,7 @@ use crate::records::{u16_at, u32_at};
 use crate::{Capture, CaptureFault, Packets};
 use byteorder::{BigEndian, ByteOrder};
 use std::alloc::Global;
+use tc_base::check_room;
 
 // The record of the shortest whole Ethernet frame, which has 60 bytes without its checksum. Captures
 // of whole frames so get their list of places at once; where frames were cut off, the list grows.
@@ -122,22 +123,11 @@ pub fn read_whole(alloc: Global, bytes: Vec<u8>) -> Result<Capture, CaptureFault
     ensures fault { IfErr result (HasFault bytes.items) }
 {
     let (big, nanos) = header(&bytes)?;
-    if bytes.len() > CONTENT_MAX {
-        return Err(CaptureFault::NoMemory);
-    }
+    check_room(bytes.len(), CONTENT_MAX)?;
     let packets = packets_of(alloc, big, bytes)?;
     Ok(Capture {
         big,
         nanos,
         packets,
     })
-}
-
-/// The capture that the bytes are, or their first fault. Copies the bytes, and is then as `read_whole`.
-pub fn read(alloc: Global, bytes: &[u8]) -> Result<Capture, CaptureFault>
-    ensures capture { IfOk result (IsCapture bytes.now) }
-    ensures short { IfOk result (λ c. AreShort c.packets) }
-    ensures fault { IfErr result (HasFault bytes.now) }
-{
-    read_whole(alloc, bytes.to_vec(alloc)?)
 }

@@ -1,6 +1,6 @@
 //! Captures, read, written and kept in part.
 use crate::same::same;
-use pcap_io::{Capture, CaptureFault, Excerpt, PacketView, Packets, read, read_whole, write};
+use pcap_io::{Capture, CaptureFault, Excerpt, PacketView, Packets, read_whole, write};
 use std::alloc::{AllocError, Global};
 use std::test::Fail;
 use tc_base::NoMemory;
@@ -17,7 +17,7 @@ const EMPTY_BIG_NANOS: [u8; 24] = [
 
 // The answer's first fault, or how many packets it has.
 fn packet_count(alloc: Global, bytes: &[u8]) -> Result<usize, CaptureFault> {
-    let capture = read(alloc, bytes)?;
+    let capture = read_whole(alloc, bytes.to_vec(alloc)?)?;
     Ok(capture.packets.len())
 }
 
@@ -108,7 +108,7 @@ fn takes_the_longest_packet_alone(rt: HostRuntime) -> Result<(), Fail> {
 }
 
 fn read_and_written(alloc: Global, bytes: &[u8]) -> Result<Vec<u8>, CaptureFault> {
-    let capture = read(alloc, bytes)?;
+    let capture = read_whole(alloc, bytes.to_vec(alloc)?)?;
     Ok(write(alloc, &capture)?)
 }
 

@@ -11,7 +11,7 @@ fn bad_line(alloc: Global, file: &[u8]) -> u64 {
     match read_job(alloc, file) {
         Ok(_) => 0,
         Err(JobFault::Form { line, .. }) => line,
-        Err(JobFault::NoMemory) => u64::MAX,
+        Err(JobFault::NoMemory(_)) => u64::MAX,
     }
 }
 

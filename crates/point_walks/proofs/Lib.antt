@@ -3,4 +3,5 @@ pub mod Falling
 pub mod Within
 pub mod Visited
 pub mod Lasts
+pub mod Told
 pub mod Going

@@ -76,11 +76,11 @@ nothing_after answers first points k none = ap (stands_after answers first) (sym
 never_both : (o : Option Standing) (st : Standing) → o ≡ None → o ≡ Some st → ⊥
 never_both o st none some = cc (sym none ∙ some)
 
-pub got_stuck : (answers : Answering) (first st other : Standing) (points : List ℕ) (place d : ℕ) (question : Question) → place < length points → stands_after answers first (take place points) ≡ Some st
-    → question_of st ≡ Some question → answers (get_or points place d) question ≡ None → stands_after answers first points ≡ Some other → ⊥
-got_stuck answers first st other points place d question within so_far asks none some =
+pub got_stuck : (answers : Answering) (first st other : Standing) (points : List ℕ) (place d : ℕ) → place < length points → stands_after answers first (take place points) ≡ Some st
+    → answered_at answers (get_or points place d) (question_of st) ≡ None → stands_after answers first points ≡ Some other → ⊥
+got_stuck answers first st other points place d within so_far none some =
     never_both (stands_after answers first points) other
-    (nothing_after answers first points (place + 1) (stands_more answers first st points place d None within so_far (visit_is answers (get_or points place d) st question None asks none))) some
+    (nothing_after answers first points (place + 1) (stands_more answers first st points place d None within so_far (ap (moved_by st) none))) some
 
 pub ended_early : (answers : Answering) (first st other : Standing) (points : List ℕ) (k : ℕ) → k < length points → stands_after answers first (take k points) ≡ Some st → question_of st ≡ None
     → stands_after answers first points ≡ Some other → ⊥

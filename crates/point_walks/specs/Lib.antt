@@ -1,4 +1,5 @@
 pub mod Over
 pub mod Visits
+pub mod Answereds
 pub mod Lasts
 pub mod Latest

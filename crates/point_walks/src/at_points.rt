@@ -1,5 +1,6 @@
 //! Visits at a point that is given for each.
 
+use crate::answered::Answered;
 use crate::answers::PointAnswers;
 use act_kinds::{Control, Params};
 use flow_fields::Key;
@@ -15,32 +16,31 @@ pub enum Thing {
     Action(u32),
 }
 
-/// Answers the next visit at a point, and tells what was asked for and whether there was no answer.
+/// Answers the next visit at a point, and keeps what was asked and answered; nothing, where there was no
+/// answer.
 #[derive(Drop)]
 pub(crate) struct AtPoint<'a, A> {
     pub(crate) answers: &'a A,
     pub(crate) point: Point,
-    pub(crate) thing: Thing,
-    pub(crate) failed: bool,
+    pub(crate) answered: Option<Answered>,
 }
 
 impl<A: PointAnswers> Visits for AtPoint<'_, A> {
-    ghost use Rattle.std.specs.Prelude.{◌≡◌, ◌⊎◌, true, Some, None};
-    ghost use Rattle.point_walks.specs.Visits.{thing_of};
+    ghost use Rattle.std.specs.Prelude.{◌≡◌, ◌⊎◌, Some, None, IsSomeAnd};
+    ghost use Rattle.point_walks.specs.Answereds.{answered_as};
 
     ghost told = { λ old question answer point new.
-        ((new ≡ record old { thing = thing_of question })
-        × (A.answer old.answers.now old.point question ≡ Some answer))
-        ⊎ ((new.failed ≡ true) × (A.answer old.answers.now old.point question ≡ None)) };
+        ((A.answer old.answers.now old.point question ≡ Some answer)
+        × IsSomeAnd new.answered (λ told. answered_as question answer ≡ Some told))
+        ⊎ ((A.answer old.answers.now old.point question ≡ None) × (new ≡ old)) };
 
     ghost knows_mask = { λ v table mask. Unit {0} };
 
     ghost knows_action = { λ v action. Unit {0} };
 
     fn head(&mut self, hook: Hook, into: &mut HeadRoom) -> Point {
-        self.thing = Thing::Tables;
-        if !self.answers.head(self.point, hook, into) {
-            self.failed = true;
+        if self.answers.head(self.point, hook, into) {
+            self.answered = Some(Answered::Tables(into.heads().len()));
         }
         self.point
     }
@@ -52,25 +52,25 @@ impl<A: PointAnswers> Visits for AtPoint<'_, A> {
         key: &Key<14>,
         into: &mut Hit,
     ) -> (bool, Point) {
-        self.thing = Thing::Mask(mask.serial);
         into.clear();
-        match self.answers.look_up(self.point, mask.serial, key, into) {
-            Some(found) => (found, self.point),
-            None => {
-                self.failed = true;
-                (false, self.point)
-            }
+        let found = self.answers.look_up(self.point, mask.serial, key, into);
+        let mask = mask.serial;
+        match found {
+            Some(true) => self.answered = Some(Answered::Filter { mask }),
+            Some(false) => self.answered = Some(Answered::NoFilter { mask }),
+            None => {}
         }
+        (found.unwrap_or(false), self.point)
     }
 
     fn params(&mut self, action: ActionName) -> (Params, Point) {
-        self.thing = Thing::Action(action.serial);
-        match self.answers.params(self.point, action.serial) {
-            Some(params) => (params, self.point),
-            None => {
-                self.failed = true;
-                (Params::Gact(Control::Accept), self.point)
+        let serial = action.serial;
+        match self.answers.params(self.point, serial) {
+            Some(params) => {
+                self.answered = Some(Answered::Acted { serial, params });
+                (params, self.point)
             }
+            None => (Params::Gact(Control::Accept), self.point),
         }
     }
 }

@@ -4,7 +4,8 @@
 //! is answered by the state of its point (`PointAnswers`), and as the answers are functions of the points,
 //! the walk is one too. So there is no search: where a visit has no answer, or the walk has ended before the
 //! last point or not with it, no walk has these points. `walk_at` says yes with where the walk stands at its
-//! end, and no only where no walk at these points is lawful.
+//! end, and no only where no walk at these points is lawful. Whoever tells of a walk makes its visits one by
+//! one: `visit_at` says what was asked and answered.
 //!
 //! Points are lawful within bounds: the first is the tables' and no lower than the worker's floor, none is
 //! lower than that or above the ceiling, and those of one mask or one action never fall. For the last,
@@ -17,6 +18,7 @@
 //! before it. Whoever walks packet after packet keeps one `Walk` and one `LatestPoints`.
 #![tactic(auto)]
 
+mod answered;
 mod answers;
 mod at_points;
 mod bounds;
@@ -24,7 +26,8 @@ mod last_points;
 mod latest;
 mod walking;
 
+pub use answered::Answered;
 pub use answers::PointAnswers;
 pub use bounds::Bounds;
 pub use latest::LatestPoints;
-pub use walking::walk_at;
+pub use walking::{visit_at, walk_at};

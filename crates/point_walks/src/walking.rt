@@ -1,15 +1,47 @@
 //! The walk at given points.
 ghost use Rattle.frame_edit.specs.declared.limits.TheConstants.{FRAME_MAX};
-ghost use Rattle.std.specs.Prelude.{◌≡◌, ◌≤◌, true, false, length, Ok};
-ghost use Rattle.walk_rules.specs.Steps.{Standing};
+ghost use Rattle.std.specs.Prelude.{◌≡◌, ◌≤◌, true, false, length, Ok, None, IfSome};
+ghost use Rattle.walk_rules.specs.Steps.{Standing, question_of};
+ghost use Rattle.walk_steps.specs.Walking.{IsOnWay, progress_of};
+ghost use Rattle.point_walks.specs.Answereds.{IsVisitAt};
+ghost use Rattle.point_walks.specs.Over.{answered_at};
 ghost use Rattle.point_walks.specs.Visits.{IsWalkAt};
 
+use crate::answered::Answered;
 use crate::answers::PointAnswers;
-use crate::at_points::{AtPoint, Thing};
+use crate::at_points::AtPoint;
 use crate::bounds::Bounds;
 use crate::latest::LatestPoints;
 use tc_base::{Hook, NoMemory, Point};
 use walk_steps::{Progress, Walk};
+
+/// Makes one visit of a walk that hasn't ended, answered at that point, and tells what was asked and
+/// answered, and whether a further visit is needed; nothing, where there is no answer at that point. The walk
+/// leads nowhere then.
+#[inline]
+pub fn visit_at<A: PointAnswers>(
+    walk: &mut Walk,
+    answers: &A,
+    point: Point,
+) -> Option<(Answered, Progress)>
+    requires { IsOnWay walk.old.standing }
+    ensures visit { IfSome result
+        (λ told. IsVisitAt (A.answer answers.now) point walk.old.standing walk.new.standing told.0) }
+    ensures progress { IfSome result (λ told. told.1 ≡ progress_of walk.new.standing) }
+    ensures none { result ≡ None
+        → answered_at (A.answer answers.now) point (question_of walk.old.standing) ≡ None }
+{
+    let mut visits = AtPoint {
+        answers,
+        point,
+        answered: None,
+    };
+    let progress = walk.step(&mut visits);
+    match visits.answered {
+        Some(answered) => Some((answered, progress)),
+        None => None,
+    }
+}
 
 /// Walks a frame of at most 262,144 bytes with a visit at each of these points, and tells whether that is a
 /// walk: its last visit is the last one, and the points are lawful within these bounds.
@@ -38,17 +70,10 @@ pub fn walk_at<A: PointAnswers>(
     let mut place = 0;
     while place < points.len() {
         let point = points[place];
-        let mut visits = AtPoint {
-            answers,
-            point,
-            thing: Thing::Tables,
-            failed: false,
-        };
-        let progress = walk.step(&mut visits);
-        if visits.failed {
+        let Some((answered, progress)) = visit_at(walk, answers, point) else {
             return Ok(false);
-        }
-        let rises = latest.rise(visits.thing, point)?;
+        };
+        let rises = latest.rise(answered.thing(), point)?;
         if !rises {
             return Ok(false);
         }

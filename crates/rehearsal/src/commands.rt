@@ -3,10 +3,12 @@ ghost use Rattle.gen_files.specs.declared.limits.TheConstants.{GEN_MAX};
 ghost use Rattle.std.specs.Prelude.{◌≡◌, ◌≤◌};
 ghost use Rattle.tool_words.specs.Command.{texts, Run, Gen};
 ghost use Rattle.tool_words.specs.Ends.{IsAllDone};
+ghost use Rattle.tool_run.specs.Asks.{Fetches, Puts};
 ghost use Rattle.tool_run.specs.Causes.{CausedTo};
 ghost use Rattle.tool_run.specs.Delivered.{DeliveredTo, LeavesAllUnlessRun, CameSoFar};
 ghost use Rattle.tool_run.specs.Promises.{UsageExactlyForNoCommand, DoneOnlyIfDelivered, HasCause};
 ghost use Rattle.tool_run.specs.Promises.{DueUnlessFailed, DoneIfReady, NothingIfAtFault, CameInOrder};
+ghost use Rattle.tool_run.specs.Promises.{FetchedInOrder, PutInOrder};
 
 use crate::gen_job::gen_counted;
 use crate::run_job::run_named;
@@ -34,6 +36,8 @@ fn serve_run<R: Threads + Wait + Sync, S: Shelf, O: Sink, G: Gate>(
         (O.written out.new) result }
     ensures so_far { CameSoFar (S.held shelf.old) (S.held shelf.new) (O.written out.old) (O.written out.new)
         (Run job.now) }
+    ensures fetched { Fetches (S.held shelf.old) (S.fetched shelf.old) (S.fetched shelf.new) (Run job.now) }
+    ensures put_names { Puts (S.held shelf.old) (S.put_names shelf.old) (S.put_names shelf.new) (Run job.now) }
 {
     match run_named(rt, alloc, job, shelf, out, gates) {
         Ok(status) => status,
@@ -61,6 +65,8 @@ fn serve_gen<R: Threads + Wait + Sync, S: Shelf, O: Sink, G: Gate>(
         (O.written out.new) result }
     ensures so_far { CameSoFar (S.held shelf.old) (S.held shelf.new) (O.written out.old) (O.written out.new)
         (Gen count front.now) }
+    ensures fetched { Fetches (S.held shelf.old) (S.fetched shelf.old) (S.fetched shelf.new) (Gen count front.now) }
+    ensures put_names { Puts (S.held shelf.old) (S.put_names shelf.old) (S.put_names shelf.new) (Gen count front.now) }
 {
     match gen_counted(rt, alloc, count, front, shelf, out, gates) {
         Ok(refused) => ended(refused),
@@ -89,6 +95,8 @@ pub fn tool<R: Threads + Wait + Sync, S: Shelf, O: Sink, G: Gate>(
         shelf.old shelf.new out.old out.new (texts words.now) result }
     ensures nothing { NothingIfAtFault S.held O.written shelf.old shelf.new out.old out.new result }
     ensures so_far { CameInOrder S.held O.written shelf.old shelf.new out.old out.new (texts words.now) }
+    ensures fetched { FetchedInOrder S.held S.fetched shelf.old shelf.new (texts words.now) }
+    ensures put_names { PutInOrder S.held S.put_names shelf.old shelf.new (texts words.now) }
 {
     match command_of(words) {
         None => Status::Usage,

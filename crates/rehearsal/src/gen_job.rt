@@ -1,8 +1,10 @@
 //! The command `gen`.
 ghost use Rattle.gen_files.specs.declared.limits.TheConstants.{GEN_MAX};
-ghost use Rattle.std.specs.Prelude.{◌≤◌, IfOk, IfErr};
+ghost use Rattle.std.specs.Prelude.{◌≡◌, ◌≤◌, IfOk, IfErr};
 ghost use Rattle.tool_words.specs.Command.{Gen};
 ghost use Rattle.tool_words.specs.Ends.{status_after, IsAllDone};
+ghost use Rattle.tc_base.specs.Outside.{AppendsUpTo};
+ghost use Rattle.tool_run.specs.Asks.{made_names};
 ghost use Rattle.tool_run.specs.Causes.{CausedTo};
 ghost use Rattle.tool_run.specs.Delivered.{Made, LeavesAllUnlessRun, MadeSoFar};
 
@@ -37,6 +39,8 @@ pub fn gen_counted<R: Threads + Wait + Sync, S: Shelf, O: Sink, G: Gate>(
         (O.written out.old) (O.written out.new)) }
     ensures so_far { MadeSoFar (S.held shelf.old) (S.held shelf.new) (O.written out.old) (O.written out.new)
         count front.now }
+    ensures fetched { S.fetched shelf.new ≡ S.fetched shelf.old }
+    ensures put_names { AppendsUpTo (S.put_names shelf.old) (S.put_names shelf.new) (made_names front.now) }
 {
     let loaded = load_workload(alloc, count)?;
     let run = run_loaded(rt, alloc, &loaded, gates)?;

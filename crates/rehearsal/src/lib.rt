@@ -4,7 +4,7 @@
 //! `tool_words`; what a command does is `tool_run`, which has the promise of all that in
 //! `specs/Promises.antt`. Here it is picked: `run_job` and `gen_job` run a job on threads over a shared hook
 //! (`job_rounds`), one that files say and one that is made, and every other command is `tool_run`'s `obey`,
-//! which starts no thread and calls nothing of the shared hook.
+//! which starts no thread and calls nothing of the shared hook. It is given on for whoever may not wait.
 //!
 //! The program, `clsact_cli`, puts a process around this. Who puts something else around it brings a shelf
 //! for files, a sink for lines, and a gate, which in use lets everything through.
@@ -26,3 +26,4 @@ mod same;
 mod tests;
 
 pub use commands::tool;
+pub use tool_run::obey;

@@ -1,5 +1,5 @@
 //! The command `run`.
-ghost use Rattle.std.specs.Prelude.{◌≡◌, ◌⊎◌, ◌<◌, ◌^◌, IfOk, IfErr, OnOk};
+ghost use Rattle.std.specs.Prelude.{◌≡◌, [], ◌⊎◌, ◌<◌, ◌^◌, IfOk, IfErr, OnOk};
 ghost use Rattle.tc_base.specs.Outside.{Appended, AppendsUpTo};
 ghost use Rattle.run_report.specs.Counts.{events_in, packets_in};
 ghost use Rattle.run_report.specs.Reports.{report_text};
@@ -7,6 +7,8 @@ ghost use Rattle.lawful_runs.specs.Given.{IsLoaded};
 ghost use Rattle.lawful_runs.specs.Lawful.{IsLawfulRun};
 ghost use Rattle.tool_words.specs.Command.{Run};
 ghost use Rattle.tool_words.specs.Ends.{IsAllDone};
+ghost use Rattle.job_files.specs.Inputs.{FetchesInput};
+ghost use Rattle.tool_run.specs.Asks.{PutsOutput, output_names};
 ghost use Rattle.tool_run.specs.Causes.{CausedTo};
 ghost use Rattle.tool_run.specs.Delivered.{LeavesAllUnlessRun};
 ghost use Rattle.tool_run.specs.OfOutputs.Outputs.{outputs_of};
@@ -57,6 +59,9 @@ fn deliver<S: Shelf, O: Sink>(
         ⊎ (ArePut (S.held shelf.old) (S.held shelf.new) (outputs_of loaded.now run.now)
         × AppendsUpTo (O.written out.old) (O.written out.new) (report_text run.now)) }
     ensures cause { IfErr result (DeliveryFails S.write_faults O.faults shelf.old shelf.new out.old out.new) }
+    ensures fetched { S.fetched shelf.new ≡ S.fetched shelf.old }
+    ensures put_names { AppendsUpTo (S.put_names shelf.old) (S.put_names shelf.new)
+        (output_names loaded.now.job.rounds) }
 {
     put_outputs(alloc, loaded, run, shelf)?;
     Ok(write_report(alloc, run, out)?)
@@ -97,6 +102,8 @@ pub fn run_named<R: Threads + Wait + Sync, S: Shelf, O: Sink, G: Gate>(
         (O.written out.old) (O.written out.new)) }
     ensures so_far { RanSoFar (S.held shelf.old) (S.held shelf.new) (O.written out.old) (O.written out.new)
         job.now }
+    ensures fetched { FetchesInput (S.held shelf.old) (S.fetched shelf.old) (S.fetched shelf.new) job.now [] }
+    ensures put_names { PutsOutput (S.held shelf.old) (S.put_names shelf.old) (S.put_names shelf.new) job.now }
 {
     let loaded = load_job(alloc, shelf, job)?;
     let run = run_loaded(rt, alloc, &loaded, gates)?;

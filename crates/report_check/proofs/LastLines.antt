@@ -28,10 +28,11 @@ use Rattle.report_laws.proofs.OfWholePaths.Completing.{completes}
 use Rattle.report_laws.proofs.OfWholePaths.Reached.{run_of_path}
 use Rattle.report_laws.proofs.OfWholePaths.Exact.{bad_line, cut_short, whole_report}
 use Rattle.report_check.specs.declared.events.cursor.Cursor.{Cursor}
-use Rattle.report_check.specs.OfEvents.Cursors.{lines_left, IsAt, GetsStuck, IsStuck, MustBe}
+use Rattle.report_check.specs.OfEvents.Cursors.{lines_left, IsNextLine, IsAt, GetsStuck, IsStuck, MustBe}
 use Rattle.report_check.specs.declared.rounds.Progress.{Progress}
 use Rattle.run_counts.specs.Counting.{count_of, counted_in}
 use Rattle.report_check.specs.Counting.{counted_lines}
+use Rattle.report_check.specs.Checks.{IsUntitled}
 use Rattle.report_check.specs.OfEvents.Replays.{IsKept}
 use Rattle.report_check.specs.Walked.{AreWalkers}
 use Rattle.report_check.specs.Between.{IsBetween}
@@ -181,6 +182,11 @@ title_must_be loaded bytes cursor = λ line next is_next takes. takes.0
 
 pub title_takes : (loaded : LoadedJob) → Takes loaded start (codes "clsact report 1\n") (settled loaded [] [])
 title_takes loaded = (refl, refl)
+
+pub titled : (bytes : List ℕ) (cursor : Cursor) → cursor ≡ record { at = 0; line = 0 } → IsNextLine bytes cursor (codes "clsact report 1\n") → IsUntitled bytes → ⊥
+titled bytes cursor is next untitled =
+    let from : IsNextLine bytes (record { at = 0; line = 0 }) (codes "clsact report 1\n") = subst (λ (c : Cursor). IsNextLine bytes c (codes "clsact report 1\n")) is next in
+    untitled _ from.first
 
 pub start_open : IsOpen start
 start_open = λ run journal is. cc is

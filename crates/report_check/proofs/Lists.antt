@@ -1,18 +1,20 @@
 -- A worker's lists follow a journal.
-use Rattle.std.proofs.Common.{◌≡◌, ◌∙◌, ℕ, zero, suc, ◌+◌, ◌≤◌, List, [], ◌∷◌, length, take, false, Some, Ok, Err, sym, ap, subst, arith}
-use Rattle.std.specs.Prelude.{slice_get, Result, is_err}
+use Rattle.std.proofs.Common.{◌≡◌, ◌∙◌, ℕ, zero, suc, ◌+◌, ◌≤◌, List, [], ◌∷◌, length, take, Some, Ok, Err, sym, ap, subst, arith}
+use Rattle.std.specs.Prelude.{slice_get}
 use Rattle.filter_state.specs.declared.edit.Edit.{Edit}
 use Rattle.filter_state.specs.declared.refusal.Done.{Done}
 use Rattle.filter_state.specs.declared.refusal.Refusal.{Refusal}
+use Rattle.filter_state.specs.declared.refusal.Refusal.TheVariants as refusals
 use Rattle.filter_state.specs.Lines.{IsLine}
 use Rattle.filter_state.specs.States.{State, no_state}
 use Rattle.filter_state.specs.Steps.{Stepped, step}
-use Rattle.filter_state.specs.Journals.{state_after, state_from, state_at, IsLawfulFrom, IsLawful}
+use Rattle.filter_state.specs.Journals.{state_after, state_from, state_at, Accepts, IsLawfulFrom, IsLawful}
 use Rattle.hook_lists.specs.declared.kept.Kept.{Kept}
 use Rattle.filter_lists.specs.Spells.{Spells}
 use Rattle.filter_lists.specs.Edits.{IsStepped, MayStep}
 use Rattle.std.proofs.lemmas.List.{length-take}
 use Rattle.report_check.proofs.OfEvents.Meeting.{may_step}
+use Rattle.tc_base.specs.Memory.{no_memory}
 
 step_from : (s : State) (journal : List Edit) (k : ℕ) (edit : Edit) → slice_get journal k ≡ Some edit
     → state_from s (take (k + 1) journal) ≡ state_after (state_from s (take k journal)) (step (state_from s (take k journal)) edit)
@@ -36,13 +38,30 @@ few_taken journal k few = let most = length-take k journal in omega (arith, most
 pub may_follow : (journal : List Edit) (k : ℕ) (lists : Kept) → Spells lists (state_at k journal) → length journal ≤ 262144 → MayStep lists
 may_follow journal k lists spells few = may_step (take k journal) lists spells (few_taken journal k few)
 
-after_ok : (old new : Kept) (s : State) (answer : Result Done Refusal) (it : Stepped) → is_err answer ≡ false → IsStepped old new answer it → Spells new (state_after s it)
-after_ok old new s (Ok done) (Ok (next, said)) fine is = is.1
-after_ok old new s (Ok done) (Err said) fine is = absurd is
-after_ok old new s (Err refusal) it fine is = absurd (cc fine)
+after_ok : (old new : Kept) (s : State) (done : Done) (it : Stepped) → IsStepped old new (Ok done) it → Spells new (state_after s it)
+after_ok old new s done (Ok (next, said)) is = is.1
+after_ok old new s done (Err said) is = absurd is
 
-pub followed : (journal : List Edit) (k : ℕ) (edit : Edit) (old new : Kept) (answer : Result Done Refusal) → slice_get journal k ≡ Some edit → Spells old (state_at k journal)
-    → is_err answer ≡ false → ((s : State) → Spells old s → IsStepped old new answer (step s edit)) → Spells new (state_at (k + 1) journal)
-followed journal k edit old new answer is spells fine stepped =
+-- the lists behind an edit that was accepted
+pub followed : (journal : List Edit) (k : ℕ) (edit : Edit) (old new : Kept) (done : Done) → slice_get journal k ≡ Some edit → Spells old (state_at k journal)
+    → ((s : State) → Spells old s → IsStepped old new (Ok done) (step s edit)) → Spells new (state_at (k + 1) journal)
+followed journal k edit old new done is spells stepped =
     subst (Spells new) (sym (step_from no_state journal k edit is))
-    (after_ok old new (state_at k journal) answer (step (state_at k journal) edit) fine (stepped (state_at k journal) spells))
+    (after_ok old new (state_at k journal) done (step (state_at k journal) edit) (stepped (state_at k journal) spells))
+
+-- ---- no edit of a lawful journal is refused but for want of memory
+accepts_from : (s : State) (journal : List Edit) (k : ℕ) (edit : Edit) → IsLawfulFrom s journal → slice_get journal k ≡ Some edit
+    → Accepts (state_from s (take k journal)) edit (step (state_from s (take k journal)) edit)
+accepts_from s [] k edit lawful is = absurd (cc is)
+accepts_from s (first ∷ journal) zero edit lawful is = let same : first ≡ edit = cc in subst (λ (e : Edit). Accepts s e (step s e)) same lawful.1
+accepts_from s (first ∷ journal) (suc k) edit lawful is = accepts_from (state_after s (step s first)) journal k edit lawful.2 is
+
+wants_memory : (old new : Kept) (s : State) (edit : Edit) (refusal : Refusal) (it : Stepped) → Accepts s edit it → IsStepped old new (Err refusal) it → refusal ≡ refusals.NoMemory no_memory
+wants_memory old new s edit refusal (Ok next) accepts is = is.0
+wants_memory old new s edit refusal (Err said) accepts is = absurd accepts
+
+pub only_memory : (journal : List Edit) (k : ℕ) (edit : Edit) (old new : Kept) (refusal : Refusal) → IsLawful journal → slice_get journal k ≡ Some edit → Spells old (state_at k journal)
+    → ((s : State) → Spells old s → IsStepped old new (Err refusal) (step s edit)) → refusal ≡ refusals.NoMemory no_memory
+only_memory journal k edit old new refusal lawful is spells stepped =
+    let s : State = state_at k journal in
+    wants_memory old new s edit refusal (step s edit) (accepts_from no_state journal k edit lawful is) (stepped s spells)

@@ -1,7 +1,8 @@
 -- What is answered of a report (this project's own).
-use Rattle.std.specs.Prelude.{ℕ, List}
+use Rattle.std.specs.Prelude.{◌≡◌, ℕ, List, ◌∷◌, codes}
 use Rattle.lawful_runs.specs.declared.loaded.LoadedJob.{LoadedJob}
 use Rattle.lawful_runs.specs.Lawful.{IsLawfulReport}
+use Rattle.report_laws.specs.OfLineCuts.Cuts.{cut}
 use Rattle.report_laws.specs.OfWholePaths.FirstBadLines.{IsFirstBadLine}
 use Rattle.report_check.specs.declared.check.Check.{Check}
 use Rattle.report_check.specs.declared.check.Check.TheVariants as checks
@@ -11,3 +12,7 @@ use Rattle.report_check.specs.declared.check.Check.TheVariants as checks
 abbrev pub IsCheckOf : LoadedJob → List ℕ → Check → Type 0
 IsCheckOf loaded bytes checks.Lawful = IsLawfulReport loaded bytes
 IsCheckOf loaded bytes (checks.Unlawful line) = IsFirstBadLine loaded bytes line
+
+-- the first line isn't the title, or there is none
+abbrev pub IsUntitled : List ℕ → Type 0
+IsUntitled bytes = (lines : List (List ℕ)) → cut bytes ≡ codes "clsact report 1\n" ∷ lines → ⊥

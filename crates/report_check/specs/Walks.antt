@@ -1,5 +1,5 @@
 -- A packet's walk, by what its line shows (this project's own).
-use Rattle.std.specs.Prelude.{◌≡◌, ℕ, ◌≤◌, List, ◌∷◌, length, Option, Some}
+use Rattle.std.specs.Prelude.{◌≡◌, ◌⊎◌, ℕ, ◌≤◌, ◌<◌, List, [], ◌∷◌, length, Option, Some}
 use Rattle.tc_base.specs.declared.hook.Hook.{Hook}
 use Rattle.filter_state.specs.declared.edit.Edit.{Edit}
 use Rattle.filter_state.specs.Journals.{state_at}
@@ -24,6 +24,11 @@ ShowsWalk bytes cursor worker points = (line : List ℕ) (number : ℕ) (outcome
 abbrev pub WalksTo : List Edit → Hook → List ℕ → ℕ → List ℕ → Standing → Type 0
 WalksTo journal hook frame floor points end =
     IsWalkAt (answers_of journal) hook frame (record { floor = floor; ceiling = length journal }) points end
+
+-- no walk begins at these points: there are none, or the first one is before the floor or behind the ceiling
+abbrev pub BeginsOutside : ℕ → ℕ → List ℕ → Type 0
+BeginsOutside floor ceiling [] = Unit {0}
+BeginsOutside floor ceiling (first ∷ points) = (first < floor) ⊎ (ceiling < first)
 
 -- a worker's lists stand at a point of the journal, which it has seen
 pub record StandsIn (journal : List Edit) (walker : Walker) : Type 0 where

@@ -18,8 +18,8 @@ use run_counts::RunCounts;
 use tc_base::NoMemory;
 use walk_texts::{Summary, push_counter, push_summary};
 
-// Goes behind the next line where it is this one, the first of those that are left.
-fn take_left(report: &[u8], cursor: &mut Cursor, text: &[u8]) -> bool
+/// Goes behind the next line where it is this one, the first of those that are left.
+pub(crate) fn take_left(report: &[u8], cursor: &mut Cursor, text: &[u8]) -> bool
     requires { IsWithin report.now cursor.old }
     ensures within { IsWithin report.now cursor.new }
     ensures taken { result ≡ true → (loaded : LoadedJob) (run : RunRecord) (journal : List Edit)
@@ -61,8 +61,8 @@ pub(crate) fn take_counters(
     Ok(true)
 }
 
-/// Goes behind the summary's line and the last one.
-pub(crate) fn take_end(
+/// Goes behind the summary's line.
+pub(crate) fn take_summary(
     report: &[u8],
     cursor: &mut Cursor,
     text: &mut Vec<u8>,
@@ -72,23 +72,20 @@ pub(crate) fn take_end(
     requires few { summary.now.passed + summary.now.dropped < 2 ^ 64 }
     ensures within { IsWithin report.now cursor.new }
     ensures taken { result ≡ Ok true → (loaded : LoadedJob) (run : RunRecord) (journal : List Edit)
-        → IsAt loaded report.now cursor.old
-        (closing run journal (summary_line summary.now ∷ codes "end\n" ∷ []))
-        → IsAt loaded report.now cursor.new (closing run journal []) }
+        (left : List (List ℕ))
+        → IsAt loaded report.now cursor.old (closing run journal (summary_line summary.now ∷ left))
+        → IsAt loaded report.now cursor.new (closing run journal left) }
     ensures stuck { result ≡ Ok false → (loaded : LoadedJob) (run : RunRecord) (journal : List Edit)
-        → IsAt loaded report.now cursor.old
-        (closing run journal (summary_line summary.now ∷ codes "end\n" ∷ []))
+        (left : List (List ℕ))
+        → IsAt loaded report.now cursor.old (closing run journal (summary_line summary.now ∷ left))
         → IsStuck loaded report.now cursor.new }
 {
     text.clear();
     push_summary(text, summary)?;
-    if !take_left(report, cursor, text.as_slice()) {
-        return Ok(false);
-    }
-    Ok(take_left(report, cursor, b"end\n"))
+    Ok(take_left(report, cursor, text.as_slice()))
 }
 
-/// Goes behind the lines that follow the rounds, up to the last one.
+/// Goes behind the lines that follow the rounds, but for the last one.
 pub(crate) fn check_closing(
     report: &[u8],
     progress: &mut Progress,
@@ -101,7 +98,7 @@ pub(crate) fn check_closing(
     ensures through { result ≡ Ok true → (loaded : LoadedJob)
         → IsBetween loaded report.now (length loaded.job.rounds) progress.old
         → (run : RunRecord) × (journal : List Edit)
-        × IsAt loaded report.now progress.new.cursor (closing run journal []) }
+        × IsAt loaded report.now progress.new.cursor (closing run journal (codes "end\n" ∷ [])) }
     ensures stuck { result ≡ Ok false → (loaded : LoadedJob)
         → IsBetween loaded report.now (length loaded.job.rounds) progress.old
         → IsStuck loaded report.now progress.new.cursor }
@@ -127,5 +124,5 @@ pub(crate) fn check_closing(
         passed: walkers.passed,
         dropped: walkers.dropped,
     };
-    take_end(report, cursor, text, &summary)
+    take_summary(report, cursor, text, &summary)
 }

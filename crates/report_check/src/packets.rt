@@ -2,7 +2,7 @@
 ghost use Rattle.batch_run.specs.declared.limit.TheConstants.{COMMANDS_MAX};
 ghost use Rattle.frame_edit.specs.declared.limits.TheConstants.{FRAME_MAX};
 ghost use Rattle.walk_ends.specs.declared.limits.TheConstants.{PACKETS_MAX};
-ghost use Rattle.std.specs.Prelude.{◌≡◌, ◌≤◌, ◌<◌, ◌+◌, ◌^◌, ℕ, true, false, max, length, Ok, Some};
+ghost use Rattle.std.specs.Prelude.{◌≡◌, ◌≤◌, ◌<◌, ◌+◌, ◌^◌, ℕ, [], true, false, max, length, Ok, Some, None};
 ghost use Rattle.std.specs.Prelude.{IfOk, OnOk, if◌then◌else◌};
 ghost use Rattle.pcap_io.specs.Captures.{AreShort};
 ghost use Rattle.walk_rules.specs.Steps.{Standing};
@@ -12,10 +12,10 @@ ghost use Rattle.run_report.specs.PacketTexts.{packet_line};
 ghost use Rattle.lawful_runs.specs.Points.{greatest};
 ghost use Rattle.report_laws.specs.OfNextLines.Walks.{recorded_by};
 ghost use Rattle.state_past.specs.Remembering.{Remembers};
-ghost use Rattle.report_check.specs.OfEvents.Cursors.{IsWithin, IsStuck};
+ghost use Rattle.report_check.specs.OfEvents.Cursors.{IsWithin, IsStuck, lines_left};
 ghost use Rattle.walk_ends.specs.Passing.{is_pass};
 ghost use Rattle.run_counts.specs.Counting.{AreAtMost, count_of, counted_in, both};
-ghost use Rattle.report_check.specs.Walks.{ShowsWalk, WalksTo, StandsIn, StandsAtFirst};
+ghost use Rattle.report_check.specs.Walks.{ShowsWalk, WalksTo, BeginsOutside, StandsIn, StandsAtFirst};
 ghost use Rattle.report_check.specs.Rounds.{ToldRound, IsNextPacket, IsAtPackets, AreWalked};
 
 use crate::events::{Cursor, Replay};
@@ -38,7 +38,8 @@ fn read_next(
     points: &mut Vec<Point>,
 ) -> Result<Option<u32>, NoMemory>
     requires { IsWithin report.now cursor }
-    ensures { IfOk result (λ worker. ShowsWalk report.now cursor worker points.new.items) }
+    ensures shows { IfOk result (λ worker. ShowsWalk report.now cursor worker points.new.items) }
+    ensures cut { lines_left report.now cursor ≡ [] → result ≡ Ok None }
 {
     match cursor.next_line(report) {
         Some(line) => read_packet_line(line, points),
@@ -58,7 +59,7 @@ fn greatest(points: &[Point]) -> Point
 }
 
 // Walks a frame again at the room's points, within what the worker has seen and the journal's end. The
-// worker's lists follow to the first point.
+// worker's lists follow to the first point. Where the first point is outside, no memory is wanted.
 fn walk_again(
     room: &mut Room,
     walker: &mut Walker,
@@ -78,6 +79,8 @@ fn walk_again(
         × StandsAtFirst room.old.points.items walker.new }
     ensures seen { result ≡ Ok true → walker.new.seen ≡ walker.old.seen }
     ensures points { room.new.points.items ≡ room.old.points.items }
+    ensures outside { BeginsOutside (max least walker.old.seen) (length replay.now.journal.items)
+        room.old.points.items → result ≡ Ok false }
     ensures no { result ≡ Ok false → (end : Standing) → WalksTo replay.now.journal.items hook frame.now
         (max least walker.old.seen) room.old.points.items end → ⊥ }
 {
@@ -143,7 +146,8 @@ fn passes(verdict: Verdict) -> u64
 }
 
 /// Goes behind the line of a packet, the one at that place of the capture from 0, of a round before which
-/// `least` edits were accepted: `true`, where the line may come, and `false`, where the report is stuck.
+/// `least` edits were accepted: `true`, where the line may come, and `false`, where the report is stuck. At
+/// the end of the report no memory is wanted.
 pub(crate) fn check_packet(
     report: &[u8],
     cursor: &mut Cursor,
@@ -161,6 +165,7 @@ pub(crate) fn check_packet(
     requires packet { (told : ToldRound)
         × IsNextPacket told report.now cursor.old replay.now walkers.old least place hook frame.now }
     ensures within { IsWithin report.now cursor.new }
+    ensures cut { lines_left report.now cursor.old ≡ [] → result ≡ Ok false }
     ensures further { result ≡ Ok true → cursor.new.line ≡ cursor.old.line + 1 }
     ensures taken { result ≡ Ok true → (told : ToldRound)
         → IsNextPacket told report.now cursor.old replay.now walkers.old least place hook frame.now

@@ -1,16 +1,16 @@
 //! The judge of a report.
-ghost use Rattle.std.specs.Prelude.{[], List, IfOk};
+ghost use Rattle.std.specs.Prelude.{◌≡◌, ◌+◌, ◌∷◌, [], List, IfOk, Ok, codes};
 ghost use Rattle.lawful_runs.specs.declared.loaded.LoadedJob.{LoadedJob as LoadedValue};
 ghost use Rattle.filter_state.specs.declared.edit.Edit.{Edit};
 ghost use Rattle.run_report.specs.declared.record.RunRecord.{RunRecord};
 ghost use Rattle.lawful_runs.specs.Given.{IsLoaded};
 ghost use Rattle.report_laws.specs.Stands.{closing};
 ghost use Rattle.report_check.specs.OfEvents.Cursors.{IsWithin, IsAt, IsStuck};
-ghost use Rattle.report_check.specs.Checks.{IsCheckOf};
+ghost use Rattle.report_check.specs.Checks.{IsCheckOf, IsUntitled};
 ghost use Rattle.report_check.specs.Between.{IsBetween};
 
 use crate::check::Check;
-use crate::closing::check_closing;
+use crate::closing::{check_closing, take_left};
 use crate::events::{Cursor, Replay};
 use crate::rounds::{Progress, check_rounds};
 use crate::walkers::Walkers;
@@ -21,8 +21,9 @@ use tc_base::NoMemory;
 // The answer where the report is stuck.
 fn stuck_at(report: &[u8], cursor: Cursor) -> Check
     requires { IsWithin report.now cursor }
-    ensures { (loaded : LoadedValue) → IsLoaded loaded → IsStuck loaded report.now cursor
+    ensures check { (loaded : LoadedValue) → IsLoaded loaded → IsStuck loaded report.now cursor
         → IsCheckOf loaded report.now result }
+    ensures line { result ≡ Check.Unlawful (cursor.line + 1) }
 {
     // For the proof: a report has fewer bytes than a number of 64 bits counts.
     let _bytes = report.len();
@@ -41,6 +42,20 @@ fn ended_at(report: &[u8], cursor: Cursor) -> Check
         None => Check::Lawful,
         Some(_) => stuck_at(report, cursor),
     }
+}
+
+// The answer before the last line.
+fn closed_at(report: &[u8], cursor: Cursor) -> Check
+    requires { IsWithin report.now cursor }
+    ensures { (loaded : LoadedValue) (run : RunRecord) (journal : List Edit) → IsLoaded loaded
+        → IsAt loaded report.now cursor (closing run journal (codes "end\n" ∷ []))
+        → IsCheckOf loaded report.now result }
+{
+    let mut cursor = cursor;
+    if !take_left(report, &mut cursor, b"end\n") {
+        return stuck_at(report, cursor);
+    }
+    ended_at(report, cursor)
 }
 
 // Goes behind all lines of a report but its title, and answers.
@@ -62,16 +77,17 @@ fn judge(
     if !check_closing(report, progress, text)? {
         return Ok(stuck_at(report, progress.cursor));
     }
-    Ok(ended_at(report, progress.cursor))
+    Ok(closed_at(report, progress.cursor))
 }
 
 /// Whether bytes are the report of a lawful run of a job, or else the first line with which no lawful report
 /// goes on.
 ///
-/// `NoMemory`: memory was refused.
+/// Of a report that doesn't begin with its title no memory is wanted. `NoMemory`: memory was refused.
 pub fn recheck(alloc: Global, job: &LoadedJob, report: &[u8]) -> Result<Check, NoMemory>
     requires { IsLoaded job.now }
-    ensures { IfOk result (IsCheckOf job.now report.now) }
+    ensures check { IfOk result (IsCheckOf job.now report.now) }
+    ensures untitled { IsUntitled report.now → result ≡ Ok (Check.Unlawful 1) }
 {
     let mut cursor = Cursor::start();
     if !cursor.take(report, b"clsact report 1\n") {

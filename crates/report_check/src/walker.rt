@@ -1,6 +1,6 @@
 //! A worker of a run, as its packets' lines tell it.
 
-use filter_lists::{Edit, Lists};
+use filter_lists::{Edit, Lists, Refusal};
 use std::alloc::Global;
 use tc_base::{NoMemory, Point};
 
@@ -45,8 +45,13 @@ impl Walker {
         ensures seen { self.new.seen ≡ self.old.seen }
     {
         while self.at < point {
-            if self.lists.step(&journal[self.at as usize]).is_err() {
-                return Err(NoMemory);
+            match self.lists.step(&journal[self.at as usize]) {
+                Ok(_) => {}
+                Err(refusal) => match refusal {
+                    Refusal::NoMemory(memory) => return Err(memory),
+                    // The journal is lawful: each of its edits is accepted behind those before it.
+                    _ => unreachable!(),
+                },
             }
             self.at += 1;
         }

@@ -183,7 +183,7 @@ refusal_inner refusals.MasksFull = (tested (codes "MasksFull") refl, tt)
 refusal_inner refusals.FiltersFull = (tested (codes "FiltersFull") refl, tt)
 refusal_inner refusals.ActionsFull = (tested (codes "ActionsFull") refl, tt)
 refusal_inner refusals.CountersFull = (tested (codes "CountersFull") refl, tt)
-refusal_inner refusals.NoMemory = (tested (codes "NoMemory") refl, tt)
+refusal_inner (refusals.NoMemory memory) = (tested (codes "NoMemory") refl, tt)
 
 refused_is : (before control line : ℕ) (reason : List (List ℕ)) → AllInner reason → IsLine (refused_line before control line reason)
 refused_is before control line reason inner = (

@@ -40,14 +40,6 @@ impl CounterLines {
         CounterLines { items }
     }
 
-    /// The items, in the `Vec` that they stand in.
-    pub fn into_vec(self) -> Vec<CounterLine>
-        ensures { result.items ≡ self }
-    {
-        let CounterLines { items } = self;
-        items
-    }
-
     /// The items, in order.
     pub fn as_slice(&self) -> &[CounterLine]
         ensures { result.now ≡ self.now }

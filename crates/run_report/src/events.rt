@@ -51,14 +51,6 @@ impl Events {
         Events { items }
     }
 
-    /// The items, in the `Vec` that they stand in.
-    pub fn into_vec(self) -> Vec<Event>
-        ensures { result.items ≡ self }
-    {
-        let Events { items } = self;
-        items
-    }
-
     /// The items, in order.
     pub fn as_slice(&self) -> &[Event]
         ensures { result.now ≡ self.now }

@@ -28,7 +28,8 @@
 //! Records are plain data, which may go to any thread. `write_report` keeps nothing, and may be called by any
 //! thread that may read the record and owns the sink.
 //!
-//! Not promised: that memory suffices, that a record is one of a run that happened, and how long a report is.
+//! Not promised: that memory suffices, that a record is one of a run that happened, how long a report is, and
+//! in how many calls of the sink it is written.
 #![tactic(auto)]
 
 mod counters;

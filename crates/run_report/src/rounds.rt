@@ -35,14 +35,6 @@ impl RoundRecords {
         RoundRecords { items }
     }
 
-    /// The items, in the `Vec` that they stand in.
-    pub fn into_vec(self) -> Vec<RoundRecord>
-        ensures { result.items ≡ self }
-    {
-        let RoundRecords { items } = self;
-        items
-    }
-
     /// The items, in order.
     pub fn as_slice(&self) -> &[RoundRecord]
         ensures { result.now ≡ self.now }

@@ -16,6 +16,7 @@ use Rattle.desk_actions.specs.OfLedgers.Kept.{commits, base}
 use Rattle.desk_parts.specs.declared.parts.Parts.{Parts}
 use Rattle.desk_parts.specs.Desk.{IsDesk}
 use Rattle.shared_hook.specs.Applied.{IsCause}
+use Rattle.tc_base.specs.Memory.{no_memory}
 
 pub roomier_desk : (parts : Parts) (lists : Kept) → IsDesk parts → Stays parts.ledger.lists lists → IsDesk (record parts { ledger = record parts.ledger { lists = lists } })
 roomier_desk parts lists d stays = record {
@@ -45,6 +46,6 @@ pub cause_of : (P : Type 0) (refusal : Refusal) (r : Stepped) → IsPrepared {P 
 cause_of P refusal (Ok next_) it = it
 cause_of P refusal (Err said) it = it
 
-pub no_memory : {P : Type 0} (p : P) (refusal : Refusal) (r : Stepped) → IsPrepared {P = P} (Ok p) r → refusal ≡ refusals.NoMemory → IsCause refusal r
-no_memory p refusal (Ok next_) it none = none
-no_memory p refusal (Err said) it none = absurd it
+pub wants_memory : {P : Type 0} (p : P) (refusal : Refusal) (r : Stepped) → IsPrepared {P = P} (Ok p) r → refusal ≡ refusals.NoMemory no_memory → IsCause refusal r
+wants_memory p refusal (Ok next_) it none = none
+wants_memory p refusal (Err said) it none = absurd it

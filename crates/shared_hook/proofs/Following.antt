@@ -12,7 +12,7 @@ use Rattle.filter_lists.specs.Edits.{Stays}
 use Rattle.hook_lists.specs.declared.kept.Kept.{Kept}
 use Rattle.hook_law.specs.Meaning.{state_at}
 use Rattle.hook_law.proofs.Growing.{state_pushed}
-use Rattle.hook_meaning.specs.Stated.{hook_meaning}
+use Rattle.hook_store_law.specs.Stated.{hook_meaning}
 use Rattle.hook_lists.specs.States.{state_of}
 use Rattle.hook_store_law.specs.OfEdits.Premises.{now, next}
 use Rattle.hook_store_law.proofs.OfEdits.Accepted.{sound}

@@ -8,7 +8,7 @@ use Rattle.pin_store.specs.declared.scan.Scan.TheVariants.{Pinned}
 use Rattle.filter_state.specs.declared.edit.Edit.{Edit}
 use Rattle.store_history.specs.History.{edits_of}
 use Rattle.hook_law.specs.Meaning.{state_at}
-use Rattle.hook_meaning.specs.Stated.{hook_meaning}
+use Rattle.hook_store_law.specs.Stated.{hook_meaning}
 use Rattle.hook_store_law.specs.OfEdits.Premises.{now}
 use Rattle.desk_needs.specs.declared.needs.Needs.{Needs}
 use Rattle.desk_pools.specs.OfTidying.Tidied.{IsTwiceIn, Empties, AreTidied, empty_at, emptying}

@@ -16,6 +16,7 @@ use Rattle.desk_needs.specs.declared.pool.Pool.{Pool}
 use Rattle.desk_needs.specs.Needs.{needed_of}
 use Rattle.shared_hook.specs.Short.{place_of}
 use Rattle.shared_hook.specs.Views.{DeskView, count_of, journal}
+use Rattle.tc_base.specs.Memory.{no_memory}
 
 -- what the plain step answers at the end of a desk's journal
 abbrev pub stepped : DeskView → Edit → Stepped
@@ -43,7 +44,7 @@ pub record IsApplied (old new : DeskView) (y : Edit) (done : Done) : Type 0 wher
 -- a plain step refuses for this reason, or accepts, and memory was refused
 abbrev pub IsCause : Refusal → Stepped → Type 0
 IsCause refusal (Err said) = refusal ≡ said
-IsCause refusal (Ok next) = refusal ≡ refusals.NoMemory
+IsCause refusal (Ok next) = refusal ≡ refusals.NoMemory no_memory
 
 -- THE EDIT IS REFUSED, and nothing changed but maybe the room of the lists
 pub record IsRefused (old new : DeskView) (y : Edit) (refusal : Refusal) : Type 0 where

@@ -43,8 +43,8 @@ impl Desk {
     ghost use Rattle.pin_store.specs.Found.{FoundIn};
     ghost use Rattle.filter_state.specs.declared.edit.Edit.{Edit};
     ghost use Rattle.filter_lists.specs.Spells.{Spells};
-    ghost use Rattle.hook_meaning.specs.Stated.{hook_meaning};
-    ghost use Rattle.hook_meaning.specs.Blocks.{hook_codec};
+    ghost use Rattle.hook_store_law.specs.Stated.{hook_meaning};
+    ghost use Rattle.hook_store_law.specs.Blocks.{hook_codec};
     ghost use Rattle.hook_law.specs.Keeping.{Keeps, IsAtRest};
     ghost use Rattle.hook_store_law.specs.OfEdits.Premises.{now};
     ghost use Rattle.desk_needs.specs.declared.pool.Pool.{Pool};
@@ -83,13 +83,6 @@ impl Desk {
         ensures { result ≡ self.now.free }
     {
         PoolCounts::free_in(&self.parts.pools)
-    }
-
-    /// What of each pool left and isn't free yet.
-    pub fn all_retired(&self) -> PoolCounts
-        ensures { result ≡ self.now.left }
-    {
-        PoolCounts::left_in(&self.parts.pools)
     }
 
     /// How many of a pool are free.

@@ -34,14 +34,20 @@ pub fn make_hook(alloc: Global) -> Result<(HookStore, Desk, Passes), NoMemory>
     ensures unused { IfOk result (λ made. All IsUnused made.2.left.items) }
 {
     let (store, writer, readers) = make_store::<HookLaw>(alloc, HOOK_SHAPE)?;
-    let Ok(parts) = Parts::new(alloc, writer) else {
-        // Here and below in one call: part by part it is long to prove.
-        drop((store, readers));
-        return Err(NoMemory);
+    let parts = match Parts::new(alloc, writer) {
+        Ok(parts) => parts,
+        Err(memory) => {
+            // Here and below in one call: part by part it is long to prove.
+            drop((store, readers));
+            return Err(memory);
+        }
     };
-    let Ok(left) = readers_of(alloc, &store, readers) else {
-        drop((store, parts));
-        return Err(NoMemory);
+    let left = match readers_of(alloc, &store, readers) {
+        Ok(left) => left,
+        Err(memory) => {
+            drop((store, parts));
+            return Err(memory);
+        }
     };
     Ok((store, Desk { parts, alloc }, Passes { left }))
 }

@@ -6,30 +6,30 @@ use crate::past::Past;
 use std::alloc::Global;
 use std::collections::HashMap;
 use std::marker::Model;
-use tc_base::{NoMemory, Numbers, Point};
+use tc_base::{NoMemory, Point};
 
-/// What stood under each name over time: the serials of a filter's actions, or nothing. A name is the serial
-/// of a mask and the fourteen words of a key.
+/// What stood under each name over time, or that it was gone: of a filter the serials of its actions, say. A
+/// name is the serial of a mask and the fourteen words of a key.
 #[derive(Drop)]
-pub struct SlotPasts {
+pub struct SlotPasts<V> {
     alloc: Global,
     places: HashMap<[u64; 15], usize>,
-    entries: Vec<NamedPast>,
+    entries: Vec<NamedPast<V>>,
 }
 
-impl Model for SlotPasts {
+impl<V> Model for SlotPasts<V> {
     ghost use Rattle.std.specs.Prelude.{List};
     ghost use Rattle.slot_pasts.specs.declared.named.NamedPast.{NamedPast};
     ghost use Rattle.slot_pasts.specs.Names.{IsIndexed};
 
-    ghost Value = { List NamedPast };
+    ghost Value = { List (NamedPast V) };
 
     ghost view = { λ l. l.entries.items };
 
     ghost invariant = { λ l. IsIndexed l.places l.entries.items };
 }
 
-impl SlotPasts {
+impl<V: Drop> SlotPasts<V> {
     ghost use Rattle.std.specs.Prelude.{◌≡◌, ◌++◌, ◌∷◌, [], ℕ, List, OnOk, OnErr, if◌then◌else◌};
     ghost use Rattle.std.specs.Option.{option_copied};
     ghost use Rattle.std.specs.Str.{bytes_eq};
@@ -37,7 +37,7 @@ impl SlotPasts {
     ghost use Rattle.slot_pasts.specs.Names.{past_of, past_with};
 
     /// Nothing stood anywhere.
-    pub fn new(alloc: Global) -> SlotPasts
+    pub fn new(alloc: Global) -> SlotPasts<V>
         ensures { result ≡ [] }
     {
         SlotPasts {
@@ -48,7 +48,7 @@ impl SlotPasts {
     }
 
     /// What stood under a name at a point; nothing, where nothing ever did.
-    pub fn at(&self, name: &[u64; 15], point: Point) -> Option<&Numbers>
+    pub fn at(&self, name: &[u64; 15], point: Point) -> Option<&V>
         ensures { option_copied result ≡ stood (value_at point (past_of self.now name.now)) }
     {
         let place = *self.places.get(name)?;
@@ -57,12 +57,7 @@ impl SlotPasts {
 
     /// From that point on, which is no earlier than that of any change under the name so far, this stands
     /// there. Where memory is refused, nothing changed.
-    pub fn put(
-        &mut self,
-        name: [u64; 15],
-        from: Point,
-        value: Option<Numbers>,
-    ) -> Result<(), NoMemory>
+    pub fn put(&mut self, name: [u64; 15], from: Point, value: Option<V>) -> Result<(), NoMemory>
         requires { UpTo from (past_of self.old name) }
         ensures put { OnOk result ((other : List ℕ)
             → past_of self.new other ≡ past_with name from value self.old other) }

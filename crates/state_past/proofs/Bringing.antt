@@ -14,7 +14,7 @@ use Rattle.state_past_laws.proofs.OfChanges.Among.{has_append, has_left, has_rig
 use Rattle.state_past_laws.proofs.OfChanges.Moved.{grows_itself, grows_put, has_put}
 use Rattle.act_kinds.specs.declared.params.Params.{Params}
 use Rattle.filter_state.specs.States.{State}
-use Rattle.hook_meaning.specs.OfEffects.Parts.{params_at}
+use Rattle.edit_effects.specs.OfEffects.Parts.{params_at}
 use Rattle.state_past.specs.Brought.{Brought, AllUpTo}
 use Rattle.state_past.specs.Told.{StayLive}
 

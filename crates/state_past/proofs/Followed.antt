@@ -23,9 +23,9 @@ use Rattle.hook_lists.specs.declared.kept.Kept.{Kept}
 use Rattle.hook_lists.specs.States.{state_of, AreKept}
 use Rattle.filter_lists.specs.Spells.{Spells}
 use Rattle.filter_lists.specs.Edits.{IsStepped}
-use Rattle.hook_meaning.specs.OfEffects.Parts.{words_of, params_at}
-use Rattle.hook_meaning.specs.OfEffects.Effects.{KeepsActions}
-use Rattle.hook_meaning.proofs.OfEffects.FilterActions.{filters_keep}
+use Rattle.edit_effects.specs.OfEffects.Parts.{words_of, params_at}
+use Rattle.edit_effects.specs.OfEffects.Effects.{KeepsActions}
+use Rattle.edit_effects.proofs.OfEffects.FilterActions.{filters_keep}
 use Rattle.tc_base.specs.declared.hook.Proto.TheVariants as protocols
 use Rattle.filter_state.specs.declared.edit.FilterLine.{FilterLine}
 use Rattle.filter_state.specs.Actions.{has_serial}
@@ -50,20 +50,22 @@ use Rattle.state_past.specs.OfGoneFilters.Marks.{Mark, mark_of, marked}
 use Rattle.state_past.specs.declared.coming.Coming.{Coming}
 use Rattle.state_past.specs.declared.following.StepBefore.{StepBefore}
 use Rattle.state_past.specs.declared.past.StatePast.{StatePast}
-use Rattle.state_past.specs.Serials.{past_at, serials_from}
+use Rattle.slot_pasts.specs.Serials.{past_at}
+use Rattle.state_past.specs.Serials.{serials_from}
 use Rattle.state_past.specs.Brought.{Brought, AllUpTo}
 use Rattle.state_past.specs.Told.{words_told, named_slot, slots_of, actions_of_all, words_left, AreLeft, StayLive, IsComingOf, coming_slots, coming_masks, coming_actions, coming_words, named_in}
 use Rattle.state_past.specs.Changed.{WordsPast, SlotsChanged, MasksChanged, serials_noted, ActionsChanged}
 use Rattle.state_past.specs.Remembering.{Remembers, IsFollowed}
 use Rattle.state_past.proofs.Recalled.{told_anywhere}
 use Rattle.state_past.proofs.Bringing.{numbers, names, has_decided}
+use Rattle.tc_base.specs.Memory.{no_memory}
 
 -- ---- the step that is followed
 pub refused_followed : (old new : Kept) (refusal : Refusal) (x : Stepped) → IsStepped old new (Err refusal) x → IsFollowed old new (Err refusal) x
 refused_followed old new refusal (Ok next) is = is.0
 refused_followed old new refusal (Err said) is = inr is
 
-pub unremembered : (old new : Kept) (done : Done) (x : Stepped) → IsStepped old new (Ok done) x → IsFollowed old new (Err refusals.NoMemory) x
+pub unremembered : (old new : Kept) (done : Done) (x : Stepped) → IsStepped old new (Ok done) x → IsFollowed old new (Err (refusals.NoMemory no_memory)) x
 unremembered old new done (Ok next) is = refl
 unremembered old new done (Err said) is = absurd is
 
@@ -197,10 +199,10 @@ module _ (journal : List Edit) (edit : Edit) (s t : State) (sound : Sound s) (so
   not_slot mask key row other = false_from_ne_true (is_slot mask key row)
       (λ is. let parts = slot_parts mask key row is in other (ap (λ (n : ℕ). named_slot n row.key) parts.0 ∙ ap (λ (k : List ℕ). named_slot mask k) parts.1))
 
-  abbrev SlotTells : ℕ → List ℕ → SlotPast → List Edit → Type 0
+  abbrev SlotTells : ℕ → List ℕ → SlotPast (List ℕ) → List Edit → Type 0
   SlotTells mask key past js = Tells (λ (u : State). slot_in u.rows mask key) stood past js
 
-  slots_told : (past middle later : List ℕ → SlotPast) (coming : Option Coming) → IsComingOf come coming → Brought upto stood (λ name. None) (map row_name gone) past middle
+  slots_told : (past middle later : List ℕ → SlotPast (List ℕ)) (coming : Option Coming) → IsComingOf come coming → Brought upto stood (λ name. None) (map row_name gone) past middle
       → Brought upto stood (λ name. coming_actions coming) (map row_name (listed come)) middle later → (mask : ℕ) (key : List ℕ) → SlotTells mask key (past (named_slot mask key)) journal
       → SlotTells mask key (later (named_slot mask key)) (journal ++ (edit ∷ []))
   slots_told past middle later coming of one other mask key tells = pick (has_decided names (named_slot mask key) (map row_name (listed come))) (has_decided names (named_slot mask key) (map row_name gone))
@@ -227,7 +229,7 @@ module _ (journal : List Edit) (edit : Edit) (s t : State) (sound : Sound s) (so
           told_on _ _ (λ (u : State). slot_in u.rows mask key) stood (past (named_slot mask key)) (later (named_slot mask key)) journal edit tells grows (other.done (named_slot mask key) has ∙ comes m.0 (listed_is m.0 come m.1) m.2 ∙ sym now_is)
       pick (inr none) (inl has) = let m = map_has row_name gone (named_slot mask key) has in
           told_on _ _ (λ (u : State). slot_in u.rows mask key) stood (past (named_slot mask key)) (later (named_slot mask key)) journal edit tells grows
-          (ap (λ (p : SlotPast). stood (value_at upto p)) (other.others (named_slot mask key) none) ∙ one.done (named_slot mask key) has ∙ sym (goes m.0 m.1 m.2 none) ∙ sym now_is)
+          (ap (λ (p : SlotPast (List ℕ)). stood (value_at upto p)) (other.others (named_slot mask key) none) ∙ one.done (named_slot mask key) has ∙ sym (goes m.0 m.1 m.2 none) ∙ sym now_is)
       pick (inr none) (inr not) = stays_told journal edit (λ (u : State). slot_in u.rows mask key) stood (past (named_slot mask key)) (later (named_slot mask key)) tells (other.others (named_slot mask key) none ∙ one.others (named_slot mask key) not)
           (now_is ∙ slot_stays s.rows t.rows gone come go sound.together sound_after.together mask key
           (λ g has. not_slot mask key g (λ same. not (subst (λ (n : List ℕ). Has n (map row_name gone)) same (has_map row_name gone g has))))

@@ -33,12 +33,12 @@ use Rattle.state_past_laws.proofs.OfChanges.Among.{each_has, first_has}
 use Rattle.state_laws.proofs.Steps.{journal_sound}
 use Rattle.hook_lists.specs.declared.kept.Kept.{Kept}
 use Rattle.filter_lists.specs.Spells.{Spells}
-use Rattle.hook_meaning.specs.OfEffects.Parts.{Stands, filters_of, words_in, words_of, params_at}
+use Rattle.edit_effects.specs.OfEffects.Parts.{Stands, filters_of, words_in, words_of, params_at}
 use Rattle.walk_rules.specs.Questions.{Answer, told_params}
 use Rattle.walk_rules.specs.Questions as questions
 use Rattle.walk_rules.specs.Answers.{meets, actions_or_none, params_answer, answer_of}
-use Rattle.hook_meaning.specs.OfMaskAnswers.Searched.{IsSearched, searched_told}
-use Rattle.hook_meaning.proofs.OfMaskAnswers.Searching.{search_answers}
+use Rattle.edit_effects.specs.OfMaskAnswers.Searched.{IsSearched, searched_told}
+use Rattle.edit_effects.proofs.OfMaskAnswers.Searching.{search_answers}
 use Rattle.slot_pasts.specs.declared.past.Change.{Change}
 use Rattle.slot_pasts.specs.Pasts.{value_at, stood}
 use Rattle.slot_pasts.specs.Names.{past_of}
@@ -47,7 +47,7 @@ use Rattle.state_past_laws.specs.Telling.{Tells}
 use Rattle.state_past_laws.proofs.Longer.{settled}
 use Rattle.state_past_laws.proofs.Searched.{slot_searched}
 use Rattle.state_past.specs.declared.past.StatePast.{StatePast}
-use Rattle.state_past.specs.Serials.{past_at}
+use Rattle.slot_pasts.specs.Serials.{past_at}
 use Rattle.state_past.specs.Told.{words_told, named_slot}
 use Rattle.state_past.specs.Remembering.{Remembers}
 

@@ -14,8 +14,11 @@ use Rattle.state_past_laws.proofs.OfChanges.Stood.{akin_has}
 use Rattle.state_past.specs.OfGoneFilters.Marks.{IsMaskRow}
 
 module _ (line : FilterLine) (pref handle : ℕ) (serials : List ℕ) (row : Row) (is : IsComing line (dones.Filter pref handle serials) row) (rows : List Row) (has : Has row rows) where
-  same_pref : pref ≡ row.pref
+  pub same_pref : pref ≡ row.pref
   same_pref = let answer = is.answer in cc answer
+
+  pub same_handle : handle ≡ row.handle
+  same_handle = let answer = is.answer in cc answer
 
   pub same_serials : serials ≡ row.actions
   same_serials = let answer = is.answer in cc answer

@@ -3,7 +3,7 @@ use Rattle.std.specs.Prelude.{ℕ, ◌+◌, ◌++◌, List, Option, None}
 use Rattle.flow_fields.specs.declared.key.Key.{Key}
 use Rattle.act_kinds.specs.declared.params.Params.{Params}
 use Rattle.filter_state.specs.States.{State}
-use Rattle.hook_meaning.specs.OfEffects.Parts.{words_of, params_at}
+use Rattle.edit_effects.specs.OfEffects.Parts.{words_of, params_at}
 use Rattle.slot_pasts.specs.declared.past.Change.{Change}
 use Rattle.slot_pasts.specs.Pasts.{stood}
 use Rattle.slot_pasts.specs.Names.{SlotPast}
@@ -17,9 +17,9 @@ use Rattle.state_past.specs.Told.{words_told, slots_of, masks_of, actions_of_all
 use Rattle.state_past.specs.Told.{coming_actions, coming_words}
 
 -- slots of rows that went have nothing, and then that of the row that comes has its actions
-abbrev pub SlotsChanged : ℕ → List GoingFilter → Option Coming → (List ℕ → SlotPast) → (List ℕ → SlotPast)
+abbrev pub SlotsChanged : ℕ → List GoingFilter → Option Coming → (List ℕ → SlotPast (List ℕ)) → (List ℕ → SlotPast (List ℕ))
     → Type 0
-SlotsChanged from going coming past after = (middle : List ℕ → SlotPast)
+SlotsChanged from going coming past after = (middle : List ℕ → SlotPast (List ℕ))
     × Brought from stood (λ name. None) (slots_of going) past middle
     × Brought from stood (λ name. coming_actions coming) (coming_slots coming) middle after
 

@@ -9,14 +9,15 @@ use Rattle.filter_state.specs.Steps.{Stepped}
 use Rattle.hook_lists.specs.declared.kept.Kept.{Kept}
 use Rattle.filter_lists.specs.Spells.{Spells}
 use Rattle.filter_lists.specs.Edits.{Stays}
-use Rattle.hook_meaning.specs.OfEffects.Parts.{words_of, params_at}
+use Rattle.edit_effects.specs.OfEffects.Parts.{words_of, params_at}
 use Rattle.slot_pasts.specs.Pasts.{stood}
 use Rattle.slot_pasts.specs.Names.{past_of}
 use Rattle.state_past_laws.specs.Slots.{slot_in}
 use Rattle.state_past_laws.specs.Telling.{Tells}
 use Rattle.state_past.specs.declared.past.StatePast.{StatePast}
-use Rattle.state_past.specs.Serials.{past_at}
+use Rattle.slot_pasts.specs.Serials.{past_at}
 use Rattle.state_past.specs.Told.{words_told, named_slot}
+use Rattle.tc_base.specs.Memory.{no_memory}
 
 -- THE PAST REMEMBERS A JOURNAL: at each of its points it tells what stood in each slot, the words of each mask
 -- and the parameters of each action. No slot has an empty name.
@@ -33,6 +34,6 @@ pub record Remembers (past : StatePast) (journal : List Edit) : Type 0 where
 -- that want of memory may come in any case, and then nothing is said of the lists.
 abbrev pub IsFollowed : Kept → Kept → Result Done Refusal → Stepped → Type 0
 IsFollowed old new (Ok done) (Ok (next, said)) = (done ≡ said) × Spells new next
-IsFollowed old new (Err refusal) (Err said) = (refusal ≡ refusals.NoMemory) ⊎ ((refusal ≡ said) × Stays old new)
-IsFollowed old new (Err refusal) (Ok next) = refusal ≡ refusals.NoMemory
+IsFollowed old new (Err refusal) (Err said) = (refusal ≡ refusals.NoMemory no_memory) ⊎ ((refusal ≡ said) × Stays old new)
+IsFollowed old new (Err refusal) (Ok next) = refusal ≡ refusals.NoMemory no_memory
 IsFollowed old new (Ok done) (Err said) = ⊥

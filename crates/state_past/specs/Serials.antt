@@ -1,10 +1,5 @@
--- The past of a serial (this project's own).
-use Rattle.std.specs.Prelude.{ℕ, ◌+◌, zero, suc, List, [], ◌∷◌, ◌++◌, get_or, Option}
-use Rattle.slot_pasts.specs.declared.past.Change.{Change}
-
--- a serial that never had a change has none
-abbrev pub past_at : {V : Type 0} → List (List (Change (Option V))) → ℕ → List (Change (Option V))
-past_at pasts serial = get_or pasts serial []
+-- Serials in a row (this project's own).
+use Rattle.std.specs.Prelude.{ℕ, ◌+◌, zero, suc, List, [], ◌∷◌, ◌++◌}
 
 -- so many serials, from one on
 abbrev pub serials_from : ℕ → ℕ → List ℕ

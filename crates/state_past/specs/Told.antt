@@ -8,7 +8,7 @@ use Rattle.filter_state.specs.declared.edit.Edit.{Edit}
 use Rattle.filter_state.specs.declared.edit.Edit.TheVariants as edits
 use Rattle.filter_state.specs.States.{Row, State}
 use Rattle.filter_state.specs.Tables.{mask_row}
-use Rattle.hook_meaning.specs.OfEffects.Parts.{params_at}
+use Rattle.edit_effects.specs.OfEffects.Parts.{params_at}
 use Rattle.slot_pasts.specs.declared.past.Change.{Change}
 use Rattle.slot_pasts.specs.Pasts.{value_at, stood}
 use Rattle.state_past_laws.specs.OfChanges.Among.{Has, listed}
@@ -57,6 +57,10 @@ pub record IsOfRow (row : Row) (coming : Coming) : Type 0 where
   pub mask : coming.mask ≡ row.mask_serial
   pub words : coming.line.now.mask.words ≡ row.mask
   pub key : coming.line.now.key.words ≡ row.key
+  pub hook : coming.line.now.hook ≡ row.hook
+  pub chain : coming.line.now.chain ≡ row.chain
+  pub pref : coming.pref ≡ row.pref
+  pub handle : coming.handle ≡ row.handle
   pub actions : coming.serials.now ≡ row.actions
 
 abbrev pub IsComingOf : Option Row → Option Coming → Type 0

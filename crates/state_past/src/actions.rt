@@ -2,17 +2,18 @@
 ghost use Rattle.std.specs.Prelude.{◌≡◌, ◌+◌, ◌-◌, ◌∷◌, [], OnOk};
 ghost use Rattle.filter_state.specs.States.{State};
 ghost use Rattle.filter_lists.specs.Spells.{Spells};
-ghost use Rattle.hook_meaning.specs.OfEffects.Parts.{params_at};
+ghost use Rattle.edit_effects.specs.OfEffects.Parts.{params_at};
 ghost use Rattle.slot_pasts.specs.Pasts.{stood};
 ghost use Rattle.state_past_laws.specs.OfChanges.Among.{listed};
-ghost use Rattle.state_past.specs.Serials.{past_at, serials_from};
+ghost use Rattle.slot_pasts.specs.Serials.{past_at};
+ghost use Rattle.state_past.specs.Serials.{serials_from};
 ghost use Rattle.state_past.specs.Brought.{Brought, AllUpTo};
 ghost use Rattle.state_past.specs.Told.{actions_of_all, StayLive};
 
 use crate::gone_filters::GoingFilter;
-use crate::serial_pasts::SerialPasts;
 use act_kinds::Params;
 use filter_lists::Lists;
+use slot_pasts::SerialPasts;
 use tc_base::{NoMemory, Point};
 
 /// From that point on the actions that these filters named are what they are in the lists. Those that are

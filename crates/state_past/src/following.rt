@@ -61,9 +61,9 @@ impl StatePast {
     ghost use Rattle.std.specs.Prelude.{◌≡◌, ◌-◌, OnOk};
     ghost use Rattle.filter_state.specs.States.{State};
     ghost use Rattle.filter_lists.specs.Spells.{Spells};
-    ghost use Rattle.hook_meaning.specs.OfEffects.Parts.{words_of};
+    ghost use Rattle.edit_effects.specs.OfEffects.Parts.{words_of};
     ghost use Rattle.slot_pasts.specs.Names.{past_of};
-    ghost use Rattle.state_past.specs.Serials.{past_at};
+    ghost use Rattle.slot_pasts.specs.Serials.{past_at};
     ghost use Rattle.state_past.specs.Brought.{AllUpTo};
     ghost use Rattle.state_past.specs.Told.{AreLeft, StayLive, actions_of_all};
     ghost use Rattle.state_past.specs.Changed.{SlotsChanged, MasksChanged, ActionsChanged};

@@ -11,6 +11,9 @@
 //! (`gone_filters`); what is there then is asked of the lists after it. Points are counted over the whole
 //! journal, so nothing is cleared between rounds.
 //!
+//! Whoever keeps a past of their own beside this one names slots as it does (`slot_name`), and finds the
+//! filter that an edit put by `coming_in`.
+//!
 //! The tables of a hook aren't kept here: whoever walks has lists that stand at the point of the walk's head.
 //! Both together answer what the states of the journal answer (`journals`).
 //!
@@ -31,8 +34,9 @@ pub mod journals;
 mod masks;
 mod names;
 mod past;
-mod serial_pasts;
 mod slots;
 mod telling;
 
+pub use coming::{Coming, coming_in};
+pub use names::slot_name;
 pub use past::StatePast;

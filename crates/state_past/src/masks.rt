@@ -2,7 +2,7 @@
 ghost use Rattle.std.specs.Prelude.{◌≡◌, ℕ, ◌∷◌, [], List, true, OnOk};
 ghost use Rattle.filter_state.specs.States.{State};
 ghost use Rattle.filter_lists.specs.Spells.{Spells};
-ghost use Rattle.state_past.specs.Serials.{past_at};
+ghost use Rattle.slot_pasts.specs.Serials.{past_at};
 ghost use Rattle.state_past.specs.Brought.{Brought, AllUpTo};
 ghost use Rattle.state_past.specs.Told.{words_told, words_or_none, masks_of, AreLeft, coming_masks};
 ghost use Rattle.state_past.specs.Told.{coming_words, words_left};
@@ -10,9 +10,9 @@ ghost use Rattle.std.specs.Option.{option_copied};
 
 use crate::coming::Coming;
 use crate::gone_filters::{GoingFilter, mask_serial};
-use crate::serial_pasts::SerialPasts;
 use filter_lists::Lists;
 use flow_fields::Key;
+use slot_pasts::SerialPasts;
 use tc_base::{NoMemory, Point};
 
 /// From that point on the masks of these filters have what the lists have of them.

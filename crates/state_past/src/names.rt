@@ -3,8 +3,8 @@ ghost use Rattle.std.specs.Prelude.{◌≡◌, ◌∷◌, length};
 
 use flow_fields::Key;
 
-/// The serial of a mask, and the fourteen words of a key.
-pub(crate) fn slot_name(mask: u32, key: &Key<14>) -> [u64; 15]
+/// The name of a slot: the serial of a mask, and the fourteen words of a key.
+pub fn slot_name(mask: u32, key: &Key<14>) -> [u64; 15]
     ensures { result ≡ mask ∷ key.now.words }
 {
     let mut name = [mask as u64; 15];

@@ -3,22 +3,21 @@
 use crate::coming::coming_in;
 use crate::following::StepBefore;
 use crate::names::{key_words, slot_name};
-use crate::serial_pasts::SerialPasts;
 use crate::telling::tell_actions;
 use act_kinds::Params;
 use filter_lists::{Done, Edit, Lists, Refusal};
 use flow_fields::Key;
 use flow_mask::masked;
-use slot_pasts::SlotPasts;
+use slot_pasts::{SerialPasts, SlotPasts};
 use std::alloc::Global;
-use tc_base::Point;
+use tc_base::{Numbers, Point};
 use visit_room::Hit;
 
 /// What the states of a journal had, at each of its points.
 #[derive(Drop)]
 pub struct StatePast {
     pub(crate) alloc: Global,
-    pub(crate) slots: SlotPasts,
+    pub(crate) slots: SlotPasts<Numbers>,
     pub(crate) masks: SerialPasts<Key<14>>,
     pub(crate) actions: SerialPasts<Params>,
     pub(crate) point: Point,
@@ -32,6 +31,7 @@ impl StatePast {
     ghost use Rattle.act_kinds.specs.Acts.{FitsFrames};
     ghost use Rattle.filter_state.specs.declared.edit.Edit.{Edit as EditValue};
     ghost use Rattle.filter_state.specs.declared.refusal.Refusal.TheVariants as refusals;
+    ghost use Rattle.tc_base.specs.Memory.{no_memory};
     ghost use Rattle.filter_state.specs.Lines.{IsLine};
     ghost use Rattle.filter_state.specs.States.{State, no_state};
     ghost use Rattle.filter_state.specs.Journals.{state_from, state_at};
@@ -41,7 +41,9 @@ impl StatePast {
     ghost use Rattle.walk_rules.specs.Questions.{filter_of, params_of, told_params};
     ghost use Rattle.walk_rules.specs.Answers.{answer_of};
     ghost use Rattle.walk_steps.specs.Told.{filter_told};
+    ghost use Rattle.edit_effects.specs.OfEffects.Parts.{words_of};
     ghost use Rattle.state_past.specs.Remembering.{Remembers, IsFollowed};
+    ghost use Rattle.state_past.specs.Told.{words_or_none};
 
     /// The past of no edits. It takes no memory yet.
     pub fn new(alloc: Global) -> StatePast
@@ -78,7 +80,7 @@ impl StatePast {
             → Spells lists.old (state_from no_state journal)
             → IfOk result (λ done. Remembers self.new (journal ++ (edit.now ∷ []))
             × Spells lists.new (state_from no_state (journal ++ (edit.now ∷ [])))) }
-        ensures refused { IfErr result (λ refusal. refusal ≢ refusals.NoMemory → self.new ≡ self.old) }
+        ensures refused { IfErr result (λ refusal. refusal ≢ refusals.NoMemory no_memory → self.new ≡ self.old) }
     {
         let before = StepBefore::of(self.alloc, lists, edit)?;
         let done = match lists.step(edit) {
@@ -87,10 +89,8 @@ impl StatePast {
         };
         self.point += 1;
         let coming = coming_in(lists, edit, &done);
-        match self.remember(lists, &before, &coming) {
-            Ok(()) => Ok(done),
-            Err(_) => Err(Refusal::NoMemory),
-        }
+        self.remember(lists, &before, &coming)?;
+        Ok(done)
     }
 
     /// Whether a frame of that key meets a filter of the mask at a point, whose actions are told; nothing,
@@ -115,6 +115,15 @@ impl StatePast {
             }
             None => Some(false),
         }
+    }
+
+    /// The words of the mask of a serial that stands at a point.
+    pub fn mask(&self, point: Point, serial: u32) -> Option<&Key<14>>
+        requires { (journal : List EditValue) × Remembers self.now journal }
+        ensures { (journal : List EditValue) → Remembers self.now journal
+            → words_or_none (option_copied result) ≡ words_of (state_at point journal) serial }
+    {
+        self.masks.at(serial, point)
     }
 
     /// The parameters of an action that is live at a point.

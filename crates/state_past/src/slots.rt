@@ -14,7 +14,7 @@ use tc_base::{NoMemory, Numbers, Point};
 
 /// From that point on nothing stands where these filters did.
 pub(crate) fn take_slots(
-    slots: &mut SlotPasts,
+    slots: &mut SlotPasts<Numbers>,
     from: Point,
     going: &[GoingFilter],
 ) -> Result<(), NoMemory>
@@ -31,7 +31,7 @@ pub(crate) fn take_slots(
 /// From that point on the filter that was put stands in its slot.
 pub(crate) fn put_slot(
     alloc: Global,
-    slots: &mut SlotPasts,
+    slots: &mut SlotPasts<Numbers>,
     from: Point,
     coming: &Option<Coming<'_>>,
 ) -> Result<(), NoMemory>

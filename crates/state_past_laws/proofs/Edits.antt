@@ -15,8 +15,8 @@ use Rattle.filter_state.specs.Steps.{step, taken_out}
 use Rattle.filter_state.specs.Journals.{state_after}
 use Rattle.filter_state.specs.Refusals.{or_else, no_hook, protocol_clash_if, no_such_table, no_such_filter}
 use Rattle.state_laws.proofs.Steps.{step_sound}
-use Rattle.hook_meaning.proofs.OfEffects.Accepted.{not_unless, same_step}
-use Rattle.hook_meaning.proofs.OfEffects.Adding.{new_row, adds}
+use Rattle.edit_effects.proofs.OfEffects.Accepted.{not_unless, same_step}
+use Rattle.edit_effects.proofs.OfEffects.Adding.{new_row, adds}
 use Rattle.state_past_laws.specs.Slots.{Overrides, put_there, taken_there}
 use Rattle.state_past_laws.proofs.Rows.{added, removed}
 

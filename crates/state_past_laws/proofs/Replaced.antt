@@ -12,7 +12,7 @@ use Rattle.filter_state.specs.Steps.{step, with_row, without_row, with_new_actio
 use Rattle.filter_state.specs.Journals.{state_after}
 use Rattle.state_laws.proofs.Steps.{step_sound}
 use Rattle.state_laws.proofs.Old.{is_old, old_found}
-use Rattle.hook_meaning.proofs.OfEffects.Replacing.{replaces, is_there, moved_row}
+use Rattle.edit_effects.proofs.OfEffects.Replacing.{replaces, is_there, moved_row}
 use Rattle.state_past_laws.specs.Slots.{Overrides, put_there, taken_there, changed_there, moved_there}
 use Rattle.state_past_laws.proofs.Rows.{added, removed, overrides_then}
 use Rattle.state_past_laws.proofs.InPlace.{in_place}

@@ -7,9 +7,9 @@ use Rattle.std.proofs.lemmas.Slice.Eq.{bytes_eq-Decides}
 use Rattle.filter_state.specs.States.{Row, State}
 use Rattle.filter_state.specs.Tables.{first_where}
 use Rattle.filter_state.specs.Order.{of_mask}
-use Rattle.hook_meaning.specs.OfEffects.Parts.{Filter, filter_of, filters_of}
-use Rattle.hook_meaning.specs.OfEffects.Effects.{KeepsFilters}
-use Rattle.hook_meaning.specs.OfMaskAnswers.Searched.{IsSearched}
+use Rattle.edit_effects.specs.OfEffects.Parts.{Filter, filter_of, filters_of}
+use Rattle.edit_effects.specs.OfEffects.Effects.{KeepsFilters}
+use Rattle.edit_effects.specs.OfMaskAnswers.Searched.{IsSearched}
 use Rattle.state_past_laws.specs.Slots.{is_slot, actions_or, slot_in, slot_among, is_taken, actions_in}
 
 -- row by row

@@ -5,7 +5,7 @@ use Rattle.std.specs.Str.{bytes_eq}
 use Rattle.filter_state.specs.States.{Row}
 use Rattle.filter_state.specs.Sound.{Each}
 use Rattle.filter_state.specs.Tables.{first_where}
-use Rattle.hook_meaning.specs.OfEffects.Parts.{Filter}
+use Rattle.edit_effects.specs.OfEffects.Parts.{Filter}
 
 -- the row of that mask and key; two rows of a sound state never have both
 abbrev pub is_slot : ℕ → List ℕ → Row → Bool

@@ -13,9 +13,9 @@ ghost use Rattle.filter_state.specs.States.{Row, State};
 ghost use Rattle.filter_state.specs.Sound.{Sound};
 ghost use Rattle.filter_state.specs.Tables.{in_table, has_handle, filter_row};
 ghost use Rattle.filter_state.specs.Steps.{step, row_of, mask_serial_for};
-ghost use Rattle.hook_meaning.specs.OfEffects.Parts.{filters_of};
-ghost use Rattle.hook_meaning.specs.OfEffects.Effects.{KeepsFilters};
-ghost use Rattle.hook_meaning.specs.OfMaskAnswers.Searched.{IsSearched};
+ghost use Rattle.edit_effects.specs.OfEffects.Parts.{filters_of};
+ghost use Rattle.edit_effects.specs.OfEffects.Effects.{KeepsFilters};
+ghost use Rattle.edit_effects.specs.OfMaskAnswers.Searched.{IsSearched};
 ghost use Rattle.state_past_laws.specs.Slots.{SlotChange, Overrides, AreTaken, slot_in, is_taken, actions_in};
 ghost use Rattle.state_past_laws.specs.Slots.{concerns, put_there, taken_there, moved_there};
 

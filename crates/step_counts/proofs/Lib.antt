@@ -1,6 +1,5 @@
 pub mod Views
 pub mod Drawing
-pub mod Adding
 pub mod Numbers
 pub mod EachOnce
 pub mod Sums

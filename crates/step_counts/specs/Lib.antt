@@ -1,4 +1,3 @@
 pub mod Seats
 pub mod Claims
-pub mod Counters
 pub mod Drawn

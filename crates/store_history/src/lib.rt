@@ -11,6 +11,9 @@
 //! that threads share, so a law over lists of commits can be stated and proved above this crate alone, and
 //! the store keeps any such law without looking into it.
 //!
+//! `places` says where the roots of a hook's store stand and how large its pools are. It stands here, below
+//! the law of a hook and all blocks, so that each limit is a number in that file alone.
+//!
 //! Nothing is called at run time, so any thread may do anything with it. Not promised: that anybody keeps
 //! such a list. The store above says that of itself.
 #![tactic(auto)]
@@ -18,6 +21,7 @@
 mod history;
 mod law;
 mod laws;
+pub mod places;
 
 pub use history::{Commit, Link, Named};
 pub use law::{EditName, Law};

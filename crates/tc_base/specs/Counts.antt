@@ -19,17 +19,17 @@ abbrev pub count_after_fetch : {T : Type 0} → ℕ → Result T Fetch → ℕ
 count_after_fetch before (Ok bytes) = before
 count_after_fetch before (Err fetches.Missing) = before
 count_after_fetch before (Err fetches.Failed) = one_more before
-count_after_fetch before (Err fetches.NoMemory) = before
+count_after_fetch before (Err (fetches.NoMemory memory)) = before
 
 -- the last failed name after a fetch of a name that was answered so
 abbrev pub name_after_fetch : {T N : Type 0} → Option N → N → Result T Fetch → Option N
 name_after_fetch before name (Ok bytes) = before
 name_after_fetch before name (Err fetches.Missing) = before
 name_after_fetch before name (Err fetches.Failed) = Some name
-name_after_fetch before name (Err fetches.NoMemory) = before
+name_after_fetch before name (Err (fetches.NoMemory memory)) = before
 
 -- a count of write faults after a put or a write that was answered so
 abbrev pub count_after_put : {T : Type 0} → ℕ → Result T Put → ℕ
 count_after_put before (Ok done) = before
 count_after_put before (Err puts.Failed) = one_more before
-count_after_put before (Err puts.NoMemory) = before
+count_after_put before (Err (puts.NoMemory memory)) = before

@@ -1,6 +1,6 @@
 -- What a shelf in memory shows, and when it answers what. This project's own.
 use Rattle.std.specs.Prelude.{◌≡◌, ℕ, List, Bool, false, IsTrue, Option, Some, None, Result, Ok, Err, String}
-use Rattle.std.specs.Prelude.{string_bytes}
+use Rattle.std.specs.Prelude.{string_bytes, map}
 use Rattle.std.specs.Option.{option_map}
 use Rattle.std.specs.BTreeMap.{get_by_text, BTreeMap}
 use Rattle.std.specs.Global.{Vec}
@@ -39,6 +39,18 @@ write_faults_of shelf = shelf.faults.write
 abbrev pub failed_name_of : MemShelf → Option (List ℕ)
 failed_name_of shelf = option_map string_bytes shelf.faults.failed
 
+-- the names in a list of texts
+abbrev pub names_in : Vec (String Global) → List (List ℕ)
+names_in texts = map string_bytes texts.items
+
+-- the names that were fetched so far, in order
+abbrev pub fetched_of : MemShelf → List (List ℕ)
+fetched_of shelf = names_in shelf.fetched
+
+-- the names that were put so far, in order
+abbrev pub put_names_of : MemShelf → List (List ℕ)
+put_names_of shelf = names_in shelf.put
+
 -- the number of the fetch or put that comes next
 abbrev pub next_call : MemShelf → ℕ
 next_call shelf = one_more (calls_of shelf)
@@ -53,7 +65,7 @@ abbrev pub FetchAnswers : Bool → Option (List ℕ) → Result (Vec ℕ) Fetch 
 FetchAnswers listed held (Ok bytes) = (listed ≡ false) × (held ≡ Some bytes.items)
 FetchAnswers listed held (Err fetches.Missing) = (listed ≡ false) × (held ≡ None)
 FetchAnswers listed held (Err fetches.Failed) = IsTrue listed
-FetchAnswers listed held (Err fetches.NoMemory) = Unit {0}
+FetchAnswers listed held (Err (fetches.NoMemory memory)) = Unit {0}
 
 -- all but what is held is as before
 pub record CountsStay (old new : MemShelf) : Type 0 where
@@ -62,3 +74,5 @@ pub record CountsStay (old new : MemShelf) : Type 0 where
   pub read_faults : read_faults_of new ≡ read_faults_of old
   pub write_faults : write_faults_of new ≡ write_faults_of old
   pub failed_name : failed_name_of new ≡ failed_name_of old
+  pub fetched : fetched_of new ≡ fetched_of old
+  pub put_names : put_names_of new ≡ put_names_of old

@@ -1,6 +1,6 @@
 -- What the calls of a shelf and of a sink do to what is held or written, and why they fail.
 -- This project's own. A shelf or a sink that tells nothing of content has None where it would tell.
-use Rattle.std.specs.Prelude.{◌≡◌, ◌≢◌, ℕ, ◌+◌, ◌-◌, ◌^◌, ◌≤◌, min, List, ◌++◌, take, Option, Some, None}
+use Rattle.std.specs.Prelude.{◌≡◌, ◌≢◌, ℕ, ◌+◌, ◌-◌, ◌^◌, ◌≤◌, min, List, [], ◌∷◌, ◌++◌, take, Option, Some, None}
 use Rattle.std.specs.Prelude.{IfSome, IsSomeAnd, Result, Ok, Err, IsErrOf}
 use Rattle.std.specs.Global.{Vec}
 use Rattle.tc_base.specs.declared.outside.Fetch.{Fetch}
@@ -22,7 +22,7 @@ abbrev pub Fetched : Option Held → List ℕ → Result (Vec ℕ) Fetch → Typ
 Fetched told name (Ok bytes) = IfSome told (λ held. held name ≡ Some bytes.items)
 Fetched told name (Err fetches.Missing) = IsSomeAnd told (λ held. held name ≡ None)
 Fetched told name (Err fetches.Failed) = Unit {0}
-Fetched told name (Err fetches.NoMemory) = Unit {0}
+Fetched told name (Err (fetches.NoMemory memory)) = Unit {0}
 
 -- what a fetch did to the count of read faults and to the last failed name: at Failed the count rose and
 -- the name is kept, else the last failed name stays, and at Missing the count does too
@@ -50,16 +50,32 @@ pub record PutCounts {T : Type 0} (before now : ℕ) (result : Result T Put) : T
   pub later : before ≤ now
   pub failed : IsErrOf result puts.Failed → Rose before now
 
--- the first n bytes of a piece were appended, for some n; more than its length counts as all
-abbrev pub AppendsUpTo : Option (List ℕ) → Option (List ℕ) → List ℕ → Type 0
+-- the first n of a piece were appended, as bytes or as names, for some n; more than its length counts as all
+abbrev pub AppendsUpTo : {A : Type 0} → Option (List A) → Option (List A) → List A → Type 0
 AppendsUpTo None None piece = Unit {0}
 AppendsUpTo (Some old) (Some new) piece = (n : ℕ) × (new ≡ old ++ take n piece)
 AppendsUpTo None (Some new) piece = ⊥
 AppendsUpTo (Some old) None piece = ⊥
 
 -- all of a piece was appended
-abbrev pub Appended : Option (List ℕ) → Option (List ℕ) → List ℕ → Type 0
+abbrev pub Appended : {A : Type 0} → Option (List A) → Option (List A) → List A → Type 0
 Appended None None piece = Unit {0}
 Appended (Some old) (Some new) piece = new ≡ old ++ piece
 Appended None (Some new) piece = ⊥
 Appended (Some old) None piece = ⊥
+
+-- names that were asked for so far, in order, where the shelf tells them
+abbrev pub Asked : Type 0
+Asked = Option (List (List ℕ))
+
+-- a fetch adds its name to those that were fetched, whatever the answer. Where that is want of memory the name
+-- may be missing, since a shelf copies it first.
+abbrev pub FetchAsks : Asked → Asked → List ℕ → Result (Vec ℕ) Fetch → Type 0
+FetchAsks old new name (Err (fetches.NoMemory memory)) = AppendsUpTo old new (name ∷ [])
+FetchAsks old new name result = Appended old new (name ∷ [])
+
+-- a call that was answered Ok asked for all of these names, in order, each once; one that was not, for the first
+-- n of them, for some n
+abbrev pub AsksFor : {T E : Type 0} → Asked → Asked → List (List ℕ) → Result T E → Type 0
+AsksFor old new names (Ok done) = Appended old new names
+AsksFor old new names (Err fault) = AppendsUpTo old new names

@@ -1,9 +1,12 @@
 //! Files that are written beside the name under which they come to stand.
+ghost use Rattle.std.specs.Prelude.{IfOk, IsOk, OnOk, string_bytes};
+ghost use Rattle.std.specs.Option.{option_map};
+ghost use Rattle.tc_base.specs.Disk.{Asked, Cuts, IsBeside, OpensOrNot, OpensBeside, Settles};
 
-use std::fs::{self, OpenFile, OpenOptions, Permissions};
+use crate::disk::{Disk, Standing};
+use std::alloc::Global;
 use std::io::{self, ErrorKind};
 use std::path::Path;
-use std::rt::Files;
 
 /// The names that are tried for a file beside another. Each run that was killed may have left one.
 const SIDE_NAMES: u32 = 1_000;
@@ -16,84 +19,85 @@ pub(crate) struct Draft<F: Drop> {
     pub beside: Option<String>,
 }
 
-// What stands under a name.
-#[derive(Drop)]
-enum Standing {
-    Nothing,
-    File { rights: Permissions },
-    Else,
+// The name with this number, in the folder of another.
+fn side_name(alloc: Global, name: &str, number: u32) -> io::Result<String>
+    ensures { IfOk result (λ side. IsBeside name.now (string_bytes side)) }
+{
+    let own = format!(in alloc; ".clsact-{number}.part")?;
+    let path = Path::new(name).with_file_name(alloc, own.as_str())?;
+    Ok(path.into_string())
 }
 
-fn what_stands<R: Files>(rt: &R, name: &str) -> io::Result<Standing> {
-    match fs::symlink_metadata(rt, name) {
-        Ok(told) if told.is_file() => Ok(Standing::File {
-            rights: told.permissions(),
-        }),
-        Ok(_) => Ok(Standing::Else),
-        Err(e) if e.kind() == ErrorKind::NotFound => Ok(Standing::Nothing),
-        Err(e) => Err(e),
-    }
-}
-
-// What stands under the name is cut to nothing, and written.
-fn in_place<R: Files>(rt: &R, name: &str) -> io::Result<Draft<R::File>> {
-    Ok(Draft {
-        file: fs::create(rt, name)?,
-        beside: None,
-    })
-}
-
-fn open_new<R: Files>(rt: &R, name: &str) -> io::Result<R::File> {
-    OpenOptions::new()
-        .write(true)
-        .create_new(true)
-        .open(rt, name)
-}
-
-// A new file in the folder of a name.
-fn beside<R: Files + AllocGlobal>(rt: &R, name: &str) -> io::Result<Draft<R::File>> {
+// A new file in the folder of a name, or none where none may be made there.
+fn beside<D: Disk>(disk: &mut D, alloc: Global, name: &str) -> io::Result<Option<Draft<D::File>>>
+    ensures { Asked (D.asked disk.old) (D.asked disk.new) (OpensBeside D.File.contents name.now result) }
+{
     for number in 0..SIDE_NAMES {
-        let own = format!(in rt.alloc(); ".clsact-{number}.part")?;
-        let path = Path::new(name).with_file_name(rt.alloc(), own.as_str())?;
-        match open_new(rt, path.as_path().as_str()) {
+        let side = side_name(alloc, name, number)?;
+        match disk.make(side.as_str()) {
             Ok(file) => {
-                return Ok(Draft {
+                return Ok(Some(Draft {
                     file,
-                    beside: Some(path.into_string()),
-                });
+                    beside: Some(side),
+                }));
             }
             Err(e) if e.kind() == ErrorKind::AlreadyExists => {}
+            Err(e)
+                if matches!(
+                    e.kind(),
+                    ErrorKind::PermissionDenied | ErrorKind::InvalidFilename
+                ) => {
+                return Ok(None);
+            }
             Err(e) => return Err(e),
         }
     }
     Err(io::Error::from(ErrorKind::AlreadyExists))
 }
 
+// What stands under the name is cut to nothing, and written.
+fn in_place<D: Disk>(disk: &mut D, name: &str) -> io::Result<Draft<D::File>>
+    ensures { Asked (D.asked disk.old) (D.asked disk.new) (Cuts D.File.contents name.now result) }
+{
+    Ok(Draft {
+        file: disk.cut(name)?,
+        beside: None,
+    })
+}
+
 // A new file beside a name, or where none may be made there, what stands under the name.
-fn beside_or_in_place<R: Files + AllocGlobal>(rt: &R, name: &str) -> io::Result<Draft<R::File>> {
-    match beside(rt, name) {
-        Err(e)
-            if matches!(
-                e.kind(),
-                ErrorKind::PermissionDenied | ErrorKind::InvalidFilename
-            ) => { in_place(rt, name) }
-        opened => opened,
+fn beside_or_in_place<D: Disk>(
+    disk: &mut D,
+    alloc: Global,
+    name: &str,
+) -> io::Result<Draft<D::File>>
+    ensures { Asked (D.asked disk.old) (D.asked disk.new) (OpensOrNot D.File.contents name.now result) }
+{
+    match beside(disk, alloc, name)? {
+        Some(draft) => Ok(draft),
+        None => in_place(disk, name),
     }
 }
 
 /// Opens a file for what is to stand under a name. What is a file there, and may be written, keeps its
 /// bytes until `settle`, and the new one has its rights. A link, a device, a pipe, and a file in a folder
 /// that may not be written, are written in place.
-pub(crate) fn open_draft<R: Files + AllocGlobal>(rt: &R, name: &str) -> io::Result<Draft<R::File>> {
-    match what_stands(rt, name)? {
-        Standing::Else => in_place(rt, name),
-        Standing::Nothing => beside_or_in_place(rt, name),
+pub(crate) fn open_draft<D: Disk>(
+    disk: &mut D,
+    alloc: Global,
+    name: &str,
+) -> io::Result<Draft<D::File>>
+    ensures { Asked (D.asked disk.old) (D.asked disk.new) (OpensOrNot D.File.contents name.now result) }
+{
+    match disk.look(name)? {
+        Standing::Else => in_place(disk, name),
+        Standing::Nothing => beside_or_in_place(disk, alloc, name),
         Standing::File { rights } => {
             // A rename asks for rights in the folder alone.
-            OpenOptions::new().write(true).open(rt, name)?;
-            let draft = beside_or_in_place(rt, name)?;
+            disk.try_write(name)?;
+            let draft = beside_or_in_place(disk, alloc, name)?;
             // Where the file system has no rights to set, the file is as good without.
-            let _ = draft.file.set_permissions(rights);
+            disk.give_rights(&draft.file, rights);
             Ok(draft)
         }
     }
@@ -101,21 +105,25 @@ pub(crate) fn open_draft<R: Files + AllocGlobal>(rt: &R, name: &str) -> io::Resu
 
 /// Ends a draft that is closed: where all of it was written it comes to stand under the name, and else what
 /// lies beside is taken away.
-pub(crate) fn settle<R: Files>(
-    rt: &R,
+pub(crate) fn settle<D: Disk>(
+    disk: &mut D,
     name: &str,
     beside: Option<String>,
     written: io::Result<()>,
-) -> io::Result<()> {
+) -> io::Result<()>
+    ensures written { OnOk result (IsOk written) }
+    ensures calls { Asked (D.asked disk.old) (D.asked disk.new)
+        (Settles name.now (option_map string_bytes beside) result) }
+{
     let Some(beside) = beside else {
         return written;
     };
     let settled = match written {
-        Ok(()) => fs::rename(rt, beside.as_str(), name),
+        Ok(()) => disk.rename(beside.as_str(), name),
         Err(e) => Err(e),
     };
     if settled.is_err() {
-        let _ = fs::remove_file(rt, beside.as_str());
+        disk.remove(beside.as_str());
     }
     settled
 }

@@ -23,6 +23,7 @@
 #![tactic(auto)]
 
 mod calls;
+mod disk;
 mod drafts;
 mod ear;
 mod faults;
@@ -32,6 +33,7 @@ mod hook;
 mod lists;
 mod mem_shelf;
 mod mem_sink;
+mod no_memory;
 mod outside;
 mod pieces;
 mod std_sink;
@@ -44,7 +46,8 @@ pub use hook::{Hook, Point, Proto};
 pub use lists::{Bytes, Files, Numbers, Pairs};
 pub use mem_shelf::MemShelf;
 pub use mem_sink::MemSink;
-pub use outside::{Fetch, NoMemory, Put, Shelf, Sink};
+pub use no_memory::{NoMemory, check_room};
+pub use outside::{Fetch, Put, Shelf, Sink};
 pub use pieces::Pieces;
 pub use std_sink::StdSink;
 pub use tender::{NoTender, Tender};

@@ -1,5 +1,5 @@
 //! Lists that contracts see as lists, so that a struct of them is plain data in a clause.
-//! Each is made from a `Vec` and gives it back, and neither takes memory.
+//! Each is made from a `Vec`, which takes no memory.
 ghost use Rattle.std.specs.Prelude.{◌≡◌, ℕ, List};
 
 use std::marker::Model;
@@ -22,14 +22,6 @@ impl Bytes {
         ensures { result ≡ items.items }
     {
         Bytes { items }
-    }
-
-    /// The items, in the `Vec` that they stand in.
-    pub fn into_vec(self) -> Vec<u8>
-        ensures { result.items ≡ self }
-    {
-        let Bytes { items } = self;
-        items
     }
 
     /// The items, in order.
@@ -60,14 +52,6 @@ impl Numbers {
         Numbers { items }
     }
 
-    /// The items, in the `Vec` that they stand in.
-    pub fn into_vec(self) -> Vec<u32>
-        ensures { result.items ≡ self }
-    {
-        let Numbers { items } = self;
-        items
-    }
-
     /// The items, in order.
     pub fn as_slice(&self) -> &[u32]
         ensures { result.now ≡ self.now }
@@ -96,14 +80,6 @@ impl Pairs {
         Pairs { items }
     }
 
-    /// The items, in the `Vec` that they stand in.
-    pub fn into_vec(self) -> Vec<(u32, u32)>
-        ensures { result.items ≡ self }
-    {
-        let Pairs { items } = self;
-        items
-    }
-
     /// The items, in order.
     pub fn as_slice(&self) -> &[(u32, u32)]
         ensures { result.now ≡ self.now }
@@ -130,14 +106,6 @@ impl Files {
         ensures { result ≡ items.items }
     {
         Files { items }
-    }
-
-    /// The items, in the `Vec` that they stand in.
-    pub fn into_vec(self) -> Vec<Bytes>
-        ensures { result.items ≡ self }
-    {
-        let Files { items } = self;
-        items
     }
 
     /// The items, in order.

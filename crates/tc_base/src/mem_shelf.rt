@@ -1,10 +1,12 @@
-ghost use Rattle.std.specs.Prelude.{◌≡◌, ◌≢◌, ◌↔◌, List, ℕ, Some, None, IsErrOf, IsTrue, OnOk, OnErr};
+ghost use Rattle.std.specs.Prelude.{◌≡◌, ◌≢◌, ◌≤◌, ◌↔◌, List, [], ◌∷◌, ◌++◌, ℕ, Some};
+ghost use Rattle.std.specs.Prelude.{None, IsErrOf, IsTrue, OnOk, OnErr};
 ghost use Rattle.std.specs.Option.{option_map};
 ghost use Rattle.tc_base.specs.Counts.{one_more, count_after_fetch, name_after_fetch, count_after_put};
 ghost use Rattle.tc_base.specs.Outside.{Fetched, FetchCounts, OthersStay, Stands, PutCounts};
+ghost use Rattle.tc_base.specs.Outside.{FetchAsks, AsksFor, AppendsUpTo};
 ghost use Rattle.tc_base.specs.MemShelf.{held_in, held_of, calls_of, fails_of, read_faults_of};
 ghost use Rattle.tc_base.specs.MemShelf.{write_faults_of, failed_name_of, fails_next, FetchAnswers};
-ghost use Rattle.tc_base.specs.MemShelf.{CountsStay};
+ghost use Rattle.tc_base.specs.MemShelf.{CountsStay, names_in, fetched_of, put_names_of};
 ghost use Rattle.tc_base.specs.Pieces.{joined};
 
 use crate::calls::Calls;
@@ -17,13 +19,16 @@ use std::collections::BTreeMap;
 ///
 /// `fetch`, `put` and `put_pieces` are numbered together from 1, each as soon as it is called, also where it
 /// then wants memory. `insert` and `get` have no number and never fail. A call whose number is
-/// listed is answered `Failed`, unless a fetch first wants memory for the copy of its name.
+/// listed is answered `Failed`, unless a fetch first wants memory for the copy of its name. It keeps the
+/// names that it was asked for, apart for fetches and for puts.
 #[derive(Drop)]
 pub struct MemShelf {
     alloc: Global,
     files: BTreeMap<String, Vec<u8>>,
     calls: Calls,
     faults: Faults,
+    fetched: Vec<String>,
+    put: Vec<String>,
 }
 
 impl MemShelf {
@@ -35,12 +40,16 @@ impl MemShelf {
         ensures read_faults { read_faults_of result ≡ 0 }
         ensures write_faults { write_faults_of result ≡ 0 }
         ensures failed_name { failed_name_of result ≡ None }
+        ensures fetched { fetched_of result ≡ [] }
+        ensures put_names { put_names_of result ≡ [] }
     {
         MemShelf {
             alloc,
             files: BTreeMap::new(alloc),
             calls: Calls::new(fails),
             faults: Faults::new(),
+            fetched: Vec::new(alloc),
+            put: Vec::new(alloc),
         }
     }
 
@@ -56,6 +65,23 @@ impl MemShelf {
         ensures counts { CountsStay self.old self.new }
     {
         Ok(store(self.alloc, &mut self.files, name, bytes)?)
+    }
+
+    // Counts a put that failed, and keeps its name where there is memory for it.
+    fn put_failed(&mut self, name: &str) -> Put
+        ensures answer { result ≡ Put.Failed }
+        ensures put_names { AppendsUpTo (Some (put_names_of self.old)) (Some (put_names_of self.new))
+            (name.now ∷ []) }
+        ensures write_faults { write_faults_of self.new ≡ one_more (write_faults_of self.old) }
+        ensures later { write_faults_of self.old ≤ write_faults_of self.new }
+        ensures read_faults { read_faults_of self.new ≡ read_faults_of self.old }
+        ensures failed_name { failed_name_of self.new ≡ failed_name_of self.old }
+        ensures files { self.new.files ≡ self.old.files }
+        ensures fetched { self.new.fetched ≡ self.old.fetched }
+        ensures calls { self.new.calls ≡ self.old.calls }
+    {
+        let _ = note(self.alloc, &mut self.put, name);
+        self.faults.put_failed()
     }
 
     /// The bytes under the name.
@@ -78,12 +104,18 @@ impl Shelf for MemShelf {
 
     ghost write_faults = { write_faults_of };
 
+    ghost fetched = { λ s. Some (fetched_of s) };
+
+    ghost put_names = { λ s. Some (put_names_of s) };
+
     fn fetch(&mut self, name: &str) -> Result<Vec<u8>, Fetch>
         ensures bytes { Fetched (Some (held_of self.old)) name.now result }
         ensures held { held_of self.new ≡ held_of self.old }
         ensures counts { FetchCounts (read_faults_of self.old) (read_faults_of self.new)
             (failed_name_of self.old) (failed_name_of self.new) name.now result }
         ensures write_faults { write_faults_of self.new ≡ write_faults_of self.old }
+        ensures fetched { FetchAsks (Some (fetched_of self.old)) (Some (fetched_of self.new)) name.now result }
+        ensures put_names { put_names_of self.new ≡ put_names_of self.old }
 
         // When each answer comes, and what it does to the counts.
         ensures answer { FetchAnswers (fails_next self.old) (held_of self.old name.now) result }
@@ -94,6 +126,7 @@ impl Shelf for MemShelf {
         ensures fails { fails_of self.new ≡ fails_of self.old }
     {
         let fails = self.calls.next_fails();
+        note(self.alloc, &mut self.fetched, name)?;
         let copy = String::from_str(self.alloc, name)?;
         if fails {
             return Err(self.faults.fetch_failed(copy));
@@ -110,6 +143,9 @@ impl Shelf for MemShelf {
         ensures counts { PutCounts (write_faults_of self.old) (write_faults_of self.new) result }
         ensures read_faults { read_faults_of self.new ≡ read_faults_of self.old }
         ensures failed_name { failed_name_of self.new ≡ failed_name_of self.old }
+        ensures fetched { fetched_of self.new ≡ fetched_of self.old }
+        ensures put_names { AsksFor (Some (put_names_of self.old)) (Some (put_names_of self.new))
+            (name.now ∷ []) result }
 
         // When it fails, and what an error leaves.
         ensures failed { IsErrOf result Put.Failed ↔ IsTrue (fails_next self.old) }
@@ -119,8 +155,9 @@ impl Shelf for MemShelf {
         ensures fails { fails_of self.new ≡ fails_of self.old }
     {
         if self.calls.next_fails() {
-            return Err(self.faults.put_failed());
+            return Err(self.put_failed(name));
         }
+        note(self.alloc, &mut self.put, name)?;
         Ok(store(self.alloc, &mut self.files, name, bytes)?)
     }
 
@@ -130,6 +167,9 @@ impl Shelf for MemShelf {
         ensures counts { PutCounts (write_faults_of self.old) (write_faults_of self.new) result }
         ensures read_faults { read_faults_of self.new ≡ read_faults_of self.old }
         ensures failed_name { failed_name_of self.new ≡ failed_name_of self.old }
+        ensures fetched { fetched_of self.new ≡ fetched_of self.old }
+        ensures put_names { AsksFor (Some (put_names_of self.old)) (Some (put_names_of self.new))
+            (name.now ∷ []) result }
 
         // It is numbered as a put, and fails as one.
         ensures failed { IsErrOf result Put.Failed ↔ IsTrue (fails_next self.old) }
@@ -139,8 +179,9 @@ impl Shelf for MemShelf {
         ensures fails { fails_of self.new ≡ fails_of self.old }
     {
         if self.calls.next_fails() {
-            return Err(self.faults.put_failed());
+            return Err(self.put_failed(name));
         }
+        note(self.alloc, &mut self.put, name)?;
         let bytes = pieces.joined()?;
         Ok(store(self.alloc, &mut self.files, name, &bytes)?)
     }
@@ -161,5 +202,15 @@ fn store(
     let key = String::from_str(alloc, name)?;
     let copy = bytes.to_vec(alloc)?;
     files.insert(key, copy)?;
+    Ok(())
+}
+
+// Notes a name behind the others.
+fn note(alloc: Global, names: &mut Vec<String>, name: &str) -> Result<(), AllocError>
+    ensures noted { OnOk result (names_in names.new ≡ names_in names.old ++ (name.now ∷ [])) }
+    ensures err { OnErr result (names_in names.new ≡ names_in names.old) }
+{
+    let copy = String::from_str(alloc, name)?;
+    names.push(copy)?;
     Ok(())
 }

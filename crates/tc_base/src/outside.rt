@@ -1,13 +1,10 @@
-ghost use Rattle.std.specs.Prelude.{◌≡◌, ℕ, List, Option, OnOk};
+ghost use Rattle.std.specs.Prelude.{◌≡◌, ℕ, List, [], ◌∷◌, Option, OnOk};
 ghost use Rattle.tc_base.specs.declared.outside.Fetch.TheVariants as fetches;
 ghost use Rattle.tc_base.specs.declared.outside.Put.TheVariants as puts;
+ghost use Rattle.tc_base.specs.Memory.{no_memory};
 
-use crate::Pieces;
+use crate::{NoMemory, Pieces};
 use std::alloc::{AllocError, AllocFailed};
-
-/// Memory was refused.
-#[derive(Clone, Copy, Debug, PartialEq, Eq)]
-pub struct NoMemory;
 
 /// Why a fetch gave no bytes.
 #[derive(Clone, Copy, Debug, PartialEq, Eq)]
@@ -16,7 +13,7 @@ pub enum Fetch {
     Missing,
     /// The shelf could not read, and counted that.
     Failed,
-    NoMemory,
+    NoMemory(NoMemory),
 }
 
 /// Why bytes were not put or written.
@@ -24,58 +21,46 @@ pub enum Fetch {
 pub enum Put {
     /// The shelf or the sink could not write, and counted that.
     Failed,
-    NoMemory,
-}
-
-impl From<AllocError> for NoMemory {
-    fn from(_: AllocError) -> Self {
-        NoMemory
-    }
-}
-
-impl<T: Drop> From<AllocFailed<T>> for NoMemory {
-    fn from(_: AllocFailed<T>) -> Self {
-        NoMemory
-    }
+    NoMemory(NoMemory),
 }
 
 impl From<NoMemory> for Put {
-    ghost from_gives = { λ _ e. e ≡ puts.NoMemory };
+    ghost from_gives = { λ memory e. e ≡ puts.NoMemory memory };
 
-    fn from(_: NoMemory) -> Self {
-        Put::NoMemory
+    fn from(memory: NoMemory) -> Self {
+        Put::NoMemory(memory)
     }
 }
 
 impl From<AllocError> for Fetch {
-    ghost from_gives = { λ _ e. e ≡ fetches.NoMemory };
+    ghost from_gives = { λ _ e. e ≡ fetches.NoMemory no_memory };
 
-    fn from(_: AllocError) -> Self {
-        Fetch::NoMemory
+    fn from(refused: AllocError) -> Self {
+        Fetch::NoMemory(NoMemory::from(refused))
     }
 }
 
 impl<T: Drop> From<AllocFailed<T>> for Fetch {
-    ghost from_gives = { λ _ e. e ≡ fetches.NoMemory };
+    ghost from_gives = { λ _ e. e ≡ fetches.NoMemory no_memory };
 
-    fn from(_: AllocFailed<T>) -> Self {
-        Fetch::NoMemory
+    fn from(refused: AllocFailed<T>) -> Self {
+        Fetch::NoMemory(NoMemory::from(refused))
     }
 }
 
 impl From<AllocError> for Put {
-    ghost from_gives = { λ _ e. e ≡ puts.NoMemory };
+    ghost from_gives = { λ _ e. e ≡ puts.NoMemory no_memory };
 
-    fn from(_: AllocError) -> Self {
-        Put::NoMemory
+    fn from(refused: AllocError) -> Self {
+        Put::NoMemory(NoMemory::from(refused))
     }
 }
 
 impl<T: Drop> From<AllocFailed<T>> for Put {
-    ghost from_gives = { λ _ e. e ≡ puts.NoMemory };
+    ghost from_gives = { λ _ e. e ≡ puts.NoMemory no_memory };
 
-    fn from(_: AllocFailed<T>) -> Self {
-        Put::NoMemory
+    fn from(refused: AllocFailed<T>) -> Self {
+        Put::NoMemory(NoMemory::from(refused))
     }
 }
 
@@ -85,6 +70,7 @@ impl<T: Drop> From<AllocFailed<T>> for Put {
 /// refused copy is `NoMemory`, and then nothing was read.
 pub trait Shelf {
     ghost use Rattle.tc_base.specs.Outside.{Held, Fetched, FetchCounts, OthersStay, Stands, PutCounts};
+    ghost use Rattle.tc_base.specs.Outside.{Asked, FetchAsks, AsksFor};
     ghost use Rattle.tc_base.specs.Pieces.{joined};
 
     // What is held under each name, where the shelf tells it.
@@ -99,6 +85,13 @@ pub trait Shelf {
     // How often a write failed. It never falls, and stands still at 2^64 - 1.
     ghost write_faults: { Self → ℕ };
 
+    // The names that were fetched so far, in order, where the shelf tells them.
+    ghost fetched: { Self → Asked };
+
+    // The names that were put so far, in order, where the shelf tells them. That of a put which was not answered
+    // Ok may be missing: it fails also where there is no memory for a copy of its name.
+    ghost put_names: { Self → Asked };
+
     /// The bytes under the name.
     ///
     /// `Missing` comes only from a shelf that tells what it holds, and that holds nothing there.
@@ -108,7 +101,9 @@ pub trait Shelf {
         ensures held { held self.new ≡ held self.old }
         ensures counts { FetchCounts (read_faults self.old) (read_faults self.new)
             (failed_name self.old) (failed_name self.new) name.now result }
-        ensures write_faults { write_faults self.new ≡ write_faults self.old };
+        ensures write_faults { write_faults self.new ≡ write_faults self.old }
+        ensures fetched { FetchAsks (fetched self.old) (fetched self.new) name.now result }
+        ensures put_names { put_names self.new ≡ put_names self.old };
 
     /// Holds these bytes under the name, in place of any others.
     ///
@@ -119,7 +114,9 @@ pub trait Shelf {
         ensures others { OthersStay (held self.old) (held self.new) name.now }
         ensures counts { PutCounts (write_faults self.old) (write_faults self.new) result }
         ensures read_faults { read_faults self.new ≡ read_faults self.old }
-        ensures failed_name { failed_name self.new ≡ failed_name self.old };
+        ensures failed_name { failed_name self.new ≡ failed_name self.old }
+        ensures fetched { fetched self.new ≡ fetched self.old }
+        ensures put_names { AsksFor (put_names self.old) (put_names self.new) (name.now ∷ []) result };
 
     /// Holds the bytes of these pieces, joined, under the name: a `put` of them, which a shelf may make
     /// without a copy. What isn't said otherwise joins them, and puts that.
@@ -129,6 +126,8 @@ pub trait Shelf {
         ensures counts { PutCounts (write_faults self.old) (write_faults self.new) result }
         ensures read_faults { read_faults self.new ≡ read_faults self.old }
         ensures failed_name { failed_name self.new ≡ failed_name self.old }
+        ensures fetched { fetched self.new ≡ fetched self.old }
+        ensures put_names { AsksFor (put_names self.old) (put_names self.new) (name.now ∷ []) result }
     {
         let bytes = pieces.joined()?;
         self.put(name, &bytes)

@@ -4,9 +4,12 @@ ghost use Rattle.std.specs.Prelude.{OnOk, OnErr};
 ghost use Rattle.tc_base.specs.declared.pieces.Stretch.{Stretch};
 ghost use Rattle.tc_base.specs.Pieces.{joined, piece_of, IsWithin, AreWithin, GoesOn};
 
-use crate::NoMemory;
+use crate::{NoMemory, check_room};
 use std::alloc::Global;
 use std::marker::Model;
+
+// How many bytes of their own pieces have at most: a stretch has 32 bits.
+const OWN_MAX: usize = 4_294_967_295;
 
 // A stretch of the lent bytes, or of the own ones.
 #[derive(Clone, Copy)]
@@ -83,18 +86,14 @@ impl<'a> Pieces<'a> {
         ensures err { OnErr result (self.new ≡ self.old) }
     {
         let start = self.own.len();
-        let Some(end) = start.checked_add(bytes.len()) else {
-            return Err(NoMemory);
-        };
-        let Ok(end) = u32::try_from(end) else {
-            return Err(NoMemory);
-        };
+        let end = start.saturating_add(bytes.len());
+        check_room(end, OWN_MAX)?;
         // Room for the stretch comes first: then nothing can fail once the bytes are there.
         self.stretches.reserve(1)?;
         self.own.extend_from_slice(bytes)?;
         let stretch = Stretch {
             start: start as u32,
-            end,
+            end: end as u32,
             is_own: true,
         };
         lay(&mut self.stretches, stretch);

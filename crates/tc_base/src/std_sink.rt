@@ -1,5 +1,8 @@
-ghost use Rattle.std.specs.Prelude.{◌≡◌, None, IfOk};
+ghost use Rattle.std.specs.Prelude.{◌≡◌, [], None, IsOk, IfOk, OnOk};
+ghost use Rattle.std.specs.Io.Buffered.{writer_buffer, writer_contents};
+ghost use Rattle.std.specs.Io.KnownBytes.{Appends, Keeps};
 ghost use Rattle.tc_base.specs.Outside.{PutCounts};
+ghost use Rattle.tc_base.specs.StdSink.{bytes_kept};
 
 use crate::faults::count_write_fault;
 use crate::{NoMemory, Put, Sink};
@@ -30,7 +33,7 @@ impl<'a, P: Print> StdSink<'a, P> {
     {
         match BufWriter::with_capacity(alloc, BUFFER, io::writer(rt)) {
             Ok(out) => Ok(StdSink { out, faults: 0 }),
-            Err(_) => Err(NoMemory),
+            Err(_) => Err(NoMemory::told()),
         }
     }
 
@@ -38,13 +41,11 @@ impl<'a, P: Print> StdSink<'a, P> {
     ///
     /// `Failed`: the output took less.
     pub fn flush(&mut self) -> Result<(), Put>
-        ensures { PutCounts (⟦<StdSink<'a, P> as Sink>⟧.faults self.old)
+        ensures handed_on { OnOk result (bytes_kept self.new ≡ []) }
+        ensures counts { PutCounts (⟦<StdSink<'a, P> as Sink>⟧.faults self.old)
             (⟦<StdSink<'a, P> as Sink>⟧.faults self.new) result }
     {
-        match self.out.flush() {
-            Ok(()) => Ok(()),
-            Err(_) => Err(count_write_fault(&mut self.faults)),
-        }
+        hand_on(&mut self.out, &mut self.faults)
     }
 }
 
@@ -54,9 +55,36 @@ impl<P: Print> Sink for StdSink<'_, P> {
     ghost faults = { λ s. s.faults };
 
     fn write_all(&mut self, bytes: &[u8]) -> Result<(), Put> {
-        match self.out.write_all(bytes) {
-            Ok(()) => Ok(()),
-            Err(_) => Err(count_write_fault(&mut self.faults)),
-        }
+        write_piece(&mut self.out, &mut self.faults, bytes)
+    }
+}
+
+// Writes all of a piece.
+fn write_piece<W: Write>(out: &mut W, faults: &mut u64, bytes: &[u8]) -> Result<(), Put>
+    ensures all { OnOk result (Appends (W.contents out.old) (W.contents out.new) bytes.now) }
+    ensures counts { PutCounts faults.old faults.new result }
+{
+    let written = out.write_all(bytes);
+    sink_answer(faults, written)
+}
+
+// Hands on what stands in a buffer.
+fn hand_on<W: Write + Drop>(out: &mut BufWriter<W>, faults: &mut u64) -> Result<(), Put>
+    ensures all { OnOk result (writer_buffer out.new ≡ []) }
+    ensures kept { Keeps (writer_contents W.contents out.old) (writer_contents W.contents out.new) }
+    ensures counts { PutCounts faults.old faults.new result }
+{
+    let flushed = out.flush();
+    sink_answer(faults, flushed)
+}
+
+// What a write or a flush that ended so is answered.
+fn sink_answer(faults: &mut u64, written: io::Result<()>) -> Result<(), Put>
+    ensures written { OnOk result (IsOk written) }
+    ensures counts { PutCounts faults.old faults.new result }
+{
+    match written {
+        Ok(()) => Ok(()),
+        Err(_) => Err(count_write_fault(faults)),
     }
 }

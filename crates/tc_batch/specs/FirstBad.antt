@@ -23,4 +23,4 @@ pub record IsFirstBad (words : List (List ℕ)) (at : ℕ) : Type 0 where
 -- the fault of a list of words
 abbrev pub HasFault : List (List ℕ) → LineFault → Type 0
 HasFault words (faults.Syntax at) = IsFirstBad words at
-HasFault words faults.NoMemory = Unit {0}
+HasFault words (faults.NoMemory memory) = Unit {0}

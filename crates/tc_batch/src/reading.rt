@@ -11,6 +11,7 @@ use crate::stage::Stage;
 use crate::steps::{end, step};
 use filter_state::Edit;
 use std::alloc::Global;
+use tc_base::check_room;
 use tc_words::{first_word, has_words};
 
 /// A line as far as it was read: what it says, and how far it has come.
@@ -49,9 +50,7 @@ pub fn line(alloc: Global, bytes: &[u8]) -> Result<Edit, LineFault>
     let mut count = 0;
     let mut rest = bytes;
     while let Some((word, more)) = first_word(rest) {
-        if count >= MOST_WORDS {
-            return Err(LineFault::NoMemory);
-        }
+        check_room(count as usize + 1, MOST_WORDS as usize)?;
         count += 1;
         if !step(alloc, &mut reading.draft, &mut reading.stage, word)? {
             return Err(LineFault::Syntax { word: count });

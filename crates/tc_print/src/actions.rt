@@ -106,8 +106,12 @@ fn push_marks(
     push_mark(out, mark)
 }
 
+/// Puts what an action does behind a line: its kind, its operation or its marks (tc-vlan(8), tc-skbedit(8)),
+/// and its control, each with a space before it unless the line is empty.
+///
+/// `AllocError`: memory was refused.
 #[tactic(auto, using(crate::proofs::Grown::onto_append))]
-fn push_params(out: &mut Vec<u8>, given: Params) -> Result<(), AllocError>
+pub fn push_params(out: &mut Vec<u8>, given: Params) -> Result<(), AllocError>
     ensures { OnOk result (out.new.items ≡ fold onto out.old.items (params_words given)) }
 {
     push_word(out, kind_name(given.kind()))?;

@@ -29,7 +29,10 @@ pub(crate) fn push_control(out: &mut Vec<u8>, control: Control) -> Result<(), Al
     }
 }
 
-pub(crate) fn push_index(out: &mut Vec<u8>, index: Option<u32>) -> Result<(), AllocError>
+/// Puts `index N` behind a line, where there is an index, with a space before it unless the line is empty.
+///
+/// `AllocError`: memory was refused.
+pub fn push_index(out: &mut Vec<u8>, index: Option<u32>) -> Result<(), AllocError>
     ensures { OnOk result (out.new.items ≡ fold onto out.old.items (index_words index)) }
 {
     match index {

@@ -136,6 +136,8 @@ fn push_edit(out: &mut Vec<u8>, edit: &Edit) -> Result<(), AllocError>
 /// - `filter del dev eth0 HOOK [protocol P] pref N chain N [handle 0xH flower]`;
 /// - `actions add action PARAMETERS CONTROL [index N]`, and alike with `change`;
 /// - `actions del action KIND index N`.
+///
+/// No command calls it: it carries the law that each edit of a line has a printed line, which gives it back.
 pub fn print_edit(alloc: Global, edit: &Edit) -> Result<Vec<u8>, NoMemory>
     requires { IsLine edit.now }
     ensures text { IfOk result (λ text. text.items ≡ printed edit.now) }

@@ -32,9 +32,10 @@ mod laws;
 mod options;
 mod texts;
 
-pub use actions::push_action;
+pub use actions::{push_action, push_params};
+pub use controls::push_index;
 pub use edit::{print_edit, push_qdisc, push_shared};
 pub use fields::push_fields;
 pub use laws::printed_lines_give_their_edits;
 pub use options::{push_hook, push_options};
-pub use texts::{push_named, push_word};
+pub use texts::{push_handle_word, push_named, push_protocol_word, push_word};

@@ -52,14 +52,21 @@ pub fn push_named(out: &mut Vec<u8>, name: &str, number: u64) -> Result<(), Allo
     push_decimal(out, number)
 }
 
-pub(crate) fn push_protocol_word(out: &mut Vec<u8>, protocol: Proto) -> Result<(), AllocError>
+/// Puts the protocol of a table behind a line, `all` or an EtherType, with a space before it unless
+/// the line is empty.
+///
+/// `AllocError`: memory was refused.
+pub fn push_protocol_word(out: &mut Vec<u8>, protocol: Proto) -> Result<(), AllocError>
     ensures { OnOk result (out.new.items ≡ onto out.old.items (protocol_text protocol)) }
 {
     push_space(out)?;
     push_protocol(out, protocol)
 }
 
-pub(crate) fn push_handle_word(out: &mut Vec<u8>, handle: u32) -> Result<(), AllocError>
+/// Puts a handle behind a line, as tc(8) shows it, with a space before it unless the line is empty.
+///
+/// `AllocError`: memory was refused.
+pub fn push_handle_word(out: &mut Vec<u8>, handle: u32) -> Result<(), AllocError>
     ensures { OnOk result (out.new.items ≡ onto out.old.items (handle_text handle)) }
 {
     push_space(out)?;

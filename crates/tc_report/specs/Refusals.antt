@@ -26,7 +26,7 @@ refusal_name refusals.MasksFull = codes "MasksFull"
 refusal_name refusals.FiltersFull = codes "FiltersFull"
 refusal_name refusals.ActionsFull = codes "ActionsFull"
 refusal_name refusals.CountersFull = codes "CountersFull"
-refusal_name refusals.NoMemory = codes "NoMemory"
+refusal_name (refusals.NoMemory memory) = codes "NoMemory"
 
 -- what it says besides
 abbrev pub refusal_fields : Refusal → List (List ℕ)

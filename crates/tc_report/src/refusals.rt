@@ -72,7 +72,7 @@ fn refusal_name(refusal: &Refusal) -> &'static str
         Refusal::FiltersFull => "FiltersFull",
         Refusal::ActionsFull => "ActionsFull",
         Refusal::CountersFull => "CountersFull",
-        Refusal::NoMemory => "NoMemory",
+        Refusal::NoMemory(_) => "NoMemory",
     }
 }
 

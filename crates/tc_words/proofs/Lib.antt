@@ -2,7 +2,6 @@ pub mod Digits
 pub mod HexDigits
 pub mod Parts
 pub mod LineCuts
-pub mod WordCuts
 pub mod Dotted
 pub mod GroupLists
 pub mod MacParts

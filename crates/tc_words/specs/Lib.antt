@@ -1,5 +1,4 @@
 pub mod Lines
-pub mod Places
 pub mod Texts
 pub mod Hexadecimal
 pub mod Numbers

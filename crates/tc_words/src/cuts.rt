@@ -1,8 +1,8 @@
 //! Where a byte string is to be cut.
-ghost use Rattle.std.specs.Prelude.{◌≡◌, ◌==◌, ◌+◌, List, ℕ, length, position, count_by, Option, take, drop};
+ghost use Rattle.std.specs.Prelude.{◌≡◌, ◌==◌, ◌+◌, List, ℕ, length, position, Option, take, drop};
 ghost use Rattle.std.specs.Option.{option_map};
 ghost use Rattle.std.specs.Borrow.{Bor};
-ghost use Rattle.tc_words.specs.Lines.{is_blank, uncommented, cut_once};
+ghost use Rattle.tc_words.specs.Lines.{is_blank, cut_once};
 
 use memchr::memchr;
 
@@ -48,28 +48,4 @@ pub(crate) fn is_blank(byte: u8) -> bool
     ensures { result ≡ is_blank byte }
 {
     byte == b' ' || byte == b'\t'
-}
-
-// The place of the first space or tab.
-pub(crate) fn blank_place(line: &[u8]) -> Option<usize>
-    ensures { result ≡ position is_blank line.now }
-{
-    line.iter().position(|b| is_blank(*b))
-}
-
-// How many spaces and tabs there are.
-pub(crate) fn blank_count(line: &[u8]) -> usize
-    ensures { result ≡ count_by is_blank line.now }
-{
-    line.iter().filter(|b| is_blank(**b)).count()
-}
-
-// A line up to its comment.
-pub(crate) fn without_comment(line: &[u8]) -> &[u8]
-    ensures { result.now ≡ uncommented line.now }
-{
-    match place_of(line, b'#') {
-        Some(end) => &line[..end],
-        None => line,
-    }
 }

@@ -99,8 +99,9 @@ fn without_blanks(text: &[u8]) -> &[u8]
 
 /// The first word of a piece of a line, and what stands behind it.
 ///
-/// `None` where there is no word: where nothing but blanks stands before the comment or the end. A word is
-/// what `split` takes for one.
+/// `None` where there is no word: where nothing but blanks stands before the comment or the end. A word has
+/// one byte or more, and may have a carriage return: `lines` drops the one at the end of a line. A `#` begins
+/// the comment inside a word too.
 pub fn first_word(rest: &[u8]) -> Option<(&[u8], &[u8])>
     ensures words { words_of rest.now
         ≡ option_map_or (λ (parts : Bor (List ℕ) × Bor (List ℕ)). parts.0.now

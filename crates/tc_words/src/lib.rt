@@ -5,10 +5,9 @@
 //! answers by what the whole line or word is (`specs/`), and not by how it is gone over.
 //!
 //! `lines` cuts a file at once; `line_from` gives a line at a time, for whoever keeps a place in a file.
-//! `split` gives the words of a line as places in it, so a line costs one allocation, and its words cost
-//! none. `first_word` gives them one by one, and takes no memory, as `line_from` and the readers of words do.
-//! The functions that take some are passed the allocator, and answer `NoMemory` where it has none left; there
-//! is no other fault here. A word that is not of the form asked for is `None`.
+//! `first_word` gives the words of a line one by one. `lines` alone takes memory: it is passed the allocator,
+//! and answers `NoMemory` where that has none left; there is no other fault here. A word that is not of the
+//! form asked for is `None`.
 //!
 //! Nothing is kept between calls, so any thread may call any function.
 //!
@@ -24,7 +23,6 @@ mod hexadecimal;
 mod ipv6_addresses;
 mod mac_addresses;
 mod numbers;
-mod places;
 mod texts;
 
 pub use addresses::read_ipv4;
@@ -35,5 +33,4 @@ pub use hexadecimal::{read_hex, read_hex_digits};
 pub use ipv6_addresses::{Ipv6Word, ipv6_mask, read_ipv6};
 pub use mac_addresses::read_mac;
 pub use numbers::{read_decimal, read_number};
-pub use places::{Word, Words, split, word_bytes};
-pub use texts::{are_texts, is_text};
+pub use texts::is_text;

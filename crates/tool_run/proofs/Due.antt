@@ -15,12 +15,12 @@ use Rattle.tool_words.specs.declared.status.InputKind.{InputKind}
 use Rattle.tool_words.specs.declared.status.InputKind.TheVariants as kinds
 use Rattle.tool_words.specs.declared.status.Status.{Status}
 use Rattle.tool_words.specs.declared.status.Status.TheVariants as statuses
-use Rattle.tool_words.specs.Command.{Request, Walk, Show, Run, Recheck, Gen}
+use Rattle.tool_words.specs.Command.{Request, Walk, Show, Run, Recheck, Gen, Trace}
 use Rattle.tool_words.specs.Ends.{status_after}
 use Rattle.job_files.specs.OfInputs.Holdings.{Holds, HasTooManyLines, HasCapture, HasBreak}
 use Rattle.job_files.proofs.OfInputs.Readings.{same_past, not_past, not_broken, same_break}
 use Rattle.tool_run.specs.Holdings.{HasCommands}
-use Rattle.tool_run.specs.Work.{BatchEnds, BatchBreaks, Ends, EndsOnly, IsRead}
+use Rattle.tool_run.specs.Work.{BatchEnds, BatchBreaks, Ends, EndsOnly, Breaks, IsRead}
 use Rattle.tool_run.specs.Causes.{DueTo, AllowedTo}
 use Rattle.tool_run.proofs.Readings.{same_run}
 use Rattle.tool_run.proofs.Rechecking.{RecheckDue, recheck_due, one_recheck, rechecked_stands}
@@ -71,7 +71,7 @@ show_due told b (statuses.ReadFault name) due = absurd due
 show_due told b (statuses.NotLawful line) due = inl due
 show_due told b statuses.Usage due = absurd due
 show_due told b statuses.WriteFault due = absurd due
-show_due told b statuses.NoMemory due = absurd due
+show_due told b (statuses.NoMemory memory) due = absurd due
 
 one_show : (held : Held) (b : List ℕ) (x y : Status) → ShowDue (Some held) b x → ShowDue (Some held) b y
     → x ≡ y
@@ -85,34 +85,53 @@ shown_stands : (held : Held) (b : List ℕ) (status : Status) → ShowDue (Some 
 shown_stands held b status (inl h) = (h.1.bytes, h.1.batch.held)
 shown_stands held b status (inr h) = (h.1.bytes, h.1.held)
 
--- ---- walk: all input is well formed, or the batch passes the limit, or the capture breaks its form
+-- ---- walk and trace: all input is well formed, or the batch passes the limit, or the capture breaks its form
 abbrev IsBreak : Option Held → List ℕ → List ℕ → Status → Type 0
 IsBreak told b c status =
     (place : ℕ) × (kind : InputKind) × HasCommands told b × HasBreak told PACKETS_MAX c place kind
     × (status ≡ statuses.BadInput c place kind)
 
+-- both files let it end so, or one of them breaks its form
+abbrev BothEnd : Option Held → List ℕ → List ℕ → Status → Type 0
+BothEnd told b c status =
+    BatchEnds told b status × ((capture : Capture) × HasCapture told PACKETS_MAX c capture)
+
+abbrev OneBreaks : Option Held → List ℕ → List ℕ → List ℕ → ℕ → InputKind → Type 0
+OneBreaks told b c name place kind =
+    BatchBreaks told b name place kind ⊎ ((name ≡ c) × HasCommands told b × HasBreak told PACKETS_MAX c place kind)
+
 abbrev WalkDue : Option Held → List ℕ → List ℕ → Status → Type 0
-WalkDue told b c status =
-    (BatchEnds told b status × ((capture : Capture) × HasCapture told PACKETS_MAX c capture)) ⊎ IsPast told b status
-    ⊎ IsBreak told b c status
+WalkDue told b c status = BothEnd told b c status ⊎ IsPast told b status ⊎ IsBreak told b c status
 
 break_due : (told : Option Held) (b c name : List ℕ) (place : ℕ) (kind : InputKind)
-    → BatchBreaks told b name place kind ⊎ ((name ≡ c) × HasCommands told b × HasBreak told PACKETS_MAX c place kind)
-    → WalkDue told b c (statuses.BadInput name place kind)
+    → OneBreaks told b c name place kind → WalkDue told b c (statuses.BadInput name place kind)
 break_due told b c name place kind (inl past) = inr (inl (past_due told b name place kind past))
 break_due told b c name place kind (inr broken) =
     inr (inr (place, kind, broken.1, broken.2, ap (λ (x : List ℕ). statuses.BadInput x place kind) broken.0))
 
-walk_due : (told : Option Held) (hook : Hook) (b c o : List ℕ) (status : Status)
+-- of a request that is allowed what both files allow
+walk_due : (told : Option Held) (r : Request) (b c : List ℕ)
+    → ((status : Status) → Ends told r status → BothEnd told b c status)
+    → ((name : List ℕ) (place : ℕ) (kind : InputKind) → Breaks told r name place kind
+    → OneBreaks told b c name place kind)
+    → (status : Status) → AllowedTo told r status → WalkDue told b c status
+walk_due told r b c ends breaks statuses.Done due = inl (ends statuses.Done due)
+walk_due told r b c ends breaks (statuses.LinesRefused n) due = inl (ends (statuses.LinesRefused n) due)
+walk_due told r b c ends breaks (statuses.BadInput name place kind) due =
+    break_due told b c name place kind (breaks name place kind due)
+walk_due told r b c ends breaks (statuses.ReadFault name) due = absurd due
+walk_due told r b c ends breaks (statuses.NotLawful line) due = inl (ends (statuses.NotLawful line) due)
+walk_due told r b c ends breaks statuses.Usage due = absurd due
+walk_due told r b c ends breaks statuses.WriteFault due = absurd due
+walk_due told r b c ends breaks (statuses.NoMemory memory) due = absurd due
+
+walked_due : (told : Option Held) (hook : Hook) (b c o : List ℕ) (status : Status)
     → AllowedTo told (Walk hook b c o) status → WalkDue told b c status
-walk_due told hook b c o statuses.Done due = inl due
-walk_due told hook b c o (statuses.LinesRefused n) due = inl due
-walk_due told hook b c o (statuses.BadInput name place kind) due = break_due told b c name place kind due
-walk_due told hook b c o (statuses.ReadFault name) due = absurd due
-walk_due told hook b c o (statuses.NotLawful line) due = inl due
-walk_due told hook b c o statuses.Usage due = absurd due
-walk_due told hook b c o statuses.WriteFault due = absurd due
-walk_due told hook b c o statuses.NoMemory due = absurd due
+walked_due told hook b c o = walk_due told (Walk hook b c o) b c (λ s e. e) (λ n p k e. e)
+
+traced_due : (told : Option Held) (hook : Hook) (b c : List ℕ) (status : Status)
+    → AllowedTo told (Trace hook b c) status → WalkDue told b c status
+traced_due told hook b c = walk_due told (Trace hook b c) b c (λ s e. e) (λ n p k e. e)
 
 one_walk : (held : Held) (b c : List ℕ) (x y : Status) → WalkDue (Some held) b c x → WalkDue (Some held) b c y
     → x ≡ y
@@ -140,6 +159,16 @@ capture_stands held b c status read (inl h) = (h.1.1.bytes, h.1.1.held)
 capture_stands held b c status read (inr (inl h)) = absurd (read_within held b status read h)
 capture_stands held b c status read (inr (inr h)) = (h.3.bytes, h.3.held)
 
+-- the batch, or the capture behind it
+input_stands : (held : Held) (b c name : List ℕ) (status : Status) → WalkDue (Some held) b c status
+    → (name ≡ b) ⊎ ((name ≡ c) × HasCommands (Some held) b) → (bytes : List ℕ) × Holds (Some held) name bytes
+input_stands held b c name status due (inl is) =
+    let there = walked_stands held b c status due in
+    (there.0, subst (λ (n : List ℕ). Holds (Some held) n there.0) (sym is) there.1)
+input_stands held b c name status due (inr is) =
+    let there = capture_stands held b c status is.1 due in
+    (there.0, subst (λ (n : List ℕ). Holds (Some held) n there.0) (sym is.0) there.1)
+
 -- ---- gen: what it makes lets it end
 gen_due : (told : Option Held) (count : ℕ) (front : List ℕ) (status : Status)
     → AllowedTo told (Gen count front) status → Ends told (Gen count front) status
@@ -150,7 +179,7 @@ gen_due told count front (statuses.ReadFault name) due = absurd due
 gen_due told count front (statuses.NotLawful line) due = due
 gen_due told count front statuses.Usage due = absurd due
 gen_due told count front statuses.WriteFault due = absurd due
-gen_due told count front statuses.NoMemory due = absurd due
+gen_due told count front (statuses.NoMemory memory) due = absurd due
 
 one_gen : (told : Option Held) (count : ℕ) (front : List ℕ) (x y : Status) → Ends told (Gen count front) x
     → Ends told (Gen count front) y → x ≡ y
@@ -169,7 +198,7 @@ due_allowed told r ends (statuses.ReadFault name) due = absurd due
 due_allowed told r ends (statuses.NotLawful line) due = ends (statuses.NotLawful line) due
 due_allowed told r ends statuses.Usage due = absurd due
 due_allowed told r ends statuses.WriteFault due = absurd due
-due_allowed told r ends statuses.NoMemory due = absurd due
+due_allowed told r ends (statuses.NoMemory memory) due = absurd due
 
 show_owed : (held : Held) (b : List ℕ) (status : Status) → DueTo (Some held) (Show b) status
     → ShowDue (Some held) b status
@@ -179,7 +208,12 @@ show_owed held b status due =
 walk_owed : (held : Held) (hook : Hook) (b c o : List ℕ) (status : Status)
     → DueTo (Some held) (Walk hook b c o) status → WalkDue (Some held) b c status
 walk_owed held hook b c o status due =
-    walk_due (Some held) hook b c o status (due_allowed (Some held) (Walk hook b c o) (λ s e. e) status due)
+    walked_due (Some held) hook b c o status (due_allowed (Some held) (Walk hook b c o) (λ s e. e) status due)
+
+trace_owed : (held : Held) (hook : Hook) (b c : List ℕ) (status : Status)
+    → DueTo (Some held) (Trace hook b c) status → WalkDue (Some held) b c status
+trace_owed held hook b c status due =
+    traced_due (Some held) hook b c status (due_allowed (Some held) (Trace hook b c) (λ s e. e) status due)
 
 recheck_owed : (held : Held) (j p : List ℕ) (status : Status) → DueTo (Some held) (Recheck j p) status
     → RecheckDue (Some held) j p status
@@ -196,7 +230,9 @@ pub is_due : (held : Held) (r : Request) (x y : Status) → AllowedTo (Some held
     → x ≡ y
 is_due held (Show b) x y h k = one_show held b x y (show_due (Some held) b x h) (show_owed held b y k)
 is_due held (Walk hook b c o) x y h k =
-    one_walk held b c x y (walk_due (Some held) hook b c o x h) (walk_owed held hook b c o y k)
+    one_walk held b c x y (walked_due (Some held) hook b c o x h) (walk_owed held hook b c o y k)
+is_due held (Trace hook b c) x y h k =
+    one_walk held b c x y (traced_due (Some held) hook b c x h) (trace_owed held hook b c y k)
 is_due held (Run j) x y h k = one_run held j x y h k
 is_due held (Recheck j p) x y h k =
     one_recheck held j p x y (recheck_due (Some held) j p x h) (recheck_owed held j p y k)
@@ -209,12 +245,10 @@ pub stands : (held : Held) (r : Request) (name : List ℕ) (status : Status) →
 stands held (Show b) name status is due =
     let there = shown_stands held b status (show_owed held b status due) in
     (there.0, subst (λ (n : List ℕ). Holds (Some held) n there.0) (sym is) there.1)
-stands held (Walk hook b c o) name status (inl is) due =
-    let there = walked_stands held b c status (walk_owed held hook b c o status due) in
-    (there.0, subst (λ (n : List ℕ). Holds (Some held) n there.0) (sym is) there.1)
-stands held (Walk hook b c o) name status (inr is) due =
-    let there = capture_stands held b c status is.1 (walk_owed held hook b c o status due) in
-    (there.0, subst (λ (n : List ℕ). Holds (Some held) n there.0) (sym is.0) there.1)
+stands held (Walk hook b c o) name status is due =
+    input_stands held b c name status (walk_owed held hook b c o status due) is
+stands held (Trace hook b c) name status is due =
+    input_stands held b c name status (trace_owed held hook b c status due) is
 stands held (Run j) name status is due = ran_stands held j name status due is
 stands held (Recheck j p) name status is due =
     rechecked_stands held j p name status (recheck_owed held j p status due) is

@@ -11,7 +11,7 @@ use Rattle.batch_run.proofs.Outcomes.{some_ran}
 use Rattle.gen_files.specs.Generated.{batch_text}
 use Rattle.tool_words.specs.declared.status.Status.{Status}
 use Rattle.tool_words.specs.declared.status.Status.TheVariants as statuses
-use Rattle.tool_words.specs.Command.{Request, Walk, Show, Run, Recheck, Gen}
+use Rattle.tool_words.specs.Command.{Request, Walk, Show, Run, Recheck, Gen, Trace}
 use Rattle.tool_words.specs.Ends.{status_after, IsAllDone}
 use Rattle.job_files.specs.OfInputs.Holdings.{Holds, HasBatch}
 use Rattle.job_files.specs.OfInputs.Failures.{ReadFails}
@@ -22,6 +22,7 @@ use Rattle.tool_run.specs.Ready.{ShowReady, WalkReady, IsReady}
 use Rattle.tool_run.proofs.Due.{is_due, stands}
 use Rattle.tool_run.proofs.Rechecking.{recheck_complete}
 use Rattle.tool_run.proofs.Running.{run_complete}
+use Rattle.tc_base.specs.Memory.{no_memory}
 
 -- ---- what is allowed is due, wherever the shelf tells what it holds
 nothing_told : (o : Option Held) → o ≡ None → IsSome o → ⊥
@@ -66,7 +67,7 @@ exact_to held read_faults failed_name write_faults faults old new a b r (statuse
 exact_to held read_faults failed_name write_faults faults old new a b r statuses.WriteFault cause some status
     due =
     inr cause.1
-exact_to held read_faults failed_name write_faults faults old new a b r statuses.NoMemory cause some status
+exact_to held read_faults failed_name write_faults faults old new a b r (statuses.NoMemory memory) cause some status
     due =
     inr tt
 exact_to held read_faults failed_name write_faults faults old new a b r statuses.Done cause some status due =
@@ -124,6 +125,12 @@ walk_owes told hook b c o ready =
     batch_owes told (Walk hook b c o) (is_some has.0.stop)
     ((has.0, has.1, refl), (ready.packets, ready.capture_stands))
 
+trace_owes : (told : Option Held) (hook : Hook) (b c : List ℕ) → WalkReady told b c → Owes told (Trace hook b c)
+trace_owes told hook b c ready =
+    let has = ran told b ready.bytes ready.batch_stands in
+    batch_owes told (Trace hook b c) (is_some has.0.stop)
+    ((has.0, has.1, refl), (ready.packets, ready.capture_stands))
+
 gen_owes : (told : Option Held) (count : ℕ) (front : List ℕ) → Owes told (Gen count front)
 gen_owes told count front =
     let has = some_ran no_state 0 (commands_of (batch_text count)) in
@@ -137,14 +144,14 @@ quiet : {S O : Type 0} (read_faults : S → ℕ) (write_faults : S → ℕ) (fau
     (sink_old sink_new : O) (result : Status)
     → FailedOutside read_faults write_faults faults old new sink_old sink_new result
     → (Rose (read_faults old) (read_faults new) → ⊥) → (Rose (write_faults old) (write_faults new) → ⊥)
-    → (Rose (faults sink_old) (faults sink_new) → ⊥) → result ≡ statuses.NoMemory
+    → (Rose (faults sink_old) (faults sink_new) → ⊥) → result ≡ statuses.NoMemory no_memory
 quiet read_faults write_faults faults old new a b (statuses.ReadFault name) failed reads writes sinks =
     absurd (reads failed)
 quiet read_faults write_faults faults old new a b statuses.WriteFault (inl failed) reads writes sinks =
     absurd (writes failed)
 quiet read_faults write_faults faults old new a b statuses.WriteFault (inr failed) reads writes sinks =
     absurd (sinks failed)
-quiet read_faults write_faults faults old new a b statuses.NoMemory failed reads writes sinks = refl
+quiet read_faults write_faults faults old new a b (statuses.NoMemory memory) failed reads writes sinks = refl
 quiet read_faults write_faults faults old new a b statuses.Done failed reads writes sinks = absurd failed
 quiet read_faults write_faults faults old new a b statuses.Usage failed reads writes sinks = absurd failed
 quiet read_faults write_faults faults old new a b (statuses.BadInput n p k) failed reads writes sinks =
@@ -162,14 +169,14 @@ owed_to : {S O : Type 0} (held : S → Option Held) (read_faults : S → ℕ) (f
     → IsSome (held old) → Owes (held old) r
     → (Rose (read_faults old) (read_faults new) → ⊥) → (Rose (write_faults old) (write_faults new) → ⊥)
     → (Rose (faults sink_old) (faults sink_new) → ⊥)
-    → IsAllDone result ⊎ (result ≡ statuses.NoMemory)
+    → IsAllDone result ⊎ (result ≡ statuses.NoMemory no_memory)
 owed_to held read_faults failed_name write_faults faults old new a b r result cause some due reads writes
     sinks =
     by_answer (exact_to held read_faults failed_name write_faults faults old new a b r result cause some due.0
     due.1)
   where
     by_answer : (result ≡ due.0) ⊎ FailedOutside read_faults write_faults faults old new a b result
-        → IsAllDone result ⊎ (result ≡ statuses.NoMemory)
+        → IsAllDone result ⊎ (result ≡ statuses.NoMemory no_memory)
     by_answer (inl e) = inl (subst IsAllDone (sym e) due.2)
     by_answer (inr failed) =
         inr (quiet read_faults write_faults faults old new a b result failed reads writes sinks)
@@ -182,7 +189,7 @@ complete_to : {S O : Type 0} (held : S → Option Held) (read_faults : S → ℕ
     → IsReady (held old) r
     → (Rose (read_faults old) (read_faults new) → ⊥) → (Rose (write_faults old) (write_faults new) → ⊥)
     → (Rose (faults sink_old) (faults sink_new) → ⊥)
-    → IsAllDone result ⊎ (result ≡ statuses.NoMemory)
+    → IsAllDone result ⊎ (result ≡ statuses.NoMemory no_memory)
 complete_to held read_faults failed_name write_faults faults old new a b (Show name) result cause ready =
     owed_to held read_faults failed_name write_faults faults old new a b (Show name) result cause
     (tells (held old) ready.held ready.tells) (show_owes (held old) name ready)
@@ -190,6 +197,10 @@ complete_to held read_faults failed_name write_faults faults old new a b (Walk h
     ready =
     owed_to held read_faults failed_name write_faults faults old new a b (Walk hook batch c o) result cause
     (tells (held old) ready.held ready.tells) (walk_owes (held old) hook batch c o ready)
+complete_to held read_faults failed_name write_faults faults old new a b (Trace hook batch c) result cause
+    ready =
+    owed_to held read_faults failed_name write_faults faults old new a b (Trace hook batch c) result cause
+    (tells (held old) ready.held ready.tells) (trace_owes (held old) hook batch c ready)
 complete_to held read_faults failed_name write_faults faults old new a b (Run job) result cause ready =
     run_complete held read_faults failed_name write_faults faults old new a b job result cause ready
 complete_to held read_faults failed_name write_faults faults old new a b (Recheck job report) result cause
@@ -210,7 +221,7 @@ pub complete : {S O : Type 0} (held : S → Option Held) (read_faults : S → �
     → IfSome asked (λ q. IsReady (held old) q
     → (Rose (read_faults old) (read_faults new) → ⊥) → (Rose (write_faults old) (write_faults new) → ⊥)
     → (Rose (faults sink_old) (faults sink_new) → ⊥)
-    → IsAllDone result ⊎ (result ≡ statuses.NoMemory))
+    → IsAllDone result ⊎ (result ≡ statuses.NoMemory no_memory))
 complete held read_faults failed_name write_faults faults old new a b None r result is cause = tt
 complete held read_faults failed_name write_faults faults old new a b (Some asked) r result is cause =
     λ ready. complete_to held read_faults failed_name write_faults faults old new a b r result cause

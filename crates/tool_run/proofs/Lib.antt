@@ -1,3 +1,4 @@
+pub mod Asking
 pub mod Due
 pub mod Exact
 pub mod Generating
@@ -11,6 +12,7 @@ pub mod PacketLines
 pub mod Readings
 pub mod Rechecking
 pub mod Running
+pub mod Tracing
 pub mod Walking
 pub mod Writing
 pub mod MadeRuns

@@ -20,6 +20,7 @@ use Rattle.tool_run.specs.Rechecks.{Judges, status_of_check, RecheckReads}
 use Rattle.tool_run.specs.Causes.{AllowedTo, CausedTo}
 use Rattle.tool_run.specs.Ready.{RecheckReady}
 use Rattle.tool_run.proofs.JobFaults.{IsJobBreak, one_job, no_break, one_break}
+use Rattle.tc_base.specs.Memory.{no_memory}
 
 -- what is due: what the report is judged to be, or the first fault of the job's files
 abbrev IsJudged : Option Held → List ℕ → List ℕ → Status → Type 0
@@ -37,7 +38,7 @@ recheck_due told job report (statuses.ReadFault name) due = absurd due
 recheck_due told job report (statuses.NotLawful line) due = inl due
 recheck_due told job report statuses.Usage due = absurd due
 recheck_due told job report statuses.WriteFault due = absurd due
-recheck_due told job report statuses.NoMemory due = absurd due
+recheck_due told job report (statuses.NoMemory memory) due = absurd due
 
 module _ (held : Held) (job report : List ℕ) where
   abbrev told : Option Held
@@ -100,7 +101,7 @@ pub recheck_complete : {S O : Type 0} (held : S → Option Held) (read_faults : 
     → RecheckReady (held old) job report
     → (Rose (read_faults old) (read_faults new) → ⊥) → (Rose (write_faults old) (write_faults new) → ⊥)
     → (Rose (faults sink_old) (faults sink_new) → ⊥)
-    → IsAllDone result ⊎ (result ≡ statuses.NoMemory)
+    → IsAllDone result ⊎ (result ≡ statuses.NoMemory no_memory)
 recheck_complete held read_faults failed_name write_faults faults old new a b job report (statuses.ReadFault name) (reads, inl missing) ready quiet_reads writes sinks =
     absurd (stands_ready (held old) job report name ready reads missing)
 recheck_complete held read_faults failed_name write_faults faults old new a b job report (statuses.ReadFault name) (reads, inr rose) ready quiet_reads writes sinks =
@@ -109,7 +110,7 @@ recheck_complete held read_faults failed_name write_faults faults old new a b jo
     absurd (no_break_ready (held old) job report name place kind ready breaks)
 recheck_complete held read_faults failed_name write_faults faults old new a b job report statuses.WriteFault (ends, inl failed) ready quiet_reads writes sinks = absurd (writes failed)
 recheck_complete held read_faults failed_name write_faults faults old new a b job report statuses.WriteFault (ends, inr failed) ready quiet_reads writes sinks = absurd (sinks failed)
-recheck_complete held read_faults failed_name write_faults faults old new a b job report statuses.NoMemory cause ready quiet_reads writes sinks = inr refl
+recheck_complete held read_faults failed_name write_faults faults old new a b job report (statuses.NoMemory memory) cause ready quiet_reads writes sinks = inr refl
 recheck_complete held read_faults failed_name write_faults faults old new a b job report statuses.Done cause ready quiet_reads writes sinks = inl tt
 recheck_complete held read_faults failed_name write_faults faults old new a b job report (statuses.LinesRefused n) cause ready quiet_reads writes sinks = inl tt
 recheck_complete held read_faults failed_name write_faults faults old new a b job report (statuses.NotLawful n) cause ready quiet_reads writes sinks = inl tt

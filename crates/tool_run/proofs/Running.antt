@@ -16,6 +16,7 @@ use Rattle.tool_run.specs.Runs.{JobEnds, JobEndsOnly}
 use Rattle.tool_run.specs.Causes.{DueTo, AllowedTo, CausedTo}
 use Rattle.tool_run.specs.Ready.{RunReady}
 use Rattle.tool_run.proofs.JobFaults.{IsJobBreak, one_job, no_break, one_break}
+use Rattle.tc_base.specs.Memory.{no_memory}
 
 -- ---- what may come: some lawful run's end, or the first fault of the job's files
 abbrev IsRunAnswer : Option Held → List ℕ → Status → Type 0
@@ -30,7 +31,7 @@ run_answer told job (statuses.ReadFault name) allowed = absurd allowed
 run_answer told job (statuses.NotLawful line) allowed = inl allowed
 run_answer told job statuses.Usage allowed = absurd allowed
 run_answer told job statuses.WriteFault allowed = absurd allowed
-run_answer told job statuses.NoMemory allowed = absurd allowed
+run_answer told job (statuses.NoMemory memory) allowed = absurd allowed
 
 -- ---- what is due: the end of every lawful run, or that fault
 abbrev IsRunDue : Option Held → List ℕ → Status → Type 0
@@ -45,7 +46,7 @@ run_due told job (statuses.ReadFault name) due = absurd due
 run_due told job (statuses.NotLawful line) due = inl due
 run_due told job statuses.Usage due = absurd due
 run_due told job statuses.WriteFault due = absurd due
-run_due told job statuses.NoMemory due = absurd due
+run_due told job (statuses.NoMemory memory) due = absurd due
 
 module _ (held : Held) (job : List ℕ) where
   abbrev told : Option Held
@@ -101,7 +102,7 @@ pub run_complete : {S O : Type 0} (held : S → Option Held) (read_faults : S �
     → RunReady (held old) job
     → (Rose (read_faults old) (read_faults new) → ⊥) → (Rose (write_faults old) (write_faults new) → ⊥)
     → (Rose (faults sink_old) (faults sink_new) → ⊥)
-    → IsAllDone result ⊎ (result ≡ statuses.NoMemory)
+    → IsAllDone result ⊎ (result ≡ statuses.NoMemory no_memory)
 run_complete held read_faults failed_name write_faults faults old new a b job (statuses.ReadFault name) (reads, inl missing) ready quiet_reads writes sinks =
     absurd (stands_ready (held old) job name ready reads missing)
 run_complete held read_faults failed_name write_faults faults old new a b job (statuses.ReadFault name) (reads, inr rose) ready quiet_reads writes sinks =
@@ -110,7 +111,7 @@ run_complete held read_faults failed_name write_faults faults old new a b job (s
     absurd (no_break_ready (held old) job name place kind ready breaks)
 run_complete held read_faults failed_name write_faults faults old new a b job statuses.WriteFault (ends, inl failed) ready quiet_reads writes sinks = absurd (writes failed)
 run_complete held read_faults failed_name write_faults faults old new a b job statuses.WriteFault (ends, inr failed) ready quiet_reads writes sinks = absurd (sinks failed)
-run_complete held read_faults failed_name write_faults faults old new a b job statuses.NoMemory cause ready quiet_reads writes sinks = inr refl
+run_complete held read_faults failed_name write_faults faults old new a b job (statuses.NoMemory memory) cause ready quiet_reads writes sinks = inr refl
 run_complete held read_faults failed_name write_faults faults old new a b job statuses.Done cause ready quiet_reads writes sinks = inl tt
 run_complete held read_faults failed_name write_faults faults old new a b job (statuses.LinesRefused n) cause ready quiet_reads writes sinks = inl tt
 run_complete held read_faults failed_name write_faults faults old new a b job (statuses.NotLawful n) cause ready quiet_reads writes sinks = inl tt

@@ -28,7 +28,7 @@ pub put_caused : {S O : Type 0} (held : S → Option Held) (read_faults : S → 
     → CausedTo held read_faults failed_name write_faults faults old new sink_old sink_new r (status_of put)
 put_caused held read_faults failed_name write_faults faults old new a b r puts.Failed ends fails =
     (ends, fails refl)
-put_caused held read_faults failed_name write_faults faults old new a b r puts.NoMemory ends fails = tt
+put_caused held read_faults failed_name write_faults faults old new a b r (puts.NoMemory memory) ends fails = tt
 
 -- a batch that stands and has a run lets a `show` end
 pub show_ends : (told : Option Held) (name bytes : List ℕ) (ran : Ran) → Holds told name bytes
@@ -60,7 +60,7 @@ pub delivery_caused : {S O : Type 0} (held : S → Option Held) (read_faults : S
 delivery_caused held read_faults failed_name write_faults faults old between new a b r statuses.WriteFault
     ends same fails =
     (ends, rw same at fails)
-delivery_caused held read_faults failed_name write_faults faults old between new a b r statuses.NoMemory ends
+delivery_caused held read_faults failed_name write_faults faults old between new a b r (statuses.NoMemory memory) ends
     same fails =
     tt
 delivery_caused held read_faults failed_name write_faults faults old between new a b r statuses.Done ends same

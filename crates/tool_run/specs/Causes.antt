@@ -47,7 +47,7 @@ CausedTo held read_faults failed_name write_faults faults old new sink_old sink_
     ((status : Status) × Ends (held old) request status)
     × WriteFails write_faults faults old new sink_old sink_new
 CausedTo held read_faults failed_name write_faults faults old new sink_old sink_new request
-    statuses.NoMemory =
+    (statuses.NoMemory memory) =
     Unit {0}
 CausedTo held read_faults failed_name write_faults faults old new sink_old sink_new request status =
     AllowedTo (held old) request status
@@ -65,5 +65,5 @@ FailedOutside read_faults write_faults faults old new sink_old sink_new (statuse
     Rose (read_faults old) (read_faults new)
 FailedOutside read_faults write_faults faults old new sink_old sink_new statuses.WriteFault =
     WriteFails write_faults faults old new sink_old sink_new
-FailedOutside read_faults write_faults faults old new sink_old sink_new statuses.NoMemory = Unit {0}
+FailedOutside read_faults write_faults faults old new sink_old sink_new (statuses.NoMemory memory) = Unit {0}
 FailedOutside read_faults write_faults faults old new sink_old sink_new status = ⊥

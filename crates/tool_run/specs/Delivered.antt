@@ -7,11 +7,11 @@ use Rattle.tc_report.specs.OfShownBatches.Shown.{shown}
 use Rattle.tool_run.specs.OfGenerated.Generated.{IsRunOf, made_files, made_text}
 use Rattle.tool_words.specs.declared.status.Status.{Status}
 use Rattle.tool_words.specs.declared.status.Status.TheVariants as statuses
-use Rattle.tool_words.specs.Command.{Request, Walk, Show, Run, Recheck, Gen}
+use Rattle.tool_words.specs.Command.{Request, Walk, Show, Run, Recheck, Gen, Trace}
 use Rattle.report_check.specs.declared.check.Check.{Check}
 use Rattle.tool_words.specs.Requests.{Names}
 use Rattle.tool_words.specs.Ends.{status_after}
-use Rattle.tool_run.specs.Holdings.{HasRun, Gives}
+use Rattle.tool_run.specs.Holdings.{HasRun, Gives, GivesTrace}
 use Rattle.tool_run.specs.Made.{AllStand, AllElseStay, PutUpTo}
 use Rattle.tool_run.specs.Rechecks.{Judges, status_of_check, check_text}
 use Rattle.tool_run.specs.Runs.{RanJob, RanSoFar}
@@ -32,6 +32,14 @@ pub record Walked (held_old held_new : Option Held) (written_old written_new : O
   pub text : List ℕ
   pub gives : Gives held_old hook names output text status
   pub put : Stands held_new names.output output
+  pub wrote : Appended written_old written_new text
+
+-- the trace that what is held gives was written, and nothing put
+pub record Traced (held_old held_new : Option Held) (written_old written_new : Option (List ℕ)) (hook : Hook)
+    (batch capture : List ℕ) (status : Status) : Type 0 where
+  pub text : List ℕ
+  pub gives : GivesTrace held_old hook batch capture text status
+  pub same : held_new ≡ held_old
   pub wrote : Appended written_old written_new text
 
 -- the answer of what is held was written, and nothing put
@@ -61,6 +69,8 @@ DeliveredTo held_old held_new written_old written_new (Show b) status =
 DeliveredTo held_old held_new written_old written_new (Walk hook b c o) status =
     Walked held_old held_new written_old written_new hook (record { batch = b; capture = c; output = o })
     status
+DeliveredTo held_old held_new written_old written_new (Trace hook b c) status =
+    Traced held_old held_new written_old written_new hook b c status
 DeliveredTo held_old held_new written_old written_new (Gen count front) status =
     Made held_old held_new written_old written_new count front status
 DeliveredTo held_old held_new written_old written_new (Run job) status =
@@ -85,7 +95,7 @@ LeavesAllUnlessRun held_old held_new written_old written_new statuses.Done = Uni
 LeavesAllUnlessRun held_old held_new written_old written_new (statuses.LinesRefused count) = Unit {0}
 LeavesAllUnlessRun held_old held_new written_old written_new (statuses.NotLawful line) = Unit {0}
 LeavesAllUnlessRun held_old held_new written_old written_new statuses.WriteFault = Unit {0}
-LeavesAllUnlessRun held_old held_new written_old written_new statuses.NoMemory = Unit {0}
+LeavesAllUnlessRun held_old held_new written_old written_new (statuses.NoMemory memory) = Unit {0}
 LeavesAllUnlessRun held_old held_new written_old written_new status =
     LeavesAll held_old held_new written_old written_new
 
@@ -95,6 +105,14 @@ pub record ShowedFront (held_old : Option Held) (written_old written_new : Optio
   pub ran : Ran
   pub runs : HasRun held_old name ran
   pub wrote : AppendsUpTo written_old written_new (shown ran)
+
+-- a front of the trace was written
+pub record TracedFront (held_old : Option Held) (written_old written_new : Option (List ℕ)) (hook : Hook)
+    (batch capture : List ℕ) : Type 0 where
+  pub text : List ℕ
+  pub status : Status
+  pub gives : GivesTrace held_old hook batch capture text status
+  pub wrote : AppendsUpTo written_old written_new text
 
 -- a front of the answer was written
 pub record RecheckedFront (held_old : Option Held) (written_old written_new : Option (List ℕ))
@@ -136,6 +154,9 @@ CameSoFar held_old held_new written_old written_new (Show b) =
     (held_new ≡ held_old) × ((written_new ≡ written_old) ⊎ ShowedFront held_old written_old written_new b)
 CameSoFar held_old held_new written_old written_new (Walk hook b c o) =
     WalkedSoFar held_old held_new written_old written_new hook (record { batch = b; capture = c; output = o })
+CameSoFar held_old held_new written_old written_new (Trace hook b c) =
+    (held_new ≡ held_old)
+    × ((written_new ≡ written_old) ⊎ TracedFront held_old written_old written_new hook b c)
 CameSoFar held_old held_new written_old written_new (Run job) =
     RanSoFar held_old held_new written_old written_new job
 CameSoFar held_old held_new written_old written_new (Recheck job report) =

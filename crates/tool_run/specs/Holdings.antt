@@ -9,6 +9,7 @@ use Rattle.filter_state.specs.States.{no_state}
 use Rattle.batch_run.specs.Commands.{commands_of}
 use Rattle.batch_run.specs.Runs.{Ran, IsRun}
 use Rattle.batch_walk.specs.Walked.{walk_text}
+use Rattle.batch_trace.specs.Traced.{IsTraceOf}
 use Rattle.tool_words.specs.declared.status.Status.{Status}
 use Rattle.tool_words.specs.Requests.{Names}
 use Rattle.walk_ends.specs.declared.limits.TheConstants.{PACKETS_MAX}
@@ -35,4 +36,16 @@ pub record Gives (told : Option Held) (hook : Hook) (names : Names) (output text
   pub packets : HasCapture told PACKETS_MAX names.capture capture
   pub output_is : output ≡ capture_bytes (output_of ran.state hook capture)
   pub text_is : text ≡ walk_text ran hook capture.packets
+  pub status_is : status ≡ status_after (is_some ran.stop)
+
+-- what is held gives a trace at the hook this text and this end
+pub record GivesTrace (told : Option Held) (hook : Hook) (batch capture text : List ℕ) (status : Status)
+    : Type 0 where
+  pub bytes : List ℕ
+  pub batch_held : HasBatch told COMMANDS_MAX batch bytes
+  pub packets : Capture
+  pub capture_held : HasCapture told PACKETS_MAX capture packets
+  pub ran : Ran
+  pub runs : IsRun no_state 0 (commands_of bytes) ran
+  pub trace : IsTraceOf (commands_of bytes) ran hook packets.packets text
   pub status_is : status ≡ status_after (is_some ran.stop)

@@ -1,16 +1,18 @@
 -- WHAT A RUN PROMISES: a word for each clause of the calls that do what the words of a command line say (this
 -- project's own). `held` is what the shelf tells that it holds, `written` what the sink tells that was
 -- written to it, each before and after the run; `read_faults`, `write_faults` and `faults` are how often
--- reads, puts and writes failed.
+-- reads, puts and writes failed, and `fetched` and `put_names` are the names that were fetched and put.
 use Rattle.std.specs.Prelude.{◌≡◌, ◌⊎◌, ◌↔◌, ℕ, List, Option, None, IsSome, IfSome}
-use Rattle.tc_base.specs.Outside.{Held, Rose}
+use Rattle.tc_base.specs.Outside.{Held, Asked, Rose}
 use Rattle.tool_words.specs.declared.status.Status.{Status}
 use Rattle.tool_words.specs.declared.status.Status.TheVariants as statuses
 use Rattle.tool_words.specs.Command.{request_of}
 use Rattle.tool_words.specs.Ends.{IsAllDone}
 use Rattle.tool_run.specs.Causes.{CausedIn, IsDue, FailedOutside}
 use Rattle.tool_run.specs.Ready.{IsReady}
+use Rattle.tool_run.specs.Asks.{FetchesIn, PutsIn}
 use Rattle.tool_run.specs.Delivered.{DeliveredIn, LeavesAllUnlessRun, CameSoFarIn}
+use Rattle.tc_base.specs.Memory.{no_memory}
 
 -- Usage is the answer exactly where the words are no command
 abbrev pub UsageExactlyForNoCommand : List (List ℕ) → Status → Type 0
@@ -46,7 +48,7 @@ DoneIfReady held read_faults write_faults faults old new sink_old sink_new words
     → ¬ Rose (read_faults old) (read_faults new)
     → ¬ Rose (write_faults old) (write_faults new)
     → ¬ Rose (faults sink_old) (faults sink_new)
-    → IsAllDone result ⊎ (result ≡ statuses.NoMemory))
+    → IsAllDone result ⊎ (result ≡ statuses.NoMemory no_memory))
 
 -- where words or input are at fault, nothing is put and nothing written
 abbrev pub NothingIfAtFault : {S O : Type 0} → (S → Option Held) → (O → Option (List ℕ)) → S → S → O → O
@@ -59,3 +61,13 @@ abbrev pub CameInOrder : {S O : Type 0} → (S → Option Held) → (O → Optio
     → List (List ℕ) → Type 0
 CameInOrder held written old new sink_old sink_new words =
     CameSoFarIn (held old) (held new) (written sink_old) (written sink_new) (request_of words)
+
+-- however a run ends, what it fetched is a front of its input in the order of work, each name once
+abbrev pub FetchedInOrder : {S : Type 0} → (S → Option Held) → (S → Asked) → S → S → List (List ℕ) → Type 0
+FetchedInOrder held fetched old new words =
+    FetchesIn (held old) (fetched old) (fetched new) (request_of words)
+
+-- however a run ends, what it put is a front of its output in the order of work, each name once
+abbrev pub PutInOrder : {S : Type 0} → (S → Option Held) → (S → Asked) → S → S → List (List ℕ) → Type 0
+PutInOrder held put_names old new words =
+    PutsIn (held old) (put_names old) (put_names new) (request_of words)

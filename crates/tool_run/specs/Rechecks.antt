@@ -42,5 +42,5 @@ JudgingFails held read_faults failed_name old new job report (statuses.ReadFault
     RecheckReads (held old) job report name × ReadFails held read_faults failed_name old new name
 JudgingFails held read_faults failed_name old new job report (statuses.BadInput name place kind) =
     JobBreaks (held old) job name place kind
-JudgingFails held read_faults failed_name old new job report statuses.NoMemory = Unit {0}
+JudgingFails held read_faults failed_name old new job report (statuses.NoMemory memory) = Unit {0}
 JudgingFails held read_faults failed_name old new job report status = ⊥

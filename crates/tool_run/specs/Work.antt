@@ -10,7 +10,7 @@ use Rattle.tool_words.specs.declared.status.InputKind.{InputKind}
 use Rattle.tool_words.specs.declared.status.InputKind.TheVariants as kinds
 use Rattle.tool_words.specs.declared.status.Status.{Status}
 use Rattle.tool_run.specs.OfGenerated.Generated.{IsRunOf}
-use Rattle.tool_words.specs.Command.{Request, Walk, Show, Run, Recheck, Gen}
+use Rattle.tool_words.specs.Command.{Request, Walk, Show, Run, Recheck, Gen, Trace}
 use Rattle.tool_words.specs.Ends.{status_after}
 use Rattle.job_files.specs.OfInputs.Holdings.{HasTooManyLines, HasCapture, HasBreak}
 use Rattle.job_files.specs.Faults.{JobBreaks, JobReads}
@@ -27,6 +27,8 @@ BatchEnds told batch status = (ran : Ran) × HasRun told batch ran × (status �
 abbrev pub Ends : Option Held → Request → Status → Type 0
 Ends told (Show b) status = BatchEnds told b status
 Ends told (Walk hook b c o) status =
+    BatchEnds told b status × ((capture : Capture) × HasCapture told PACKETS_MAX c capture)
+Ends told (Trace hook b c) status =
     BatchEnds told b status × ((capture : Capture) × HasCapture told PACKETS_MAX c capture)
 Ends told (Recheck job report) status =
     (check : Check) × Judges told job report check × (status ≡ status_of_check check)
@@ -49,6 +51,8 @@ abbrev pub Breaks : Option Held → Request → List ℕ → ℕ → InputKind �
 Breaks told (Show b) name place kind = BatchBreaks told b name place kind
 Breaks told (Walk hook b c o) name place kind =
     BatchBreaks told b name place kind ⊎ ((name ≡ c) × HasCommands told b × HasBreak told PACKETS_MAX c place kind)
+Breaks told (Trace hook b c) name place kind =
+    BatchBreaks told b name place kind ⊎ ((name ≡ c) × HasCommands told b × HasBreak told PACKETS_MAX c place kind)
 Breaks told (Run job) name place kind = JobBreaks told job name place kind
 Breaks told (Recheck job report) name place kind = JobBreaks told job name place kind
 Breaks told (Gen count front) name place kind = ⊥
@@ -57,6 +61,7 @@ Breaks told (Gen count front) name place kind = ⊥
 abbrev pub IsRead : Option Held → Request → List ℕ → Type 0
 IsRead told (Show b) name = name ≡ b
 IsRead told (Walk hook b c o) name = (name ≡ b) ⊎ ((name ≡ c) × HasCommands told b)
+IsRead told (Trace hook b c) name = (name ≡ b) ⊎ ((name ≡ c) × HasCommands told b)
 IsRead told (Run job) name = JobReads told job name
 IsRead told (Recheck job report) name = RecheckReads told job report name
 IsRead told (Gen count front) name = ⊥

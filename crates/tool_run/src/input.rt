@@ -5,7 +5,7 @@ ghost use Rattle.batch_run.specs.declared.limit.TheConstants.{COMMANDS_MAX};
 ghost use Rattle.tool_run.specs.Parts.{ApplyingFails};
 
 use batch_run::line_past_limit;
-use job_files::inputs::bad_input;
+use job_files::inputs::{bad_input, copied_name};
 use std::alloc::Global;
 use tc_words::lines;
 use tool_words::{InputKind, Status};
@@ -17,7 +17,10 @@ fn check_command_count(alloc: Global, name: &str, texts: &[&[u8]]) -> Result<(),
 {
     match line_past_limit(texts) {
         None => Ok(()),
-        Some(line) => Err(bad_input(alloc, name, line, InputKind::TooManyLines)),
+        Some(line) => {
+            let name = copied_name(alloc, name)?;
+            Err(bad_input(name, line, InputKind::TooManyLines))
+        }
     }
 }
 

@@ -1,15 +1,17 @@
 //! What the program does for a command, over files and a text that it knows by their traits alone.
 //!
 //! A run is a function of the words and of the files that they name. `obey` carries that as its contract, in
-//! seven words that `specs/Promises.antt` says: each status has its cause, nothing is written where the input
-//! is at fault, and the bytes put and written are those that the definitions give.
+//! nine words that `specs/Promises.antt` says: each status has its cause, nothing is written where the input
+//! is at fault, the bytes put and written are those that the definitions give, and what is fetched and put is
+//! a front of the input and of the output, in the order of work, each name once.
 //!
 //! Each command has a module of its own, which reads its files in their order (`inputs` of `job_files`),
 //! where the first fault ends it; `run_show`, `run_walk` and `run_recheck` work out all that one command asks
-//! for, then put, then write; `text` writes line by line, so that a text of a million lines is never held,
-//! and `packet_line` makes each packet's line of the one before, whose number is counted up where it stands.
-//! What is put and written comes from `shown_batches` of `tc_report`, `batch_walk`, `report_check` and
-//! `generated`. A walk's output is put in pieces of its input, which therefore lives until then.
+//! for, then put, then write; `run_trace` has each packet told and written by itself, by `batch_trace`. `text`
+//! writes line by line, so that a text of a million lines is never held, and `packet_line` makes each
+//! packet's line of the one before, whose number is counted up where it stands. What is put and written comes
+//! from `shown_batches` of `tc_report`, `batch_walk`, `batch_trace`, `report_check` and `generated`. A walk's
+//! output is put in pieces of its input, which therefore lives until then.
 //!
 //! The run of a job needs threads, and so `run` and `gen` stand in the program, beside this: `obey` asks that
 //! the words are neither's. What they promise is said here all the same (`specs/Runs.antt`,
@@ -33,6 +35,7 @@ mod quiet_jobs;
 mod run_gen;
 mod run_recheck;
 mod run_show;
+mod run_trace;
 mod run_walk;
 mod serving;
 mod text;
@@ -40,6 +43,7 @@ mod workloads;
 
 pub use outputs::put_outputs;
 pub use quiet_jobs::a_batch_then_a_capture;
+pub use report_check::{Check, recheck};
 pub use run_gen::deliver_workload;
 pub use serving::{ended, obey};
 pub use workloads::load_workload;

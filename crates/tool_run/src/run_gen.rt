@@ -1,6 +1,6 @@
 //! The command `gen`, behind the run of its job.
 ghost use Rattle.gen_files.specs.declared.limits.TheConstants.{GEN_MAX};
-ghost use Rattle.std.specs.Prelude.{◌≡◌, ◌⊎◌, ◌≤◌, ◌++◌, string_bytes, IfOk, IfErr, OnOk};
+ghost use Rattle.std.specs.Prelude.{◌≡◌, ◌⊎◌, ◌≤◌, ◌++◌, string_bytes, IfOk, IfErr, OnOk, [], ◌∷◌};
 ghost use Rattle.batch_run.specs.Runs.{Ran};
 ghost use Rattle.lawful_runs.specs.Given.{IsLoaded};
 ghost use Rattle.lawful_runs.specs.Lawful.{IsLawfulRun};
@@ -9,6 +9,8 @@ ghost use Rattle.tool_run.specs.Workloads.{workload_of};
 ghost use Rattle.tc_base.specs.Outside.{Appended, AppendsUpTo, OthersStay, Stands};
 ghost use Rattle.tool_words.specs.Command.{Gen};
 ghost use Rattle.tool_words.specs.Ends.{status_after, IsAllDone};
+ghost use Rattle.tc_base.specs.Outside.{AsksFor};
+ghost use Rattle.tool_run.specs.Asks.{made_names};
 ghost use Rattle.tool_run.specs.Causes.{CausedTo};
 ghost use Rattle.tool_run.specs.Made.{AllStand, AllElseStay, PutUpTo, files_in};
 ghost use Rattle.tool_run.specs.Parts.{PutFails, DeliveryFails};
@@ -75,6 +77,9 @@ fn put_file<S: Shelf>(
     ensures others { OthersStay (S.held shelf.old) (S.held shelf.new) (front.now ++ ending.now) }
     ensures later { S.write_faults shelf.old ≤ S.write_faults shelf.new }
     ensures cause { IfErr result (PutFails S.write_faults shelf.old shelf.new) }
+    ensures fetched { S.fetched shelf.new ≡ S.fetched shelf.old }
+    ensures put_names { AsksFor (S.put_names shelf.old) (S.put_names shelf.new)
+        ((front.now ++ ending.now) ∷ []) result }
 {
     let name = name_of(alloc, front, ending)?;
     Ok(shelf.put(name.as_str(), bytes)?)
@@ -92,6 +97,8 @@ fn put_all<S: Shelf>(
         (files_in front.now made.now)) }
     ensures up_to { PutUpTo (S.held shelf.old) (S.held shelf.new) (files_in front.now made.now) }
     ensures cause { IfErr result (PutFails S.write_faults shelf.old shelf.new) }
+    ensures fetched { S.fetched shelf.new ≡ S.fetched shelf.old }
+    ensures put_names { AppendsUpTo (S.put_names shelf.old) (S.put_names shelf.new) (made_names front.now) }
 {
     put_file(alloc, front, ".tc", &made.batch, shelf)?;
     put_file(alloc, front, ".pcap", &made.capture, shelf)?;
@@ -116,6 +123,8 @@ fn deliver<S: Shelf, O: Sink>(
         ⊎ (AllStand (S.held shelf.new) (files_in front.now made.now)
         × AppendsUpTo (O.written out.old) (O.written out.new) made.now.text.items) }
     ensures cause { IfErr result (DeliveryFails S.write_faults O.faults shelf.old shelf.new out.old out.new) }
+    ensures fetched { S.fetched shelf.new ≡ S.fetched shelf.old }
+    ensures put_names { AppendsUpTo (S.put_names shelf.old) (S.put_names shelf.new) (made_names front.now) }
 {
     put_all(alloc, front, made, shelf)?;
     Ok(write_text(&made.text, out)?)
@@ -147,6 +156,8 @@ pub fn deliver_workload<S: Shelf, O: Sink>(
         (O.written out.old) (O.written out.new)) }
     ensures so_far { MadeSoFar (S.held shelf.old) (S.held shelf.new) (O.written out.old) (O.written out.new)
         count front.now }
+    ensures fetched { S.fetched shelf.new ≡ S.fetched shelf.old }
+    ensures put_names { AppendsUpTo (S.put_names shelf.old) (S.put_names shelf.new) (made_names front.now) }
 {
     let made = generated(alloc, count, front, loaded, run)?;
     deliver(alloc, front, &made, shelf, out)?;

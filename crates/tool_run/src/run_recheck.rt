@@ -1,5 +1,6 @@
 //! The command `recheck`.
-ghost use Rattle.std.specs.Prelude.{◌≡◌, ◌≤◌, IfOk, IfErr};
+ghost use Rattle.std.specs.Prelude.{◌≡◌, ◌≤◌, IfOk, IfErr, [], ◌∷◌};
+ghost use Rattle.job_files.specs.Inputs.{FetchesInput};
 ghost use Rattle.tool_words.specs.Command.{Recheck};
 ghost use Rattle.tool_words.specs.Ends.{IsAllDone};
 ghost use Rattle.tool_run.specs.Causes.{CausedTo};
@@ -22,6 +23,9 @@ fn judge<S: Shelf>(alloc: Global, job: &str, report: &str, shelf: &mut S) -> Res
         (JudgingFails S.held S.read_faults S.failed_name shelf.old shelf.new job.now report.now) }
     ensures held { S.held shelf.new ≡ S.held shelf.old }
     ensures write_faults { S.write_faults shelf.new ≡ S.write_faults shelf.old }
+    ensures fetched { FetchesInput (S.held shelf.old) (S.fetched shelf.old) (S.fetched shelf.new) job.now
+        (report.now ∷ []) }
+    ensures put_names { S.put_names shelf.new ≡ S.put_names shelf.old }
 {
     let loaded = load_job(alloc, shelf, job)?;
     let bytes = load(alloc, shelf, report)?;
@@ -60,6 +64,9 @@ pub fn run_recheck<S: Shelf, O: Sink>(
         (O.written out.old) (O.written out.new)) }
     ensures so_far { CameSoFar (S.held shelf.old) (S.held shelf.new) (O.written out.old) (O.written out.new)
         (Recheck job.now report.now) }
+    ensures fetched { FetchesInput (S.held shelf.old) (S.fetched shelf.old) (S.fetched shelf.new) job.now
+        (report.now ∷ []) }
+    ensures put_names { S.put_names shelf.new ≡ S.put_names shelf.old }
 {
     let check = judge(alloc, job, report, shelf)?;
     let text = answer(alloc, check)?;

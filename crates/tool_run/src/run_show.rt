@@ -6,6 +6,7 @@ ghost use Rattle.batch_run.specs.Runs.{Ran, IsRun};
 ghost use Rattle.tc_report.specs.OfShownBatches.Shown.{shown};
 ghost use Rattle.tool_words.specs.Command.{Show};
 ghost use Rattle.tool_words.specs.Ends.{status_after, IsAllDone};
+ghost use Rattle.tool_run.specs.Asks.{Fetches};
 ghost use Rattle.tool_run.specs.Causes.{CausedTo};
 ghost use Rattle.batch_run.specs.declared.limit.TheConstants.{COMMANDS_MAX};
 ghost use Rattle.tool_run.specs.Parts.{ApplyingFails};
@@ -47,6 +48,8 @@ pub fn run_show<S: Shelf, O: Sink>(
         (O.written out.old) (O.written out.new)) }
     ensures so_far { CameSoFar (S.held shelf.old) (S.held shelf.new) (O.written out.old) (O.written out.new)
         (Show name.now) }
+    ensures fetched { Fetches (S.held shelf.old) (S.fetched shelf.old) (S.fetched shelf.new) (Show name.now) }
+    ensures put_names { S.put_names shelf.new ≡ S.put_names shelf.old }
 {
     let bytes = load(alloc, shelf, name)?;
     let shown = show_bytes(alloc, name, &bytes)?;

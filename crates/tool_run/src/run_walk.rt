@@ -1,10 +1,11 @@
 //! The command `walk`.
-ghost use Rattle.std.specs.Prelude.{◌≡◌, ◌⊎◌, IfOk, IfErr, OnOk};
+ghost use Rattle.std.specs.Prelude.{◌≡◌, ◌⊎◌, IfOk, IfErr, OnOk, [], ◌∷◌};
 ghost use Rattle.tc_base.specs.Outside.{Appended, AppendsUpTo, OthersStay, Stands};
 ghost use Rattle.tc_base.specs.Pieces.{joined};
 ghost use Rattle.batch_walk.specs.Walked.{told_text};
 ghost use Rattle.tool_words.specs.Requests.{names_seen, walk_of};
 ghost use Rattle.tool_words.specs.Ends.{status_after, IsAllDone};
+ghost use Rattle.tool_run.specs.Asks.{Fetches};
 ghost use Rattle.tool_run.specs.Causes.{CausedTo};
 ghost use Rattle.tool_run.specs.Parts.{DeliveryFails};
 ghost use Rattle.tool_run.specs.Delivered.{Walked, LeavesAllUnlessRun, WalkedSoFar};
@@ -34,6 +35,8 @@ fn deliver<S: Shelf, O: Sink>(
         ⊎ (Stands (S.held shelf.new) name.now (joined walk.now.output.pieces)
         × AppendsUpTo (O.written out.old) (O.written out.new) (told_text walk.now.text)) }
     ensures cause { IfErr result (DeliveryFails S.write_faults O.faults shelf.old shelf.new out.old out.new) }
+    ensures fetched { S.fetched shelf.new ≡ S.fetched shelf.old }
+    ensures put_names { AppendsUpTo (S.put_names shelf.old) (S.put_names shelf.new) (name.now ∷ []) }
 {
     shelf.put_pieces(name, &walk.output)?;
     Ok(write_walk(alloc, &walk.text, out)?)
@@ -57,6 +60,9 @@ pub fn run_walk<S: Shelf, O: Sink>(
         (O.written out.old) (O.written out.new)) }
     ensures so_far { WalkedSoFar (S.held shelf.old) (S.held shelf.new) (O.written out.old) (O.written out.new)
         hook (names_seen names.now) }
+    ensures fetched { Fetches (S.held shelf.old) (S.fetched shelf.old) (S.fetched shelf.new)
+        (walk_of hook (names_seen names.now)) }
+    ensures put_names { AppendsUpTo (S.put_names shelf.old) (S.put_names shelf.new) (names.now.output.now ∷ []) }
 {
     let bytes = load(alloc, shelf, names.batch)?;
     let texts = batch_lines(alloc, names.batch, &bytes)?;

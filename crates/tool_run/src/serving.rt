@@ -3,14 +3,17 @@ ghost use Rattle.std.specs.Prelude.{◌≡◌, false};
 ghost use Rattle.tool_words.specs.Command.{texts, request_of, runs_job, asks_for_job};
 ghost use Rattle.tool_words.specs.Requests.{request};
 ghost use Rattle.tool_words.specs.Ends.{status_after, IsAllDone};
+ghost use Rattle.tool_run.specs.Asks.{Fetches, Puts};
 ghost use Rattle.tool_run.specs.Causes.{CausedTo};
 ghost use Rattle.tool_run.specs.Rechecks.{status_of_check};
 ghost use Rattle.tool_run.specs.Delivered.{DeliveredTo, LeavesAllUnlessRun, CameSoFar};
 ghost use Rattle.tool_run.specs.Promises.{UsageExactlyForNoCommand, DoneOnlyIfDelivered, HasCause};
 ghost use Rattle.tool_run.specs.Promises.{DueUnlessFailed, DoneIfReady, NothingIfAtFault, CameInOrder};
+ghost use Rattle.tool_run.specs.Promises.{FetchedInOrder, PutInOrder};
 
 use crate::run_recheck::run_recheck;
 use crate::run_show::run_show;
+use crate::run_trace::run_trace;
 use crate::run_walk::run_walk;
 use report_check::Check;
 use std::alloc::Global;
@@ -54,6 +57,9 @@ fn serve<S: Shelf, O: Sink>(
         (O.written out.new) result }
     ensures so_far { CameSoFar (S.held shelf.old) (S.held shelf.new) (O.written out.old) (O.written out.new)
         (request command.entry) }
+    ensures fetched { Fetches (S.held shelf.old) (S.fetched shelf.old) (S.fetched shelf.new) (request command.entry) }
+    ensures put_names { Puts (S.held shelf.old) (S.put_names shelf.old) (S.put_names shelf.new)
+        (request command.entry) }
 {
     match command {
         Command::Show { batch } => match run_show(alloc, batch, shelf, out) {
@@ -76,6 +82,14 @@ fn serve<S: Shelf, O: Sink>(
                 Err(status) => status,
             }
         }
+        Command::Trace {
+            hook,
+            batch,
+            capture,
+        } => match run_trace(alloc, hook, batch, capture, shelf, out) {
+            Ok(refused) => ended(refused),
+            Err(status) => status,
+        },
         Command::Recheck { job, report } => match run_recheck(alloc, job, report, shelf, out) {
             Ok(check) => judged(check),
             Err(status) => status,
@@ -104,6 +118,8 @@ pub fn obey<S: Shelf, O: Sink>(
         shelf.old shelf.new out.old out.new (texts words.now) result }
     ensures nothing { NothingIfAtFault S.held O.written shelf.old shelf.new out.old out.new result }
     ensures so_far { CameInOrder S.held O.written shelf.old shelf.new out.old out.new (texts words.now) }
+    ensures fetched { FetchedInOrder S.held S.fetched shelf.old shelf.new (texts words.now) }
+    ensures put_names { PutInOrder S.held S.put_names shelf.old shelf.new (texts words.now) }
 {
     match command_of(words) {
         None => Status::Usage,

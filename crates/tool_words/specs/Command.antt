@@ -1,4 +1,4 @@
--- What the words of the command line ask for. The five shapes are this project's own.
+-- What the words of the command line ask for. The six shapes are this project's own.
 use Rattle.gen_files.specs.declared.limits.TheConstants.{GEN_MAX}
 use Rattle.std.specs.Prelude.{ℕ, Bool, true, false, ◌&&◌, ◌==◌, nat_le, List, [], ◌∷◌, length, Option, Some}
 use Rattle.std.specs.Prelude.{None, if◌then◌else◌, codes, map, string_bytes, String}
@@ -17,6 +17,7 @@ pub data Request : Type 0 where
   Run : (job : List ℕ) → Request
   Recheck : (job report : List ℕ) → Request
   Gen : (count : ℕ) (front : List ℕ) → Request
+  Trace : (hook : Hook) (batch capture : List ℕ) → Request
 
 abbrev pub texts : List (String Global) → List (List ℕ)
 texts words = map string_bytes words
@@ -58,16 +59,21 @@ request_of_two verb first second =
     else if bytes_eq verb (codes "gen") then gen_request (count_of first) second
     else None
 
+abbrev pub request_of_three : List ℕ → List ℕ → List ℕ → List ℕ → Option Request
+request_of_three verb hook batch capture =
+    if bytes_eq verb (codes "trace") then option_map (λ h. Trace h batch capture) (hook_of hook) else None
+
 abbrev pub request_of_four : List ℕ → List ℕ → List ℕ → List ℕ → List ℕ → Option Request
 request_of_four verb hook batch capture output =
     if bytes_eq verb (codes "walk") then option_map (λ h. Walk h batch capture output) (hook_of hook) else
     None
 
--- `show BATCH`, `run JOB`, `recheck JOB REPORT`, `gen N PREFIX`, `walk HOOK BATCH CAPTURE OUT`, and no other
--- words
+-- `show BATCH`, `run JOB`, `recheck JOB REPORT`, `gen N PREFIX`, `trace HOOK BATCH CAPTURE`,
+-- `walk HOOK BATCH CAPTURE OUT`, and no other words
 abbrev pub request_of : List (List ℕ) → Option Request
 request_of (verb ∷ name ∷ []) = request_of_one verb name
 request_of (verb ∷ first ∷ second ∷ []) = request_of_two verb first second
+request_of (verb ∷ hook ∷ batch ∷ capture ∷ []) = request_of_three verb hook batch capture
 request_of (verb ∷ hook ∷ batch ∷ capture ∷ output ∷ []) = request_of_four verb hook batch capture output
 request_of words = None
 
@@ -78,6 +84,7 @@ runs_job (Show batch) = false
 runs_job (Run job) = true
 runs_job (Recheck job report) = false
 runs_job (Gen count front) = true
+runs_job (Trace hook batch capture) = false
 
 abbrev pub asks_for_job : Option Request → Bool
 asks_for_job None = false

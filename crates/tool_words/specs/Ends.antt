@@ -8,7 +8,7 @@ use Rattle.tool_words.specs.declared.status.Status.TheVariants as statuses
 -- where bytes were not put or written
 abbrev pub status_of : Put → Status
 status_of puts.Failed = statuses.WriteFault
-status_of puts.NoMemory = statuses.NoMemory
+status_of (puts.NoMemory memory) = statuses.NoMemory memory
 
 -- where all was done: a batch stops at its first refused line
 abbrev pub status_after : Bool → Status
@@ -35,5 +35,5 @@ exit_of statuses.Usage = 2
 exit_of (statuses.BadInput name place kind) = 3
 exit_of (statuses.ReadFault name) = 4
 exit_of statuses.WriteFault = 5
-exit_of statuses.NoMemory = 6
+exit_of (statuses.NoMemory memory) = 6
 exit_of (statuses.NotLawful line) = 7

@@ -3,7 +3,8 @@ ghost use Rattle.std.specs.Prelude.{◌≡◌, ◌≤◌, IfSome};
 ghost use Rattle.std.specs.List.{list_all};
 ghost use Rattle.std.specs.Option.{option_map};
 ghost use Rattle.tool_words.specs.Command.{texts, hook_of, is_name_byte, is_front, count_of, gen_request};
-ghost use Rattle.tool_words.specs.Command.{request_of_one, request_of_two, request_of_four, request_of};
+ghost use Rattle.tool_words.specs.Command.{request_of_one, request_of_two, request_of_three};
+ghost use Rattle.tool_words.specs.Command.{request_of_four, request_of};
 ghost use Rattle.tool_words.specs.Requests.{request, HasFewFilters};
 
 use gen_files::GEN_MAX;
@@ -32,6 +33,11 @@ pub enum Command<'a> {
     Gen {
         count: u32,
         front: &'a str,
+    },
+    Trace {
+        hook: Hook,
+        batch: &'a str,
+        capture: &'a str,
     },
 }
 
@@ -130,6 +136,23 @@ fn with_two<'a>(verb: &str, first: &'a str, second: &'a str) -> Option<Command<'
     }
 }
 
+fn with_three<'a>(verb: &str, hook: &str, batch: &'a str, capture: &'a str) -> Option<Command<'a>>
+    ensures value { option_map request result ≡ request_of_three verb.now hook.now batch.now capture.now }
+    ensures few { IfSome result HasFewFilters }
+{
+    if verb != "trace" {
+        return None;
+    }
+    match hook_named(hook) {
+        None => None,
+        Some(hook) => Some(Command::Trace {
+            hook,
+            batch,
+            capture,
+        }),
+    }
+}
+
 fn with_four<'a>(
     verb: &str,
     hook: &str,
@@ -164,6 +187,12 @@ pub fn command_of(words: &[String]) -> Option<Command<'_>>
     match words {
         [verb, name] => with_one(verb.as_str(), name.as_str()),
         [verb, first, second] => with_two(verb.as_str(), first.as_str(), second.as_str()),
+        [verb, hook, batch, capture] => with_three(
+            verb.as_str(),
+            hook.as_str(),
+            batch.as_str(),
+            capture.as_str(),
+        ),
         [verb, hook, batch, capture, output] => with_four(
             verb.as_str(),
             hook.as_str(),

@@ -1,16 +1,16 @@
 //! What the command line says, and what the program answers to it: commands and statuses, and no file.
 //!
-//! `command_of` reads the words as one of five commands, with the names that they give
+//! `command_of` reads the words as one of six commands, with the names that they give
 //! (`specs/Command.antt`). A `Status` is how a run ended: it has an exit number (`specs/Ends.antt`), and its
-//! text is the line for standard error. Names come into that line as they were given, unless they have
-//! control characters: a terminal obeys those, so they are escaped.
+//! text is the line for standard error (`specs/Messages.antt`). Names come into that line as they were given,
+//! unless they have control characters: a terminal obeys those, so they are escaped.
 //!
 //! It is a crate of its own since every command speaks of its words and its end in these types, while none
 //! needs another command. What a command does with its files is `tool_run`'s; taking the words from the
 //! process is the program's.
 //!
-//! Any thread may call this; it keeps nothing between calls and takes no memory. Not promised: the texts,
-//! which are tested.
+//! Any thread may call this; it keeps nothing between calls and takes no memory. Not promised: the texts in
+//! which a file is named, which are tested.
 #![tactic(auto)]
 
 mod command;

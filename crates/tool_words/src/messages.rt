@@ -1,10 +1,14 @@
+//! The texts of statuses.
+ghost use Rattle.tool_words.specs.Messages.{message_of};
+
 use crate::status::{InputKind, Status};
 use std::fmt::{self, Formatter};
 use std::str;
 use tc_base::Bytes;
 
 const USAGE: &str =
-    "usage: walk HOOK BATCH CAPTURE OUT | show BATCH | run JOB | recheck JOB REPORT | gen N PREFIX";
+    "usage: walk HOOK BATCH CAPTURE OUT | show BATCH | run JOB | recheck JOB REPORT \
+    | trace HOOK BATCH CAPTURE | gen N PREFIX";
 
 // A file's name as it was given; one with control characters, which would reach the terminal, is quoted and
 // they are escaped. Words of the command line are text, so other bytes do not come.
@@ -33,6 +37,8 @@ impl fmt::Display for InputKind {
 
 /// The line that is written on standard error, without its end. `Done` has none.
 impl fmt::Display for Status {
+    ghost output = { message_of };
+
     fn fmt<W: fmt::Write>(&self, f: &mut Formatter<W>) -> fmt::Result {
         match self {
             Status::Done => Ok(()),
@@ -43,7 +49,7 @@ impl fmt::Display for Status {
             }
             Status::ReadFault { name } => write!(f, "cannot read {}", Name(name)),
             Status::WriteFault => write!(f, "cannot write"),
-            Status::NoMemory => write!(f, "no memory"),
+            Status::NoMemory(_) => write!(f, "no memory"),
             Status::NotLawful { line } => write!(f, "report not lawful at line {line}"),
         }
     }

@@ -1,5 +1,6 @@
 ghost use Rattle.std.specs.Prelude.{◌≡◌};
 ghost use Rattle.tool_words.specs.declared.status.Status.TheVariants as statuses;
+ghost use Rattle.tc_base.specs.Memory.{no_memory};
 
 use std::alloc::{AllocError, AllocFailed};
 use tc_base::{Bytes, NoMemory, Put};
@@ -62,7 +63,7 @@ pub enum Status {
     /// An output capture, a file of `gen` or the text could not be written.
     WriteFault,
     /// Memory ran out.
-    NoMemory,
+    NoMemory(NoMemory),
     /// The report is not that of a lawful run, first at `line`.
     NotLawful {
         line: u64,
@@ -84,33 +85,33 @@ impl Status {
             Status::BadInput { .. } => 3,
             Status::ReadFault { .. } => 4,
             Status::WriteFault => 5,
-            Status::NoMemory => 6,
+            Status::NoMemory(_) => 6,
             Status::NotLawful { .. } => 7,
         }
     }
 }
 
 impl From<AllocError> for Status {
-    ghost from_gives = { λ _ e. e ≡ statuses.NoMemory };
+    ghost from_gives = { λ _ e. e ≡ statuses.NoMemory no_memory };
 
-    fn from(_: AllocError) -> Self {
-        Status::NoMemory
+    fn from(refused: AllocError) -> Self {
+        Status::NoMemory(NoMemory::from(refused))
     }
 }
 
 impl<T: Drop> From<AllocFailed<T>> for Status {
-    ghost from_gives = { λ _ e. e ≡ statuses.NoMemory };
+    ghost from_gives = { λ _ e. e ≡ statuses.NoMemory no_memory };
 
-    fn from(_: AllocFailed<T>) -> Self {
-        Status::NoMemory
+    fn from(refused: AllocFailed<T>) -> Self {
+        Status::NoMemory(NoMemory::from(refused))
     }
 }
 
 impl From<NoMemory> for Status {
-    ghost from_gives = { λ _ e. e ≡ statuses.NoMemory };
+    ghost from_gives = { λ memory e. e ≡ statuses.NoMemory memory };
 
-    fn from(_: NoMemory) -> Self {
-        Status::NoMemory
+    fn from(memory: NoMemory) -> Self {
+        Status::NoMemory(memory)
     }
 }
 
@@ -122,7 +123,7 @@ impl From<Put> for Status {
     fn from(put: Put) -> Self {
         match put {
             Put::Failed => Status::WriteFault,
-            Put::NoMemory => Status::NoMemory,
+            Put::NoMemory(memory) => Status::NoMemory(memory),
         }
     }
 }

@@ -14,6 +14,8 @@ use Rattle.walk_rules.specs.Questions.{Head, params_of, told_params}
 use Rattle.walk_rules.specs.Steps.{Standing, at_action, action_at, question_of, ran, after, after_list, after_action}
 use Rattle.walk_steps.specs.declared.course.Course.{Course}
 use Rattle.walk_steps.specs.declared.course.Stage.TheVariants as stages
+use Rattle.walk_steps.specs.declared.stand.Stand.TheVariants as told_stands
+use Rattle.walk_steps.specs.Stands.{stand_of}
 use Rattle.walk_steps.specs.Told.{action_serials, head_told, heads_told}
 use Rattle.walk_steps.specs.Standings.{place_of, action_place, standing_of, stands_at, list_ended, list_ended_at}
 use Rattle.walk_steps.proofs.Drops.{no_table, ended_at}
@@ -38,6 +40,14 @@ pub action_opened : (heads : List TableHead) (hit : List ActionName) (table : �
     ≡ at_action (head_told (get_or heads table no_table)) (action_serials hit) run.at run.jumps (heads_told (drop (table + 1) heads))
 action_opened heads hit table run here =
     ap (λ tables. action_place (heads_told tables) (action_serials hit) run.at run.jumps) (drop_more heads table no_table here)
+
+-- what is told of that place
+pub told_at_action : (heads : List TableHead) (hit given : List ActionName) (table at : ℕ) (run : Run) → table < length heads → at ≡ run.at → given ≡ hit →
+    told_stands.AtAction at (length given) ≡ stand_of (place_of heads hit (stages.AtAction table run))
+told_at_action heads hit given table at run here same_at same =
+    ap (λ position. told_stands.AtAction position (length given)) same_at
+    ∙ ap (told_stands.AtAction run.at) (ap length same ∙ sym (length-map hit (λ (action : ActionName). action.serial)))
+    ∙ sym (ap stand_of (action_opened heads hit table run here))
 
 -- the serial of an action, as it is read from a slice
 pub serial_at : (hit given : List ActionName) (at read : ℕ) (d : ActionName) → given ≡ hit → read ≡ at → at < length hit →

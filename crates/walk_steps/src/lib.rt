@@ -13,6 +13,9 @@
 //! points and as many executions. No other call takes memory. The frame is dissected when it is loaded, and
 //! again only after an action that may change its bytes.
 //!
+//! Whoever tells of a walk asks between two steps where it stands (`stand`), how many restarts are left, and
+//! what the fields of its frame are.
+//!
 //! A walk that needs no visits, since its lists stay as they are, has from here the room for what ran, and
 //! the test of a table's protocol.
 //!
@@ -26,12 +29,14 @@
 mod course;
 mod ends;
 mod rooms;
+mod stand;
 mod steps;
 mod stops;
 mod visits;
 mod walk;
 
 pub use rooms::ExecutionRoom;
+pub use stand::Stand;
 pub use stops::admits;
 pub use visits::Visits;
 pub use walk::{Progress, Walk, run};

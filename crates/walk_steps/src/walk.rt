@@ -4,12 +4,15 @@ ghost use Rattle.tc_base.specs.declared.hook.Hook.{Hook as HookValue};
 ghost use Rattle.walk_rules.specs.Walks.{Outcome, IsWalk, outcome_of};
 ghost use Rattle.walk_steps.specs.Standings.{IsCourse, IsKnown, standing_of};
 ghost use Rattle.walk_steps.specs.Walking.{IsBegun, progress_of};
+ghost use Rattle.walk_steps.specs.Stands.{stand_of};
 
 use crate::course::{Course, Stage};
 use crate::rooms::{ExecutionRoom, PointRoom};
+use crate::stand::Stand;
 use crate::steps::step;
 use crate::visits::Visits;
 use flow_dissect::dissect;
+use flow_fields::Key;
 use frame_edit::Frame;
 use std::alloc::Global;
 use std::marker::Model;
@@ -48,6 +51,9 @@ impl Walk {
     ghost use Rattle.walk_rules.specs.Walks.{outcome_of, outcome_with};
     ghost use Rattle.walk_steps.specs.Told.{execution, IsShortRun};
     ghost use Rattle.walk_steps.specs.Walking.{IsOnWay, KnowsTold, IsBegun, WasVisited, progress_of};
+    ghost use Rattle.walk_steps.specs.Stands.{stand_of};
+    ghost use Rattle.flow_fields.specs.Values.{values_of};
+    ghost use Rattle.flow_dissect.specs.Fields.{frame_values};
 
     /// Takes the room for walks: a frame, the tables of a hook, and what 65,536 visits leave. No other call
     /// takes memory.
@@ -125,6 +131,27 @@ impl Walk {
         &self.course.frame
     }
 
+    /// The fields of the frame as it is.
+    pub fn key(&self) -> &Key<14>
+        ensures { values_of result.now.words ≡ frame_values self.now.standing.frame.bytes }
+    {
+        &self.course.key
+    }
+
+    /// Where the walk stands.
+    pub fn stand(&self) -> Stand
+        ensures { result ≡ stand_of self.now.standing.place }
+    {
+        stand_at(&self.course)
+    }
+
+    /// How many restarts are left.
+    pub fn restarts(&self) -> u32
+        ensures { result ≡ self.now.standing.restarts }
+    {
+        self.course.restarts
+    }
+
     /// The point of each visit, in order.
     pub fn points(&self) -> &[Point]
         ensures { result.now ≡ self.now.points }
@@ -139,6 +166,31 @@ impl Walk {
         ensures short { IsShortRun result.now }
     {
         self.course.executed.executed()
+    }
+}
+
+// Where the walk stands.
+fn stand_at(course: &Course) -> Stand
+    requires { IsCourse course.now }
+    ensures { result ≡ stand_of (standing_of course.now).place }
+{
+    let stage = course.stage;
+    match stage {
+        Stage::AtHead => Stand::AtHead,
+        Stage::AtMask { table, mask } => {
+            let head = &course.heads.heads()[table];
+            Stand::AtMask {
+                chain: head.chain,
+                pref: head.pref,
+                protocol: head.protocol,
+                is_first: mask == 0,
+            }
+        }
+        Stage::AtAction { run, .. } => Stand::AtAction {
+            position: run.at(),
+            length: course.hit.actions().len() as u32,
+        },
+        Stage::Over(verdict) => Stand::Over(verdict),
     }
 }
 

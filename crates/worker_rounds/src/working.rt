@@ -1,5 +1,5 @@
 //! A worker's round.
-ghost use Rattle.block_codec.specs.declared.places.TheConstants.{ROOTS};
+ghost use Rattle.store_history.specs.declared.places.TheConstants.{ROOTS};
 ghost use Rattle.std.specs.Prelude.{◌≡◌, ◌<◌, ◌≤◌, ◌+◌, ◌*◌, ◌^◌, ◌++◌, ◌∷◌, [], length, IfOk, OnOk};
 ghost use Rattle.pcap_io.specs.Captures.{AreShort};
 ghost use Rattle.pin_store.specs.Calls.{IsOutside, IsSeatOf, pin_of};

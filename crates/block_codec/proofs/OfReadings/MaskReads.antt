@@ -10,6 +10,7 @@ use Rattle.std.proofs.lemmas.Bool.{true≢false}
 use Rattle.std.proofs.lemmas.List.{take_at, get_or-append-add, get_or_past}
 use Rattle.std.proofs.lemmas.List.Elements.{All-cons, All-nil, All-append, All-replicate, All-map, All-get_or}
 use Rattle.std.proofs.lemmas.List.FromFn.{length-map-range_with_len}
+use Rattle.store_history.specs.declared.places.TheConstants.{ROWS}
 use Rattle.block_codec.specs.declared.mask.StoredMask.{StoredMask}
 use Rattle.block_codec.specs.Blocks.{block}
 use Rattle.block_codec.specs.Masks.{rows_word, mask_words, IsStorableMask, IsMaskBlock}
@@ -77,7 +78,7 @@ module _ (mask : StoredMask) (storable : IsStorableMask mask) (serial : mask.ser
   abbrev Is64 : ℕ → Type 0
   Is64 word = word < 18446744073709551616
 
-  small_row : (k : ℕ) → get_or mask.rows k 0 < 8192
+  small_row : (k : ℕ) → get_or mask.rows k 0 < ROWS
   small_row k = dite (dec_lt k (length mask.rows))
       (λ (less : k < length mask.rows). storable.each_row k 0 less)
       (λ (past : k < length mask.rows → ⊥). let none = get_or_past mask.rows k 0 (omega arith) in omega arith)

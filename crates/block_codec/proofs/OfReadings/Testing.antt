@@ -6,6 +6,7 @@ use Rattle.std.proofs.lemmas.Bool.{and_parts, and_from}
 use Rattle.std.proofs.lemmas.Bool.Decides.{nat_tests}
 use Rattle.std.proofs.lemmas.List.Sums.{AllPass-from_list_all, list_all-from_AllPass}
 use Rattle.std.proofs.lemmas.List.Elements.{All-weaker}
+use Rattle.store_history.specs.declared.places.TheConstants.{ROWS}
 use Rattle.block_codec.specs.Names.{action_in, mask_in, IsActionName, IsMaskName}
 use Rattle.block_codec.specs.Reading.{HasFilter, HasMask, HasTable, HasAction, rows_of}
 use Rattle.block_codec.specs.OfReadings.Read.{is_zero, is_action_word, is_filter, is_row, is_mask, is_mask_word, is_table, is_action}
@@ -73,14 +74,14 @@ pub mask_has : (words : List ℕ) → is_mask words ≡ true → HasMask words
 mask_has words e =
     let a = and_parts _ _ e in let b = and_parts _ _ a.1 in let c = and_parts _ _ b.1 in let d = and_parts _ _ c.1 in let f = and_parts _ _ d.1 in let g = and_parts _ _ f.1 in record {
       front = record { kind = same _ _ a.0; serial = at_most _ _ b.0; size = c.0 };
-      rows = record { rows = each is_row (λ n. n < 8192) (take (get_or words 2 0 / 16) (rows_of 64 words)) (λ n. below n 8192) d.0; rest = zeros _ f.0 };
+      rows = record { rows = each is_row (λ n. n < ROWS) (take (get_or words 2 0 / 16) (rows_of 64 words)) (λ n. below n ROWS) d.0; rest = zeros _ f.0 };
       rest = zeros _ g.0;
       link = at_most _ _ g.1;
     }
 
 pub mask_tested : (words : List ℕ) → HasMask words → is_mask words ≡ true
 mask_tested words h = and_from _ _ (eq_test _ _ h.front.kind) (and_from _ _ (le_test _ _ h.front.serial) (and_from _ _ h.front.size
-    (and_from _ _ (tested is_row (λ n. n < 8192) (take (get_or words 2 0 / 16) (rows_of 64 words)) (λ n. lt_test n 8192) h.rows.rows)
+    (and_from _ _ (tested is_row (λ n. n < ROWS) (take (get_or words 2 0 / 16) (rows_of 64 words)) (λ n. lt_test n ROWS) h.rows.rows)
     (and_from _ _ (zeros_test _ h.rows.rest) (and_from _ _ (zeros_test _ h.rest) (le_test _ _ h.link))))))
 
 pub table_has : (words : List ℕ) → is_table words ≡ true → HasTable words

@@ -2,7 +2,7 @@
 -- nothing.
 use Rattle.act_kinds.specs.declared.limits.TheConstants.{CHAIN_MAX}
 use Rattle.act_registry.specs.declared.limits.TheConstants.{MADE_MAX}
-use Rattle.block_codec.specs.declared.places.TheConstants.{ACTION_SLOTS, MASK_SLOTS, ROWS}
+use Rattle.store_history.specs.declared.places.TheConstants.{ACTION_SLOTS, MASK_SLOTS, ROWS}
 use Rattle.std.specs.Prelude.{ℕ, zero, suc, ◌+◌, ◌/◌, ◌%◌, ◌^◌, ◌==◌, ◌&&◌, Bool, true, nat_lt, nat_le, List}
 use Rattle.std.specs.Prelude.{take, slice_index, slice_range, Option, Some, None, if◌then◌else◌}
 use Rattle.std.specs.List.{list_all}

@@ -1,21 +1,8 @@
 //! What a block reads as, without its link.
 ghost use Rattle.std.specs.Prelude.{◌≡◌};
-ghost use Rattle.block_codec.specs.OfReadings.Read.{filter_in, mask_of_words, table_in, action_of_words};
+ghost use Rattle.block_codec.specs.OfReadings.Read.{mask_of_words, table_in, action_of_words};
 
-use crate::{
-    StoredAction, StoredFilter, StoredMask, StoredTable, read_action, read_filter, read_mask,
-    read_table,
-};
-
-/// The filter whose words these are, or None where they are those of none.
-pub fn filter_in(words: &[u64; 40]) -> Option<StoredFilter>
-    ensures { result ≡ filter_in words.now }
-{
-    match read_filter(words) {
-        Some((filter, _)) => Some(filter),
-        None => None,
-    }
-}
+use crate::{StoredAction, StoredMask, StoredTable, read_action, read_mask, read_table};
 
 /// The mask whose words these are, or None where they are those of none.
 pub fn mask_in(words: &[u64; 40]) -> Option<StoredMask>

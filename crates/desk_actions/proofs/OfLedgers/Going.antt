@@ -23,8 +23,8 @@ use Rattle.hook_law.specs.Numbered.{Marks}
 use Rattle.hook_law.proofs.Growing.{edits_still, edits_more, now_still, now_next}
 use Rattle.hook_law.proofs.Marking.{mark_keeps}
 use Rattle.hook_law.proofs.Resting.{mark_rests}
-use Rattle.hook_meaning.specs.Stated.{hook_meaning}
-use Rattle.hook_meaning.specs.Blocks.{hook_codec}
+use Rattle.hook_store_law.specs.Stated.{hook_meaning}
+use Rattle.hook_store_law.specs.Blocks.{hook_codec}
 use Rattle.hook_store_law.specs.OfEdits.Premises.{now, next, IsAccepted, IsUnseen}
 use Rattle.hook_store_law.proofs.OfEdits.Accepted.{leads}
 use Rattle.hook_store_law.proofs.OfEdits.Marking.{marks}

@@ -6,8 +6,8 @@ use Rattle.hook_lists.specs.declared.kept.Kept.{Kept}
 use Rattle.filter_lists.specs.Spells.{Spells}
 use Rattle.hook_law.specs.Places.{marker_root}
 use Rattle.hook_law.specs.Keeping.{IsAtRest}
-use Rattle.hook_meaning.specs.Stated.{hook_meaning}
-use Rattle.hook_meaning.specs.Blocks.{hook_codec}
+use Rattle.hook_store_law.specs.Stated.{hook_meaning}
+use Rattle.hook_store_law.specs.Blocks.{hook_codec}
 use Rattle.hook_store_law.specs.Kept.{IsKeptAt}
 use Rattle.hook_store_law.specs.OfEdits.Premises.{now}
 

@@ -1,10 +1,10 @@
 //! The lists of a desk and the writer of its store.
 
-use block_codec::places::MARKER_ROOT;
 use filter_lists::{Done, Edit, Lists, Prepared};
 use hook_store_law::{HookLaw, HookStore};
 use pin_store::Writer;
 use store_history::EditName;
+use store_history::places::MARKER_ROOT;
 use tc_base::Point;
 
 /// The plain lists, the writer of the store that follows them, and the number of edits so far. What ties
@@ -18,7 +18,7 @@ pub struct Ledger {
 
 impl Ledger {
     ghost use Rattle.std.specs.Prelude.{◌≡◌, ◌<◌, ◌≤◌, ◌+◌, ◌^◌, ◌∷◌, ◌++◌, [], Ok};
-    ghost use Rattle.block_codec.specs.declared.places.TheConstants.{ROOTS};
+    ghost use Rattle.store_history.specs.declared.places.TheConstants.{ROOTS};
     ghost use Rattle.pin_store.specs.Calls.{sheet_of, IsSeatOf};
     ghost use Rattle.filter_state.specs.Lines.{IsLine};
     ghost use Rattle.filter_state.specs.Steps.{step};

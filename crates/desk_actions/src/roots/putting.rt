@@ -1,5 +1,6 @@
 //! The writer's part.
-ghost use Rattle.block_codec.specs.declared.places.TheConstants.{ACTION_SLOTS, BLOCK_WORDS, ROOTS};
+ghost use Rattle.store_history.specs.declared.places.TheConstants.{ACTION_SLOTS, ROOTS};
+ghost use Rattle.block_codec.specs.declared.places.TheConstants.{BLOCK_WORDS};
 ghost use Rattle.std.specs.Prelude.{◌≡◌, ◌≢◌, ◌<◌, ◌≤◌, ◌∷◌, ◌++◌, ℕ, []};
 ghost use Rattle.pin_store.specs.Layout.{block_words};
 ghost use Rattle.pin_store.specs.Sheets.{base_of, IsSameButCells};
@@ -7,9 +8,9 @@ ghost use Rattle.pin_store.specs.Calls.{seen_by, sheet_of, IsSeatOf, IsUnnamed};
 ghost use Rattle.block_codec.specs.Actions.{IsStorableAction};
 ghost use Rattle.desk_actions.specs.OfRoots.Records.{action_block, action_commit};
 
-use block_codec::places::ACTION_ROOTS;
 use block_codec::{StoredAction, write_action};
 use pin_store::{Store, Writer};
+use store_history::places::ACTION_ROOTS;
 use store_history::{EditName, Law};
 use tc_base::Point;
 

@@ -9,6 +9,7 @@ use Rattle.store_history.specs.declared.history.Named.{Named}
 use Rattle.store_history.specs.History.{root_of, edits_of}
 use Rattle.store_history.proofs.Lists.{some_is}
 use Rattle.store_history.proofs.Histories.{root_own, root_other}
+use Rattle.store_history.specs.declared.places.TheConstants.{MASK_SLOTS}
 use Rattle.root_word_laws.proofs.Words.{more_rise}
 use Rattle.filter_state.specs.declared.edit.Edit.{Edit}
 use Rattle.filter_state.specs.States.{State}
@@ -30,9 +31,9 @@ use Rattle.hook_law.proofs.Standing.{present_end, unused_end, slot_longer}
 use Rattle.hook_law.proofs.Slots.{slot_is}
 use Rattle.hook_law.proofs.Heading.{Fresh, sort_mask, head_keeps, head_comes}
 use Rattle.hook_law.proofs.Resting.{head_rests}
-use Rattle.hook_meaning.specs.Stated.{TableNames, hook_meaning, filters_at, tables_at}
-use Rattle.hook_meaning.specs.Blocks.{hook_codec}
-use Rattle.hook_meaning.specs.Told.{action_name, with_slots}
+use Rattle.hook_store_law.specs.Stated.{TableNames, hook_meaning, filters_at, tables_at}
+use Rattle.hook_store_law.specs.Blocks.{hook_codec}
+use Rattle.hook_store_law.specs.Told.{action_name, with_slots}
 use Rattle.hook_store_law.specs.Kept.{KeepsHook}
 use Rattle.hook_store_law.specs.OfEdits.Premises.{now, next}
 use Rattle.hook_store_law.proofs.OfEdits.Accepted.{lawful, sound, next_sound}
@@ -219,7 +220,7 @@ module _ (h : List (Commit Edit)) (b : ℕ) (y : Edit) (hook : Hook) (C : ℕ �
       pick (inl old) = inl (old, unconcerned m slot old at)
       pick (inr fresh) = inr (fresh_of m slot fresh.prepared fresh.names)
 
-  pub named_after : (m slot : ℕ) → slot < 8192 → IsNamedIn tables m slot → IsMaskAt hook_codec (h ++ c ∷ []) m slot
+  pub named_after : (m slot : ℕ) → slot < MASK_SLOTS → IsNamedIn tables m slot → IsMaskAt hook_codec (h ++ c ∷ []) m slot
   named_after m slot low_slot n = record {
     hook = hook_number hook;
     one = one_hook hook;

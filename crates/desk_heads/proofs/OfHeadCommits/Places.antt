@@ -23,8 +23,8 @@ use Rattle.hook_law.specs.Meaning.{point_of}
 use Rattle.hook_law.specs.Standing.{Head as HeadRole, IsIn, Names}
 use Rattle.hook_law.specs.Telling.{ReadsHead}
 use Rattle.hook_law.specs.Keeping.{Present}
-use Rattle.hook_meaning.specs.Stated.{TableNames, hook_meaning, table_stated, tables_at}
-use Rattle.hook_meaning.specs.Blocks.{mask_slotted, hook_codec}
+use Rattle.hook_store_law.specs.Stated.{TableNames, hook_meaning, table_stated, tables_at}
+use Rattle.hook_store_law.specs.Blocks.{mask_slotted, hook_codec}
 use Rattle.hook_store_law.specs.OfEdits.Premises.{now}
 use Rattle.root_pool_laws.proofs.Apart.{in_append, in_left, in_right}
 use Rattle.desk_masks.proofs.OfMaskResizes.Resizing.{mapped_at}

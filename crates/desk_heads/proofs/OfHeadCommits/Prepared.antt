@@ -16,8 +16,8 @@ use Rattle.hook_law.specs.Heads.{IsPrepared}
 use Rattle.hook_law.proofs.Lists.{root_of_none}
 use Rattle.hook_law.proofs.Sparing.{Spared, spares_keep}
 use Rattle.hook_law.proofs.Preparing.{fills_longer}
-use Rattle.hook_meaning.specs.Stated.{hook_meaning}
-use Rattle.hook_meaning.specs.Blocks.{hook_codec}
+use Rattle.hook_store_law.specs.Stated.{hook_meaning}
+use Rattle.hook_store_law.specs.Blocks.{hook_codec}
 
 module _ (g cs : List (Commit Edit)) (b : ℕ) (y : Edit) (m slot : ℕ) (low : b ≤ length g) (keeps : Keeps hook_meaning hook_codec g b) (spares : SparesAll hook_meaning hook_codec b g cs)
     (p : IsPrepared hook_meaning hook_codec b g y m slot) (at_slot : (j : ℕ) (c : Commit Edit) → slice_get cs j ≡ Some c → c.root ≢ mask_root slot)

@@ -11,6 +11,7 @@ use Rattle.store_history.specs.History.{root_of, edits_of}
 use Rattle.store_history.specs.Reads.{read_all, read_first}
 use Rattle.store_history.proofs.Lists.{get_take, get_behind}
 use Rattle.store_history.proofs.Histories.{root_other}
+use Rattle.store_history.specs.declared.places.TheConstants.{ACTION_SLOTS, ROW_BUCKETS, BUCKET_ROOTS}
 use Rattle.root_word_laws.specs.Words.{StampsRise}
 use Rattle.root_word_laws.proofs.Words.{more_rise}
 use Rattle.flow_mask.specs.Hashes.{hash_of}
@@ -42,9 +43,9 @@ use Rattle.hook_law.proofs.Slots.{slot_is}
 use Rattle.hook_law.proofs.Sparing.{Spared, spares_keep, spares_take}
 use Rattle.hook_law.proofs.Preparing.{spares_heads, fills_longer, filled_after, put_after}
 use Rattle.hook_law.proofs.Resting.{spares_rest}
-use Rattle.hook_meaning.specs.Stated.{hook_meaning, filters_at}
-use Rattle.hook_meaning.specs.Blocks.{mask_record, filter_record, hook_codec}
-use Rattle.hook_meaning.specs.Told.{with_slots}
+use Rattle.hook_store_law.specs.Stated.{hook_meaning, filters_at}
+use Rattle.hook_store_law.specs.Blocks.{mask_record, filter_record, hook_codec}
+use Rattle.hook_store_law.specs.Told.{with_slots}
 use Rattle.hook_store_law.specs.Kept.{KeepsHook}
 use Rattle.hook_store_law.specs.OfEdits.Premises.{now, next}
 use Rattle.hook_store_law.proofs.OfEdits.Accepted.{next_sound}
@@ -232,7 +233,7 @@ module _ (h : List (Commit Edit)) (b : ℕ) (y : Edit) (slot : ℕ) (mask : Stor
   filled : (k at_row : ℕ) → k < mask.size → slice_get mask.rows (places.row_of k) ≡ Some at_row
       → IsFilled hook_meaning hook_codec b after (places.bucket_root at_row (places.place_of k)) mask.serial mask.size k (point_of after + 1) (next after y)
   filled k at_row less there =
-      subst (λ (r : ℕ). IsFilled hook_meaning hook_codec b after r mask.serial mask.size k (point_of after + 1) (next after y)) (ap (λ (r : ℕ). 10243 + 16 * r + k % 16) (get_or_from_slice_get mask.rows (k / 16) at_row 0 there))
+      subst (λ (r : ℕ). IsFilled hook_meaning hook_codec b after r mask.serial mask.size k (point_of after + 1) (next after y)) (ap (λ (r : ℕ). BUCKET_ROOTS + ROW_BUCKETS * r + k % 16) (get_or_from_slice_get mask.rows (k / 16) at_row 0 there))
       (subst (λ (es : List Edit). IsFilled hook_meaning hook_codec b after (bucket_root mask k) mask.serial mask.size k (length es + 1) (hook_meaning.step (state_at hook_meaning es (length es)) y)) (sym raise_spared.edits)
       (filled_after hook_meaning hook_codec h cs b k (commit k) raise_spares raise_own raise_spared (row_at k less) mask.serial mask.size k stamp (next h y)
       (fills_longer hook_meaning hook_codec h cs (commit k).named mask.serial mask.size k stamp (next h y) (fills k))))
@@ -283,7 +284,7 @@ module _ (h : List (Commit Edit)) (b : ℕ) (y : Edit) (slot : ℕ) (mask : Stor
       not_it j c (inl o) same = away j o.0 (sym same ∙ ap (λ (z : Commit Edit). z.root) o.1)
       not_it j c (inr o) same = apart (sym same ∙ ap (λ (z : Commit Edit). z.root) o.1)
 
-  action_same : (s : ℕ) → s < 2048 → root_of after (places.action_root s) ≡ root_of h (places.action_root s)
+  action_same : (s : ℕ) → s < ACTION_SLOTS → root_of after (places.action_root s) ≡ root_of h (places.action_root s)
   action_same s less = raise_other (places.action_root s) (λ same. let small = can.small in absurd (omega (arith, same, small, less))) (λ k inside same. absurd (omega (arith, same, less)))
 
   put_on : (a : ℕ) → IsPutAction hook_meaning hook_codec b h y a → IsPutAction hook_meaning hook_codec b after y a

@@ -13,7 +13,7 @@ use Rattle.filter_state.specs.Sound.{Each, Sound}
 use Rattle.filter_state.proofs.Pairs.{each_weaker}
 use Rattle.row_laws.specs.OfOrder.Rows.{row_before}
 use Rattle.row_laws.proofs.OfLookups.Found.{item_each}
-use Rattle.hook_meaning.specs.OfEffects.Parts.{Stands, filter_of}
+use Rattle.hook_store_law.specs.OfEffects.Parts.{Stands, filter_of}
 use Rattle.walk_rules.specs.Questions.{Head}
 use Rattle.walk_rules.specs.Heads.{head_with, in_front, with_row, heads_in, heads_on}
 use Rattle.walk_rules.proofs.Deciding.{is_among, IsKept}
@@ -21,7 +21,7 @@ use Rattle.walk_rules.proofs.Listed.{any_has, each_both, unkept, unsorted}
 use Rattle.walk_rules.proofs.KeptHeads.{rows_on, heads_kept}
 use Rattle.miniq_pair.specs.Heads.{hook_number}
 use Rattle.hook_law.specs.Records.{StatedTable}
-use Rattle.hook_meaning.specs.Stated.{TableNames, table_stated, filter_stated, tables_at, filters_at}
+use Rattle.hook_store_law.specs.Stated.{TableNames, table_stated, filter_stated, tables_at, filters_at}
 use Rattle.desk_masks.proofs.OfMaskResizes.Resizing.{mapped_at}
 use Rattle.desk_heads.specs.OfHeadCommits.Listed.{HasSerial}
 use Rattle.desk_heads.proofs.OfHeadCommits.Places.{map_at, get_item, of_hook}

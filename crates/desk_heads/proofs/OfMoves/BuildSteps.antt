@@ -23,9 +23,9 @@ use Rattle.hook_law.specs.Standing.{IsIn, Action, IsSlotOf}
 use Rattle.hook_law.specs.Numbered.{IsPutAction}
 use Rattle.hook_law.proofs.Standing.{present_end, unused_end, slot_longer}
 use Rattle.hook_law.specs.Keeping.{IsAtRest}
-use Rattle.hook_meaning.specs.Stated.{hook_meaning, filters_at}
-use Rattle.hook_meaning.specs.Blocks.{hook_codec}
-use Rattle.hook_meaning.specs.Told.{with_slots}
+use Rattle.hook_store_law.specs.Stated.{hook_meaning, filters_at}
+use Rattle.hook_store_law.specs.Blocks.{hook_codec}
+use Rattle.hook_store_law.specs.Told.{with_slots}
 use Rattle.hook_store_law.specs.Kept.{KeepsHook}
 use Rattle.hook_store_law.specs.OfEdits.Premises.{now, next}
 use Rattle.desk_heads.specs.OfHeadCommits.Raised.{stored_next, IsReady, IsSpareRoot, CanRaise}

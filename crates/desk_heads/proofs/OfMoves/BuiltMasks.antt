@@ -25,10 +25,10 @@ use Rattle.hook_law.specs.Meaning.{point_of}
 use Rattle.hook_law.specs.Standing.{Mask, Bucket, region_of, IsMaskAt, Stands}
 use Rattle.hook_law.specs.Heads.{IsPrepared}
 use Rattle.hook_law.proofs.Standing.{unused_end}
-use Rattle.hook_meaning.specs.Stated.{hook_meaning, filters_at}
-use Rattle.hook_meaning.specs.Blocks.{mask_record, hook_codec}
-use Rattle.hook_meaning.specs.Told.{with_slots}
-use Rattle.hook_meaning.proofs.Reading.{first_maps}
+use Rattle.hook_store_law.specs.Stated.{hook_meaning, filters_at}
+use Rattle.hook_store_law.specs.Blocks.{mask_record, hook_codec}
+use Rattle.hook_store_law.specs.Told.{with_slots}
+use Rattle.hook_store_law.proofs.Reading.{first_maps}
 use Rattle.hook_store_law.specs.Kept.{KeepsHook}
 use Rattle.hook_store_law.proofs.OfEdits.Accepted.{sound}
 use Rattle.desk_masks.specs.OfMaskResizes.Resized.{stored_now}

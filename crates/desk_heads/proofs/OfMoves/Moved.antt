@@ -7,6 +7,7 @@ use Rattle.store_history.specs.declared.history.Commit.{Commit}
 use Rattle.store_history.specs.declared.history.Named.{Named}
 use Rattle.store_history.specs.History.{root_of, edits_of}
 use Rattle.store_history.proofs.Histories.{root_other}
+use Rattle.store_history.specs.declared.places.TheConstants.{MASK_SLOTS, ACTION_SLOTS}
 use Rattle.pin_store.specs.declared.shape.Shape.{Shape}
 use Rattle.pin_store.specs.Calls.{IsUnnamed}
 use Rattle.filter_state.specs.declared.edit.Edit.{Edit}
@@ -25,8 +26,8 @@ use Rattle.hook_law.specs.Standing.{Role, Mask, Bucket, region_of, IsMaskAt, Sta
 use Rattle.hook_law.specs.Keeping.{IsAtRest, Present}
 use Rattle.hook_law.specs.Coming.{IsBucketOf, IsMade, IsOfPrepared}
 use Rattle.hook_law.proofs.Standing.{present_end, unused_end}
-use Rattle.hook_meaning.specs.Stated.{hook_meaning}
-use Rattle.hook_meaning.specs.Blocks.{mask_record, hook_codec}
+use Rattle.hook_store_law.specs.Stated.{hook_meaning}
+use Rattle.hook_store_law.specs.Blocks.{mask_record, hook_codec}
 use Rattle.hook_store_law.specs.Kept.{KeepsHook}
 use Rattle.desk_masks.specs.OfMaskResizes.Resized.{stored_now}
 use Rattle.root_pool_laws.proofs.Apart.{in_left, in_right}
@@ -170,11 +171,11 @@ module _ (h : List (Commit Edit)) (b : ℕ) (y : Edit) (hook : Hook) (built : Li
     abbrev Part : (r : ℕ) (x : Role) → IsOfPrepared hook_meaning hook_codec b h c y r x → Type 0
     Part r x z = ((x ≡ Mask z.mask) × (r ≡ places.mask_root z.slot)) ⊎ IsBucketOf z.prepared.record_read (region_of z.slot z.mask (point_of h + 1) z.prepared.record_read) r x
 
-    small_mask : (s : ℕ) → IsInPool s pools.masks → s < 8192
+    small_mask : (s : ℕ) → IsInPool s pools.masks → s < MASK_SLOTS
     small_mask s (inl i) = let k = in_left pools.masks.free pools.masks.left s i in q.masks.small k.0 s k.1
     small_mask s (inr i) = let k = in_right pools.masks.free pools.masks.left s i in q.masks.small k.0 s k.1
 
-    small_action : (s : ℕ) → IsInPool s pools.actions → s < 2048
+    small_action : (s : ℕ) → IsInPool s pools.actions → s < ACTION_SLOTS
     small_action s (inl i) = let k = in_left pools.actions.free pools.actions.left s i in q.actions.small k.0 s k.1
     small_action s (inr i) = let k = in_right pools.actions.free pools.actions.left s i in q.actions.small k.0 s k.1
 

@@ -9,6 +9,7 @@ use Rattle.store_history.specs.declared.history.Named.{Named}
 use Rattle.store_history.specs.History.{root_of}
 use Rattle.store_history.specs.Reads.{read_first}
 use Rattle.store_history.proofs.Lists.{some_is}
+use Rattle.store_history.specs.declared.places.TheConstants.{ROWS, ROOTS}
 use Rattle.flow_mask.specs.Sizes.{size_of}
 use Rattle.filter_state.specs.declared.edit.Edit.{Edit}
 use Rattle.filter_state.specs.States.{State}
@@ -20,8 +21,8 @@ use Rattle.hook_law.specs.Records.{MaskRecord}
 use Rattle.hook_law.specs.Meaning.{point_of}
 use Rattle.hook_law.specs.Heads.{IsPrepared}
 use Rattle.hook_law.proofs.Lists.{root_of_none}
-use Rattle.hook_meaning.specs.Stated.{hook_meaning, filters_at}
-use Rattle.hook_meaning.specs.Blocks.{mask_record, hook_codec}
+use Rattle.hook_store_law.specs.Stated.{hook_meaning, filters_at}
+use Rattle.hook_store_law.specs.Blocks.{mask_record, hook_codec}
 use Rattle.hook_store_law.specs.Kept.{KeepsHook}
 use Rattle.hook_store_law.specs.OfEdits.Premises.{next}
 use Rattle.desk_heads.specs.OfHeadCommits.Raised.{stored_next, IsReady, CanRaise}
@@ -70,21 +71,21 @@ module _ (h : List (Commit Edit)) (b : ℕ) (y : Edit) (slot : ℕ) (mask : Stor
   name = record { serial = mask.serial; slot = slot }
 
   -- each commit is to a root that was stamped earlier, within the roots of slots and rows
-  spare_at : (j : ℕ) (c : Commit Edit) → slice_get cs j ≡ Some c → ((root_of h c.root).stamp ≤ point_of h) × (c.root < 141315)
+  spare_at : (j : ℕ) (c : Commit Edit) → slice_get cs j ≡ Some c → ((root_of h c.root).stamp ≤ point_of h) × (c.root < ROOTS)
   spare_at j c e = sort (commit_at h b y slot mask given blk keeps ready can j c e)
     where
-      sort : IsOne h b y slot mask given blk keeps ready can j c → ((root_of h c.root).stamp ≤ point_of h) × (c.root < 141315)
+      sort : IsOne h b y slot mask given blk keeps ready can j c → ((root_of h c.root).stamp ≤ point_of h) × (c.root < ROOTS)
       sort (inl o) = let less = o.0 in let count = can.storable.rows in let inside : j / 16 < length mask.rows = omega (arith, less, count) in let at_row = can.storable.each_row (j / 16) 0 inside in
-          (subst (λ (z : Commit Edit). (root_of h z.root).stamp ≤ point_of h) (sym o.1) (can.at_rows j o.0).early, subst (λ (z : Commit Edit). z.root < 141315) (sym o.1) (omega (arith, at_row)))
+          (subst (λ (z : Commit Edit). (root_of h z.root).stamp ≤ point_of h) (sym o.1) (can.at_rows j o.0).early, subst (λ (z : Commit Edit). z.root < ROOTS) (sym o.1) (omega (arith, at_row)))
       sort (inr o) = let small = can.small in
-          (subst (λ (z : Commit Edit). (root_of h z.root).stamp ≤ point_of h) (sym o.1) can.at_slot.early, subst (λ (z : Commit Edit). z.root < 141315) (sym o.1) (omega (arith, small)))
+          (subst (λ (z : Commit Edit). (root_of h z.root).stamp ≤ point_of h) (sym o.1) can.at_slot.early, subst (λ (z : Commit Edit). z.root < ROOTS) (sym o.1) (omega (arith, small)))
 
   -- ---- a mask that was prepared before
   module _ (m s : ℕ) (p : IsPrepared hook_meaning hook_codec b h y m s) where
     late_slot : (root_of h (places.mask_root s)).stamp ≡ point_of h + 1
     late_slot = p.put.stamp
 
-    late_row : (k at_row : ℕ) → k < p.record_read.size → slice_get p.record_read.rows (places.row_of k) ≡ Some at_row → at_row < 8192 → (root_of h (places.bucket_root at_row (places.place_of k))).stamp ≡ point_of h + 1
+    late_row : (k at_row : ℕ) → k < p.record_read.size → slice_get p.record_read.rows (places.row_of k) ≡ Some at_row → at_row < ROWS → (root_of h (places.bucket_root at_row (places.place_of k))).stamp ≡ point_of h + 1
     late_row k at_row less there small = (p.filled k at_row less there small).fills.stamp
 
     -- no commit is to a root of it
@@ -92,9 +93,9 @@ module _ (h : List (Commit Edit)) (b : ℕ) (y : Edit) (slot : ℕ) (mask : Stor
     other_slot j c e same = let early = (spare_at j c e).0 in let late = late_slot in let is = ap (λ (r : ℕ). (root_of h r).stamp) same in absurd (omega (arith, early, late, is))
 
     pub other_row : (j : ℕ) (c : Commit Edit) (k at_row : ℕ) → slice_get cs j ≡ Some c → k < p.record_read.size → slice_get p.record_read.rows (places.row_of k) ≡ Some at_row → c.root ≢ places.bucket_root at_row (places.place_of k)
-    other_row j c k at_row e less there same = dite (dec_lt at_row 8192)
-        (λ (small : at_row < 8192). let early = (spare_at j c e).0 in let late = late_row k at_row less there small in let is = ap (λ (r : ℕ). (root_of h r).stamp) same in absurd (omega (arith, early, late, is)))
-        (λ (large : at_row < 8192 → ⊥). let high = (spare_at j c e).1 in absurd (omega (arith, large, high, same)))
+    other_row j c k at_row e less there same = dite (dec_lt at_row ROWS)
+        (λ (small : at_row < ROWS). let early = (spare_at j c e).0 in let late = late_row k at_row less there small in let is = ap (λ (r : ℕ). (root_of h r).stamp) same in absurd (omega (arith, early, late, is)))
+        (λ (large : at_row < ROWS → ⊥). let high = (spare_at j c e).1 in absurd (omega (arith, large, high, same)))
 
     pub still : IsPrepared hook_meaning hook_codec b after y m s
     still = prepared_stays h cs b y m s ready.accepted.low keeps.law (raise_spares h b y slot mask given blk keeps ready can) p other_slot other_row
@@ -113,7 +114,7 @@ module _ (h : List (Commit Edit)) (b : ℕ) (y : Edit) (slot : ℕ) (mask : Stor
         let whole : length p.put.reads.mask.rows * 16 ≡ p.put.reads.mask.size = p.put.reads.rows in
         let one : p.put.reads.mask ≡ p.record_read = some_is p.put.reads.mask p.record_read (sym p.put.reads.read ∙ p.read) in
         let size : length p.record_read.rows * 16 ≡ p.record_read.size = subst (λ (r : MaskRecord). length r.rows * 16 ≡ r.size) one whole in
-        let small : at_row < 8192 = subst (λ (n : ℕ). n < 8192) (get_or_from_slice_get mask.rows j at_row 0 f) (can.storable.each_row j 0 own) in
+        let small : at_row < ROWS = subst (λ (n : ℕ). n < ROWS) (get_or_from_slice_get mask.rows j at_row 0 f) (can.storable.each_row j 0 own) in
         let place : i ≡ 16 * i / 16 = omega arith in let place2 : j ≡ 16 * j / 16 = omega arith in
         let late = late_row (16 * i) at_row (omega (arith, size, inside)) (subst (λ (n : ℕ). slice_get p.record_read.rows n ≡ Some at_row) place e) small in
         let early = (can.at_rows (16 * j) (omega (arith, count, own))).early in

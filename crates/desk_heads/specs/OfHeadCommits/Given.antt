@@ -13,8 +13,8 @@ use Rattle.hook_law.specs.Places.{hooks, head_root}
 use Rattle.hook_law.specs.Standing.{Names, IsMaskAt}
 use Rattle.hook_law.specs.Keeping.{IsAtRest}
 use Rattle.hook_law.specs.Heads.{IsPrepared}
-use Rattle.hook_meaning.specs.Stated.{hook_meaning, tables_at, filters_at}
-use Rattle.hook_meaning.specs.Blocks.{hook_codec}
+use Rattle.hook_store_law.specs.Stated.{hook_meaning, tables_at, filters_at}
+use Rattle.hook_store_law.specs.Blocks.{hook_codec}
 use Rattle.hook_store_law.specs.OfEdits.Premises.{now, next, LeavesOtherHook}
 use Rattle.desk_masks.specs.OfHeadChains.Chains.{stated_of, FitsTable, IsNamedIn}
 

@@ -10,17 +10,17 @@ use Rattle.filter_state.specs.declared.refusal.Done.{Done}
 use Rattle.filter_state.specs.States.{State}
 use Rattle.block_codec.specs.declared.filter.StoredFilter.{StoredFilter}
 use Rattle.block_codec.specs.declared.mask.StoredMask.{StoredMask}
-use Rattle.block_codec.specs.declared.places.TheConstants.{MASK_SLOTS}
+use Rattle.store_history.specs.declared.places.TheConstants.{MASK_SLOTS}
 use Rattle.block_codec.specs.Masks.{IsStorableMask}
 use Rattle.mask_table.specs.Buckets.{mask_root, bucket_root}
 use Rattle.mask_order.specs.Fitting.{FitInto}
-use Rattle.hook_meaning.specs.OfEffects.Parts.{words_of}
+use Rattle.hook_store_law.specs.OfEffects.Parts.{words_of}
 use Rattle.hook_law.specs.Meaning.{point_of}
 use Rattle.hook_law.specs.Standing.{IsUnused}
 use Rattle.hook_law.specs.Numbered.{PutsActions}
-use Rattle.hook_meaning.specs.Stated.{hook_meaning, filters_at}
-use Rattle.hook_meaning.specs.Blocks.{hook_codec}
-use Rattle.hook_meaning.specs.Told.{with_slots}
+use Rattle.hook_store_law.specs.Stated.{hook_meaning, filters_at}
+use Rattle.hook_store_law.specs.Blocks.{hook_codec}
+use Rattle.hook_store_law.specs.Told.{with_slots}
 use Rattle.hook_store_law.specs.OfEdits.Premises.{next, IsAccepted}
 
 -- the filters that the edit leaves a mask, as they are stored: actions are at the slots of the commits so far

@@ -11,7 +11,7 @@ use Rattle.mask_writer.specs.Masks.{Masks}
 use Rattle.mask_writer.specs.Standing.{StandsAt, Holds, AreNamed}
 use Rattle.hook_law.specs.Meaning.{point_of}
 use Rattle.hook_law.specs.Standing.{IsIn, IsMaskAt}
-use Rattle.hook_meaning.specs.Blocks.{hook_codec}
+use Rattle.hook_store_law.specs.Blocks.{hook_codec}
 use Rattle.desk_heads.specs.OfHeadCommits.Raised.{stored_next}
 use Rattle.desk_heads.specs.OfHeadCommits.Given.{AreFresh}
 use Rattle.desk_heads.specs.OfHeadCommits.Built.{IsBuilt}

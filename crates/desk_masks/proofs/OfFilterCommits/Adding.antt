@@ -25,9 +25,9 @@ use Rattle.hook_law.specs.Standing.{Region}
 use Rattle.hook_law.specs.Changes.{GainsFilter}
 use Rattle.hook_law.specs.Numbered.{RewritesBucket, AddsToBucket}
 use Rattle.hook_law.proofs.Splicing.{added_rewrites}
-use Rattle.hook_meaning.specs.Stated.{hook_meaning, filters_at}
-use Rattle.hook_meaning.specs.Blocks.{filter_record, hook_codec}
-use Rattle.hook_meaning.specs.Told.{with_slots}
+use Rattle.hook_store_law.specs.Stated.{hook_meaning, filters_at}
+use Rattle.hook_store_law.specs.Blocks.{filter_record, hook_codec}
+use Rattle.hook_store_law.specs.Told.{with_slots}
 use Rattle.hook_store_law.specs.Kept.{KeepsHook}
 use Rattle.hook_store_law.specs.OfEdits.Premises.{now, next}
 use Rattle.hook_store_law.proofs.OfEdits.Accepted.{lawful, sound}

@@ -14,8 +14,8 @@ use Rattle.hook_law.specs.Keeping.{IsAtRest, IsAtRestBut}
 use Rattle.hook_law.specs.Numbered.{RewritesBucket}
 use Rattle.hook_law.specs.Coming.{IsMade}
 use Rattle.hook_law.proofs.Resting.{rewrite_rests, rewrite_rests_others}
-use Rattle.hook_meaning.specs.Stated.{hook_meaning, filters_at}
-use Rattle.hook_meaning.specs.Blocks.{hook_codec}
+use Rattle.hook_store_law.specs.Stated.{hook_meaning, filters_at}
+use Rattle.hook_store_law.specs.Blocks.{hook_codec}
 use Rattle.hook_store_law.specs.Kept.{KeepsHook}
 use Rattle.hook_store_law.specs.OfEdits.Premises.{next}
 use Rattle.desk_pools.specs.declared.pools.Pools.{Pools}

@@ -10,6 +10,7 @@ use Rattle.store_history.specs.declared.history.Commit.{Commit}
 use Rattle.store_history.specs.declared.history.Link.{Link}
 use Rattle.store_history.specs.History.{root_of, first_block}
 use Rattle.store_history.specs.Reads.{read_all}
+use Rattle.store_history.specs.declared.places.TheConstants.{POOL_BLOCKS}
 use Rattle.pin_store.specs.declared.shape.Shape.{Shape}
 use Rattle.flow_mask.specs.Hashes.{hash_of}
 use Rattle.filter_state.specs.declared.edit.Edit.{Edit}
@@ -36,9 +37,9 @@ use Rattle.hook_law.specs.Meaning.{point_of}
 use Rattle.hook_law.specs.Standing.{Region, Bucket, IsIn}
 use Rattle.hook_law.specs.Numbered.{RewritesBucket, ReplacesInBucket}
 use Rattle.hook_law.proofs.Splicing.{replaced_rewrites}
-use Rattle.hook_meaning.specs.Stated.{hook_meaning, filters_at}
-use Rattle.hook_meaning.specs.Blocks.{filter_record, hook_codec}
-use Rattle.hook_meaning.specs.Told.{with_slots}
+use Rattle.hook_store_law.specs.Stated.{hook_meaning, filters_at}
+use Rattle.hook_store_law.specs.Blocks.{filter_record, hook_codec}
+use Rattle.hook_store_law.specs.Told.{with_slots}
 use Rattle.hook_store_law.specs.Kept.{KeepsHook}
 use Rattle.hook_store_law.specs.OfEdits.Premises.{now, next, IsAccepted, filter_of_line, Swaps}
 use Rattle.hook_store_law.proofs.OfEdits.Accepted.{lawful, sound}
@@ -226,8 +227,8 @@ module _ (h : List (Commit Edit)) (b : ℕ) (y : Edit) (slot : ℕ) (filter : St
       different : IsDistinct eqb (chain_blocks chain)
       different = subst (λ (n : ℕ). IsDistinct eqb (chain_blocks (root_of h n).chain)) (sym at.is_root) (different_at h masks shape cells has slot kept stands at.bucket at.within)
 
-      small : (z : ℕ) → IsIn z (chain_blocks chain) → z < 16384
-      small = subst (λ (n : ℕ). (z : ℕ) → IsIn z (chain_blocks (root_of h n).chain) → z < 16384) (sym at.is_root) (small_at h masks shape cells has slot kept stands at.bucket at.within)
+      small : (z : ℕ) → IsIn z (chain_blocks chain) → z < POOL_BLOCKS
+      small = subst (λ (n : ℕ). (z : ℕ) → IsIn z (chain_blocks (root_of h n).chain) → z < POOL_BLOCKS) (sym at.is_root) (small_at h masks shape cells has slot kept stands at.bucket at.within)
 
       -- those of the filters in front, and the old filter's own, are out
       pub exchange_out : HaveOneRoot h → AreOut (h ++ c ∷ []) (chain_blocks (take (length front + 1) chain))

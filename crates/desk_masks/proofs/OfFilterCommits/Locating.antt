@@ -13,6 +13,7 @@ use Rattle.store_history.specs.declared.history.Commit.{Commit}
 use Rattle.store_history.specs.declared.history.Link.{Link}
 use Rattle.store_history.specs.History.{root_of, first_block}
 use Rattle.store_history.specs.Reads.{in_front, read_all, read_first}
+use Rattle.store_history.specs.declared.places.TheConstants.{ROWS, POOL_BLOCKS}
 use Rattle.pin_store.specs.declared.shape.Shape.{Shape}
 use Rattle.flow_mask.specs.Hashes.{hash_of}
 use Rattle.filter_state.specs.declared.edit.Edit.{Edit}
@@ -37,10 +38,10 @@ use Rattle.hook_law.specs.Records.{StatedFilter}
 use Rattle.hook_law.specs.Chains as chains
 use Rattle.hook_law.specs.Meaning.{point_of}
 use Rattle.hook_law.specs.Standing.{Region, IsIn, IsMaskAt, IsRowAt, region_of}
-use Rattle.hook_meaning.specs.Stated.{filters_at}
-use Rattle.hook_meaning.specs.Blocks.{mask_record, filter_record, hook_codec}
-use Rattle.hook_meaning.specs.Told.{with_slots}
-use Rattle.hook_meaning.proofs.Reading.{first_maps}
+use Rattle.hook_store_law.specs.Stated.{filters_at}
+use Rattle.hook_store_law.specs.Blocks.{mask_record, filter_record, hook_codec}
+use Rattle.hook_store_law.specs.Told.{with_slots}
+use Rattle.hook_store_law.proofs.Reading.{first_maps}
 use Rattle.hook_store_law.specs.OfEdits.Premises.{now, HaveOthers}
 use Rattle.desk_masks.specs.OfMaskResizes.Resized.{stored_now}
 use Rattle.desk_masks.specs.Masks.{HasMasks}
@@ -49,7 +50,7 @@ use Rattle.desk_masks.proofs.OfFilterCommits.Splitting.{IsAround, around_one, bu
 use Rattle.desk_masks.proofs.OfFilterCommits.Spending.{blocks_of, chain_blocks, chain_different, chain_small}
 
 -- the row of a bucket
-row_there : (mask : StoredMask) (k : ℕ) → IsWithin mask → k < mask.size → (slice_get mask.rows (k / 16) ≡ Some (slice_index mask.rows (k / 16))) × (slice_index mask.rows (k / 16) < 8192)
+row_there : (mask : StoredMask) (k : ℕ) → IsWithin mask → k < mask.size → (slice_get mask.rows (k / 16) ≡ Some (slice_index mask.rows (k / 16))) × (slice_index mask.rows (k / 16) < ROWS)
 row_there mask k is less = let rows = is.rows in let inside : k / 16 < length mask.rows = omega (arith, rows, less) in (slice_get-get_or mask.rows (k / 16) 0 inside, is.small (k / 16) 0 inside)
 
 -- ---- filters put into given blocks
@@ -138,7 +139,7 @@ module _ (h : List (Commit Edit)) (masks : Masks) (shape : Shape) (cells : List 
   pub different_at : (k : ℕ) → k < size → IsDistinct eqb (chain_blocks (root_of h (bucket_root kept.mask k)).chain)
   different_at k less = subst (IsDistinct eqb) (chain_is k less) (chain_different shape cells size k (chain_at masks slot k) (names_chain k less).filed)
 
-  pub small_at : (k : ℕ) → k < size → (x : ℕ) → IsIn x (chain_blocks (root_of h (bucket_root kept.mask k)).chain) → x < 16384
+  pub small_at : (k : ℕ) → k < size → (x : ℕ) → IsIn x (chain_blocks (root_of h (bucket_root kept.mask k)).chain) → x < POOL_BLOCKS
   small_at k less x at = chain_small shape cells size k (chain_at masks slot k) (names_chain k less).filed x (subst (λ (l : List ℕ). IsIn x l) (sym (chain_is k less)) at)
 
   -- ---- a filter that is found, which has its handle alone

@@ -8,6 +8,7 @@ use Rattle.store_history.specs.declared.history.Commit.{Commit}
 use Rattle.store_history.specs.declared.history.Link.{Link}
 use Rattle.store_history.specs.History.{root_of}
 use Rattle.store_history.specs.Reads.{read_all}
+use Rattle.store_history.specs.declared.places.TheConstants.{POOL_BLOCKS}
 use Rattle.pin_store.specs.declared.shape.Shape.{Shape}
 use Rattle.filter_state.specs.declared.edit.Edit.{Edit}
 use Rattle.filter_state.specs.declared.edit.Edit.TheVariants as edits
@@ -29,9 +30,9 @@ use Rattle.hook_law.specs.Standing.{Region, Role, Bucket, IsIn, Stands}
 use Rattle.hook_law.specs.Numbered.{PutsActions, RewritesBucket, RemovesFromBucket}
 use Rattle.hook_law.specs.Coming.{IsMade}
 use Rattle.hook_law.proofs.Splicing.{removed_rewrites}
-use Rattle.hook_meaning.specs.Stated.{hook_meaning, filters_at}
-use Rattle.hook_meaning.specs.Blocks.{hook_codec}
-use Rattle.hook_meaning.specs.Told.{with_slots}
+use Rattle.hook_store_law.specs.Stated.{hook_meaning, filters_at}
+use Rattle.hook_store_law.specs.Blocks.{hook_codec}
+use Rattle.hook_store_law.specs.Told.{with_slots}
 use Rattle.hook_store_law.specs.Kept.{KeepsHook}
 use Rattle.hook_store_law.specs.OfEdits.Premises.{now, next, IsAccepted, NoneComes, Loses}
 use Rattle.hook_store_law.proofs.OfEdits.Accepted.{lawful, sound}
@@ -184,8 +185,8 @@ module _ (h : List (Commit Edit)) (b : ℕ) (y : Edit) (slot handle : ℕ) (r : 
       different : IsDistinct eqb (chain_blocks chain)
       different = subst (λ (n : ℕ). IsDistinct eqb (chain_blocks (root_of h n).chain)) (sym at.is_root) (different_at h masks shape cells has slot kept stands at.bucket at.within)
 
-      small : (x : ℕ) → IsIn x (chain_blocks chain) → x < 16384
-      small = subst (λ (n : ℕ). (x : ℕ) → IsIn x (chain_blocks (root_of h n).chain) → x < 16384) (sym at.is_root) (small_at h masks shape cells has slot kept stands at.bucket at.within)
+      small : (x : ℕ) → IsIn x (chain_blocks chain) → x < POOL_BLOCKS
+      small = subst (λ (n : ℕ). (x : ℕ) → IsIn x (chain_blocks (root_of h n).chain) → x < POOL_BLOCKS) (sym at.is_root) (small_at h masks shape cells has slot kept stands at.bucket at.within)
 
       -- those of the filters in front, and the filter's own, are out
       pub remove_out : HaveOneRoot h → AreOut (h ++ c ∷ []) (chain_blocks (take (length front + 1) chain))

@@ -4,6 +4,7 @@ use Rattle.std.specs.Prelude.{slice_index_or}
 use Rattle.std.proofs.lemmas.Bool.{eqb-false}
 use Rattle.store_history.specs.declared.history.Commit.{Commit}
 use Rattle.store_history.specs.History.{root_of, edits_of}
+use Rattle.store_history.specs.declared.places.TheConstants.{MASK_SLOTS}
 use Rattle.pin_store.specs.declared.shape.Shape.{Shape}
 use Rattle.filter_state.specs.declared.edit.Edit.{Edit}
 use Rattle.filter_state.specs.States.{State}
@@ -26,9 +27,9 @@ use Rattle.hook_law.specs.Coming.{IsMade}
 use Rattle.hook_law.proofs.Growing.{edits_more, now_next}
 use Rattle.hook_law.proofs.Standing.{mask_back, present_end, unused_end}
 use Rattle.hook_law.proofs.Bucketing.{rewrite_heads, rewrite_keeps, rewrite_comes}
-use Rattle.hook_meaning.specs.Stated.{hook_meaning, filters_at}
-use Rattle.hook_meaning.specs.Blocks.{hook_codec}
-use Rattle.hook_meaning.specs.Told.{with_slots}
+use Rattle.hook_store_law.specs.Stated.{hook_meaning, filters_at}
+use Rattle.hook_store_law.specs.Blocks.{hook_codec}
+use Rattle.hook_store_law.specs.Told.{with_slots}
 use Rattle.hook_store_law.specs.Kept.{KeepsHook}
 use Rattle.hook_store_law.specs.OfEdits.Premises.{now, next}
 use Rattle.desk_masks.specs.OfMaskResizes.Resized.{stored_now}
@@ -99,7 +100,7 @@ module _ (h : List (Commit Edit)) (b : ℕ) (c : Commit Edit) (y : Edit) (low : 
         pick (inl was) = was
         pick (inr m) = absurd (none x m stands)
 
-    mask_small : (s : ℕ) → IsInPool s pools.masks → s < 8192
+    mask_small : (s : ℕ) → IsInPool s pools.masks → s < MASK_SLOTS
     mask_small s (inl at) = let in_ = in_left pools.masks.free pools.masks.left s at in p.masks.small in_.0 s in_.1
     mask_small s (inr at) = let in_ = in_right pools.masks.free pools.masks.left s at in p.masks.small in_.0 s in_.1
 

@@ -8,9 +8,9 @@ use Rattle.hook_law.specs.Records.{Slotted, StatedFilter, stated_filter}
 use Rattle.hook_law.specs.Standing.{IsIn, IsSlotOf}
 use Rattle.hook_law.specs.Keeping.{Keeps}
 use Rattle.hook_law.proofs.Standing.{slot_longer}
-use Rattle.hook_meaning.specs.Stated.{hook_meaning, filters_at}
-use Rattle.hook_meaning.specs.Blocks.{filter_record, hook_codec}
-use Rattle.hook_meaning.specs.Told.{with_slots}
+use Rattle.hook_store_law.specs.Stated.{hook_meaning, filters_at}
+use Rattle.hook_store_law.specs.Blocks.{filter_record, hook_codec}
+use Rattle.hook_store_law.specs.Told.{with_slots}
 use Rattle.hook_store_law.specs.OfEdits.Premises.{now}
 use Rattle.desk_masks.proofs.Slotting.{stored_stay, stored_own}
 

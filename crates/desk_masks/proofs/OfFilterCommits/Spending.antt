@@ -10,6 +10,7 @@ use Rattle.store_history.specs.History.{root_of, first_block}
 use Rattle.store_history.specs.Reads.{read_all}
 use Rattle.store_history.proofs.Lists.{get_take, get_drop}
 use Rattle.store_history.proofs.Histories.{root_other}
+use Rattle.store_history.specs.declared.places.TheConstants.{POOL_BLOCKS}
 use Rattle.pin_store.specs.declared.shape.Shape.{Shape}
 use Rattle.pin_store.specs.Layout.{block_words, block_in}
 use Rattle.pin_store.specs.Calls.{IsUnnamed}
@@ -84,12 +85,12 @@ module _ (shape : Shape) (cells : List ℕ) (size bucket : ℕ) where
   chain_different (p ∷ ps) are = distinct_append (p.block ∷ []) (blocks_of ps) (tt, tt) (chain_different ps are.1)
       (λ x one more. never p.block (suc (length ps)) (λ qs filed e. same_length qs (p ∷ ps) filed are e) ps are.1 (omega arith) (subst (λ (n : ℕ). IsIn n (blocks_of ps)) (one_in x p.block one) more))
 
-  pub chain_small : (ps : List Placed) → Filed ps → (x : ℕ) → IsIn x (blocks_of ps) → x < 16384
+  pub chain_small : (ps : List Placed) → Filed ps → (x : ℕ) → IsIn x (blocks_of ps) → x < POOL_BLOCKS
   chain_small [] are x at = let e = at.1 in absurd (cc e)
   chain_small (p ∷ ps) are x at = walk at.0 at.1 (λ m. chain_small ps are.1 x m)
     where
-      walk : (place : ℕ) → slice_get (p.block ∷ blocks_of ps) place ≡ Some x → (IsIn x (blocks_of ps) → x < 16384) → x < 16384
-      walk zero e rest = let same : p.block ≡ x = cc e in subst (λ (n : ℕ). n < 16384) same are.0.pool
+      walk : (place : ℕ) → slice_get (p.block ∷ blocks_of ps) place ≡ Some x → (IsIn x (blocks_of ps) → x < POOL_BLOCKS) → x < POOL_BLOCKS
+      walk zero e rest = let same : p.block ≡ x = cc e in subst (λ (n : ℕ). n < POOL_BLOCKS) same are.0.pool
       walk (suc place) e rest = rest (place, e)
 
 -- ---- filters laid into given blocks
@@ -202,7 +203,7 @@ module _ (h : List (Commit Edit)) (c : Commit Edit) (given : List ℕ) (ps : Lis
         pick false e = let away = eqb-false c.root r e in
             away (one c.root r x (out_had x at) (has.0, has.1, sym (ap (λ (m : Named). slice_get m.chain has.0) (root_other h c r away)) ∙ has.2, has.3))
 
-    pub laid_out : ((x : ℕ) → IsIn x (chain_blocks old_chain) → x < 16384) → HaveOneRoot h → AreOut (h ++ c ∷ []) out
+    pub laid_out : ((x : ℕ) → IsIn x (chain_blocks old_chain) → x < POOL_BLOCKS) → HaveOneRoot h → AreOut (h ++ c ∷ []) out
     laid_out small one = record {
       different = distinct_first out (chain_blocks (drop n old_chain)) in_parts;
       small = λ x at. let has = out_had x at in small x (has.0, got_map old_chain has.0 has.1 has.2 ∙ ap Some has.3);

@@ -13,7 +13,7 @@ use Rattle.mask_table.specs.Buckets.{IsAmong, bucket_for, bucket_of}
 use Rattle.mask_table.specs.OfMirrors.Changing.{HasNone}
 use Rattle.hook_law.specs.Records.{StatedFilter}
 use Rattle.hook_law.specs.Chains as chains
-use Rattle.hook_meaning.specs.Told.{with_slots}
+use Rattle.hook_store_law.specs.Told.{with_slots}
 use Rattle.hook_store_law.specs.OfEdits.Premises.{HaveOthers}
 
 -- ---- one more behind

@@ -22,8 +22,8 @@ use Rattle.hook_law.specs.Records.{Slotted, TableRecord}
 use Rattle.hook_law.specs.Chains.{masks_in, masks_read}
 use Rattle.hook_law.specs.Standing.{IsIn, Names}
 use Rattle.hook_law.specs.Telling.{ReadsHead}
-use Rattle.hook_meaning.specs.Stated.{TableNames, hook_meaning, tables_at}
-use Rattle.hook_meaning.specs.Blocks.{hook_codec, mask_slotted, table_record}
+use Rattle.hook_store_law.specs.Stated.{TableNames, hook_meaning, tables_at}
+use Rattle.hook_store_law.specs.Blocks.{hook_codec, mask_slotted, table_record}
 use Rattle.root_pool_laws.proofs.Apart.{in_append, in_left, in_right}
 use Rattle.desk_masks.specs.OfHeadChains.Chains.{stated_of, FitsTable, IsNamedIn}
 

@@ -8,10 +8,10 @@ use Rattle.filter_state.specs.Actions.{has_serial}
 use Rattle.filter_state.specs.Tables.{first_where}
 use Rattle.filter_state.specs.Order.{of_mask}
 use Rattle.filter_state.specs.Sound.{Each, IsRow, Sound}
-use Rattle.hook_meaning.specs.OfEffects.Parts.{filter_of}
+use Rattle.hook_store_law.specs.OfEffects.Parts.{filter_of}
 use Rattle.hook_law.specs.Records.{StatedFilter}
 use Rattle.hook_law.specs.Meaning.{IsLive}
-use Rattle.hook_meaning.specs.Stated.{hook_meaning, action_stated, filters_at, filter_stated}
+use Rattle.hook_store_law.specs.Stated.{hook_meaning, action_stated, filters_at, filter_stated}
 
 -- an action that a filter names is live
 found_live : (serial : ℕ) (actions : List Action) → list_any (has_serial serial) actions ≡ true → option_map action_stated (first_where (has_serial serial) actions) ≢ None

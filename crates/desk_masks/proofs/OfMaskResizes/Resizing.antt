@@ -13,6 +13,7 @@ use Rattle.std.proofs.lemmas.Option.{get_or_from_slice_get, slice_get_within}
 use Rattle.store_history.specs.declared.history.Commit.{Commit}
 use Rattle.store_history.specs.declared.history.Link.{Link}
 use Rattle.store_history.specs.Reads.{in_front, read_all, read_first}
+use Rattle.store_history.specs.declared.places.TheConstants.{ROW_BUCKETS, BUCKET_ROOTS}
 use Rattle.visit_room.specs.declared.names.ActionName.{ActionName}
 use Rattle.flow_mask.specs.Hashes.{hash_of}
 use Rattle.filter_state.specs.declared.edit.Edit.{Edit}
@@ -39,10 +40,10 @@ use Rattle.hook_law.specs.Unnumbered.{HaveOwnRoots, Spares, SparesAll, FillsBuck
 use Rattle.hook_law.proofs.Standing.{present_end}
 use Rattle.hook_law.proofs.Slots.{slot_is}
 use Rattle.hook_law.proofs.Whole.{whole_keeps, part_keeps}
-use Rattle.hook_meaning.specs.Stated.{hook_meaning, filters_at}
-use Rattle.hook_meaning.specs.Blocks.{action_slotted, mask_record, filter_record, hook_codec}
-use Rattle.hook_meaning.specs.Told.{action_name, with_slots}
-use Rattle.hook_meaning.proofs.States.{state_is, sound_after}
+use Rattle.hook_store_law.specs.Stated.{hook_meaning, filters_at}
+use Rattle.hook_store_law.specs.Blocks.{action_slotted, mask_record, filter_record, hook_codec}
+use Rattle.hook_store_law.specs.Told.{action_name, with_slots}
+use Rattle.hook_store_law.proofs.States.{state_is, sound_after}
 use Rattle.desk_masks.proofs.OfMaskResizes.Living.{all_live}
 use Rattle.desk_masks.specs.OfMaskResizes.Resized.{stored_now, CanResize}
 
@@ -227,7 +228,7 @@ module _ (h : List (Commit Edit)) (b slot : ℕ) (mask : StoredMask) (given : Li
       place = k;
       commit = commit k;
       there = range_has commit 0 mask.size k less ∙ ap (λ (n : ℕ). Some (commit n)) (omega arith);
-      root = ap (λ (r : ℕ). 10243 + 16 * r + k % 16) (get_or_from_slice_get mask.rows (k / 16) group 0 there);
+      root = ap (λ (r : ℕ). BUCKET_ROOTS + ROW_BUCKETS * r + k % 16) (get_or_from_slice_get mask.rows (k / 16) group 0 there);
       fills = fills k;
     };
     distinct = distinct;

@@ -27,10 +27,10 @@ use Rattle.hook_law.proofs.Standing.{mask_back, slot_longer}
 use Rattle.hook_law.proofs.Sparing.{spares_keep}
 use Rattle.hook_law.proofs.Growing.{edits_still}
 use Rattle.hook_law.proofs.Resting.{whole_rests}
-use Rattle.hook_meaning.specs.Stated.{hook_meaning, filters_at}
-use Rattle.hook_meaning.specs.Blocks.{hook_codec}
-use Rattle.hook_meaning.specs.Told.{with_slots}
-use Rattle.hook_meaning.proofs.States.{state_is, sound_after}
+use Rattle.hook_store_law.specs.Stated.{hook_meaning, filters_at}
+use Rattle.hook_store_law.specs.Blocks.{hook_codec}
+use Rattle.hook_store_law.specs.Told.{with_slots}
+use Rattle.hook_store_law.proofs.States.{state_is, sound_after}
 use Rattle.hook_store_law.specs.Kept.{KeepsHook, IsKeptAt}
 use Rattle.desk_masks.specs.Masks.{HasMask, HasMasks}
 use Rattle.desk_masks.proofs.Slotting.{stored_stay}

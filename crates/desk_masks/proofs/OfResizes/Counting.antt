@@ -18,8 +18,8 @@ use Rattle.mask_writer.specs.Masks.{Masks}
 use Rattle.mask_writer.specs.Standing.{StandsAt}
 use Rattle.desk_masks.specs.OfMaskResizes.Resized.{stored_now}
 use Rattle.hook_law.specs.Meaning.{now_of}
-use Rattle.hook_meaning.specs.Stated.{hook_meaning, filters_at}
-use Rattle.hook_meaning.specs.Told.{with_slots}
+use Rattle.hook_store_law.specs.Stated.{hook_meaning, filters_at}
+use Rattle.hook_store_law.specs.Told.{with_slots}
 use Rattle.desk_masks.specs.Masks.{HasMasks}
 use Rattle.desk_masks.proofs.OfFilterCommits.Locating.{home_less, bucket_reads}
 

@@ -9,6 +9,7 @@ use Rattle.std.proofs.lemmas.Nat.{mod_below}
 use Rattle.store_history.specs.declared.history.Commit.{Commit}
 use Rattle.store_history.specs.History.{root_of, edits_of}
 use Rattle.store_history.proofs.Lists.{get_take, some_is}
+use Rattle.store_history.specs.declared.places.TheConstants.{ROW_BUCKETS, BUCKET_ROOTS}
 use Rattle.pin_store.specs.declared.shape.Shape.{Shape}
 use Rattle.filter_state.specs.declared.edit.Edit.{Edit}
 use Rattle.block_codec.specs.declared.mask.StoredMask.{StoredMask}
@@ -33,12 +34,12 @@ use Rattle.hook_law.specs.Telling.{ReadsMask}
 use Rattle.hook_law.specs.Keeping.{Keeps}
 use Rattle.hook_law.specs.Unnumbered.{HaveOwnRoots, ResizesWhole}
 use Rattle.hook_law.proofs.Standing.{present_end, unused_end}
-use Rattle.hook_meaning.specs.Stated.{hook_meaning, filters_at}
-use Rattle.hook_meaning.specs.Blocks.{mask_record, hook_codec}
-use Rattle.hook_meaning.specs.Told.{with_slots}
-use Rattle.hook_meaning.proofs.Reading.{first_maps}
+use Rattle.hook_store_law.specs.Stated.{hook_meaning, filters_at}
+use Rattle.hook_store_law.specs.Blocks.{mask_record, hook_codec}
+use Rattle.hook_store_law.specs.Told.{with_slots}
+use Rattle.hook_store_law.proofs.Reading.{first_maps}
 use Rattle.hook_store_law.specs.Kept.{KeepsHook}
-use Rattle.hook_meaning.specs.OfEffects.Parts.{words_of}
+use Rattle.hook_store_law.specs.OfEffects.Parts.{words_of}
 use Rattle.desk_masks.specs.Masks.{HasMask}
 use Rattle.desk_masks.proofs.Going.{bucket_stands}
 use Rattle.desk_masks.specs.OfResizes.Refit.{MayRefit, IsOfRefit}
@@ -124,9 +125,9 @@ module _ (masks : Masks) (shape : Shape) (cells : List ℕ) (h : List (Commit Ed
           let same : slice_index k.mask.rows (16 * in_old.0 / 16) ≡ at_row = ap (slice_index k.mask.rows) (sixteenth in_old.0) ∙ get_or_from_slice_get k.mask.rows in_old.0 at_row 0 in_old.1 in
           let bucket : BucketOf masks (bucket_root k.mask (16 * in_old.0)) = record { slot = other; bucket = 16 * in_old.0; kept = k; stands = stands; within = omega (arith, many, within); same = refl } in
           let stood = bucket_stands masks shape cells h m.has (bucket_root k.mask (16 * in_old.0)) bucket in
-          let root : bucket_root k.mask (16 * in_old.0) ≡ 10243 + 16 * at_row + 0 = omega (arith, same) in
+          let root : bucket_root k.mask (16 * in_old.0) ≡ BUCKET_ROOTS + ROW_BUCKETS * at_row + 0 = omega (arith, same) in
           let role : Role = Bucket (region_of other k.mask.serial (root_of h (places.mask_root other)).stamp (mask_record k.mask)) (16 * in_old.0) in
-          unused_end hook_meaning hook_codec h b (10243 + 16 * at_row + 0) role m.kept_at.low (m.rows_are.free at_row in_new 0 (omega arith)) (subst (λ (r : ℕ). Stands hook_meaning hook_codec h r role) root stood)
+          unused_end hook_meaning hook_codec h b (BUCKET_ROOTS + ROW_BUCKETS * at_row + 0) role m.kept_at.low (m.rows_are.free at_row in_new 0 (omega arith)) (subst (λ (r : ℕ). Stands hook_meaning hook_codec h r role) root stood)
 
   module _ (blk : ℕ) where
     abbrev pub ps : List Placed

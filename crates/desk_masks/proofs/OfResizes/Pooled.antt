@@ -12,6 +12,7 @@ use Rattle.store_history.specs.declared.history.Named.{Named}
 use Rattle.store_history.specs.declared.history.Commit.{Commit}
 use Rattle.store_history.specs.History.{root_of}
 use Rattle.store_history.proofs.Histories.{root_own}
+use Rattle.store_history.specs.declared.places.TheConstants.{MASK_SLOTS, ACTION_SLOTS, ROWS, ROW_BUCKETS, MASK_ROOTS, ACTION_ROOTS, BUCKET_ROOTS, POOL_BLOCKS}
 use Rattle.pin_store.specs.declared.shape.Shape.{Shape}
 use Rattle.pin_store.specs.Layout.{block_words}
 use Rattle.pin_store.specs.Calls.{IsUnnamed}
@@ -31,9 +32,9 @@ use Rattle.hook_law.specs.Unnumbered.{ResizesWhole}
 use Rattle.hook_law.specs.Coming.{IsBucketOf}
 use Rattle.hook_law.proofs.Standing.{present_end, unused_end}
 use Rattle.hook_law.proofs.Whole.{whole_comes}
-use Rattle.hook_meaning.specs.Stated.{hook_meaning, filters_at}
-use Rattle.hook_meaning.specs.Blocks.{mask_record, hook_codec}
-use Rattle.hook_meaning.specs.Told.{with_slots}
+use Rattle.hook_store_law.specs.Stated.{hook_meaning, filters_at}
+use Rattle.hook_store_law.specs.Blocks.{mask_record, hook_codec}
+use Rattle.hook_store_law.specs.Told.{with_slots}
 use Rattle.desk_pools.specs.OfNumbers.Numbers.{PoolNumbers}
 use Rattle.root_pool_laws.specs.Blocks.{IsBlockOf, HasBlock, IsLeft}
 use Rattle.root_pool_laws.specs.Pools.{IsPool}
@@ -119,7 +120,7 @@ module _ (masks : Masks) (shape : Shape) (cells : List ℕ) (h : List (Commit Ed
   is_free : (x : ℕ) → IsIn x blocks → IsUnnamed b h x
   is_free x at = m.blocks_are.free at.0 x at.1
 
-  is_low : (x : ℕ) → IsIn x blocks → x < 16384
+  is_low : (x : ℕ) → IsIn x blocks → x < POOL_BLOCKS
   is_low x at = m.blocks_are.pool at.0 x at.1
 
   laid : (j place : ℕ) (c : Commit Edit) (l : Link) → slice_get c_s j ≡ Some c → slice_get c.named.chain place ≡ Some l → IsLaid blocks fs size j l
@@ -148,13 +149,13 @@ module _ (masks : Masks) (shape : Shape) (cells : List ℕ) (h : List (Commit Ed
 
   -- the root is that of a bucket of the new rows
   abbrev New : ℕ → Type 0
-  New r = (row : ℕ) × (place : ℕ) × IsIn row rows × (place < 16) × (r ≡ 10243 + 16 * row + place)
+  New r = (row : ℕ) × (place : ℕ) × IsIn row rows × (place < 16) × (r ≡ BUCKET_ROOTS + ROW_BUCKETS * row + place)
 
   comes : (r : ℕ) (x : Role) → Stands hook_meaning hook_codec after r x
-      → Stands hook_meaning hook_codec h r x ⊎ ((row : ℕ) × (place : ℕ) × IsIn row rows × (place < 16) × (r ≡ 10243 + 16 * row + place))
+      → Stands hook_meaning hook_codec h r x ⊎ ((row : ℕ) × (place : ℕ) × IsIn row rows × (place < 16) × (r ≡ BUCKET_ROOTS + ROW_BUCKETS * row + place))
   comes r x s = sort (whole_comes hook_meaning hook_codec h c_s b la w low m.kept_at.keeps.law r x s)
     where
-      sort : Stands hook_meaning hook_codec h r x ⊎ IsBucketOf w.mask (region_of w.slot w.serial la.named.stamp w.mask) r x → Stands hook_meaning hook_codec h r x ⊎ ((row : ℕ) × (place : ℕ) × IsIn row rows × (place < 16) × (r ≡ 10243 + 16 * row + place))
+      sort : Stands hook_meaning hook_codec h r x ⊎ IsBucketOf w.mask (region_of w.slot w.serial la.named.stamp w.mask) r x → Stands hook_meaning hook_codec h r x ⊎ ((row : ℕ) × (place : ℕ) × IsIn row rows × (place < 16) × (r ≡ BUCKET_ROOTS + ROW_BUCKETS * row + place))
       sort (inl before) = inl before
       sort (inr n) = let same = ap (λ (q : MaskRecord). q.rows) (its_mask masks shape cells h b point slot size blocks rows m blk) in let small : n.k % 16 < 16 = mod_below n.k 16 (omega arith) in
           inr (n.row, n.k % 16, (n.k / 16, sym (ap (λ (l : List ℕ). slice_get l (n.k / 16)) same) ∙ n.there), small, n.root)
@@ -169,7 +170,7 @@ module _ (masks : Masks) (shape : Shape) (cells : List ℕ) (h : List (Commit Ed
       (pools_commit pools (h ++ c_s) b la (blk ∷ []) (let l = length-append h c_s in let first_low = low in omega (arith, l, first_low)) first_pools (record {
         spends = λ place l at. spent_one place l at;
         free = λ x at. subst (IsUnnamed b (h ++ c_s)) (sym (one_in x blk at)) (unnamed_last c_s h b blk low (λ j place c l e there. not_record j place c l e there) (is_free blk (length fs, blk_there)));
-        small = λ x at. subst (λ (n : ℕ). n < 16384) (sym (one_in x blk at)) (is_low blk (length fs, blk_there));
+        small = λ x at. subst (λ (n : ℕ). n < POOL_BLOCKS) (sym (one_in x blk at)) (is_low blk (length fs, blk_there));
         taken = λ x at in_. blocks_apart blk (length fs, blk_there) (subst (λ (n : ℕ). IsInPool n pools.blocks) (one_in x blk at) in_);
         masks = λ s in_ x stands_. absurd (mask_slot s in_ x (comes (places.mask_root s) x stands_));
         actions = λ s in_ x stands_. absurd (action_slot s in_ x (comes (places.action_root s) x stands_));
@@ -184,28 +185,28 @@ module _ (masks : Masks) (shape : Shape) (cells : List ℕ) (h : List (Commit Ed
       spent_one (suc place) l e = absurd (cc e)
 
       mask_slot : (s : ℕ) → IsInPool s pools.masks → (x : Role) → Stands hook_meaning hook_codec h (places.mask_root s) x ⊎ New (places.mask_root s) → ⊥
-      mask_slot s in_ x (inl before) = let root : places.mask_root s ≡ 3 + 1 * s + 0 = omega arith in nothing_at 3 1 pools.masks 8192 s 0 p.masks in_ (omega arith) x (subst (λ (r : ℕ). Stands hook_meaning hook_codec h r x) root before)
+      mask_slot s in_ x (inl before) = let root : places.mask_root s ≡ MASK_ROOTS + 1 * s + 0 = omega arith in nothing_at MASK_ROOTS 1 pools.masks MASK_SLOTS s 0 p.masks in_ (omega arith) x (subst (λ (r : ℕ). Stands hook_meaning hook_codec h r x) root before)
       mask_slot s in_ x (inr new) = let root = new.4 in let small = mask_low s in_ in omega (arith, root, small)
         where
-          mask_low : (n : ℕ) → IsInPool n pools.masks → n < 8192
+          mask_low : (n : ℕ) → IsInPool n pools.masks → n < MASK_SLOTS
           mask_low n (inl at) = let all = in_left pools.masks.free pools.masks.left n at in p.masks.small all.0 n all.1
           mask_low n (inr at) = let all = in_right pools.masks.free pools.masks.left n at in p.masks.small all.0 n all.1
 
       action_slot : (s : ℕ) → IsInPool s pools.actions → (x : Role) → Stands hook_meaning hook_codec h (places.action_root s) x ⊎ New (places.action_root s) → ⊥
-      action_slot s in_ x (inl before) = let root : places.action_root s ≡ 8195 + 1 * s + 0 = omega arith in nothing_at 8195 1 pools.actions 2048 s 0 p.actions in_ (omega arith) x (subst (λ (r : ℕ). Stands hook_meaning hook_codec h r x) root before)
+      action_slot s in_ x (inl before) = let root : places.action_root s ≡ ACTION_ROOTS + 1 * s + 0 = omega arith in nothing_at ACTION_ROOTS 1 pools.actions ACTION_SLOTS s 0 p.actions in_ (omega arith) x (subst (λ (r : ℕ). Stands hook_meaning hook_codec h r x) root before)
       action_slot s in_ x (inr new) = let root = new.4 in let small = action_low s in_ in omega (arith, root, small)
         where
-          action_low : (n : ℕ) → IsInPool n pools.actions → n < 2048
+          action_low : (n : ℕ) → IsInPool n pools.actions → n < ACTION_SLOTS
           action_low n (inl at) = let all = in_left pools.actions.free pools.actions.left n at in p.actions.small all.0 n all.1
           action_low n (inr at) = let all = in_right pools.actions.free pools.actions.left n at in p.actions.small all.0 n all.1
 
       row_at : (row place : ℕ) → IsInPool row pools.rows → place < 16 → (x : Role) → Stands hook_meaning hook_codec h (places.bucket_root row place) x ⊎ New (places.bucket_root row place) → ⊥
-      row_at row place in_ less x (inl before) = nothing_at 10243 16 pools.rows 8192 row place p.rows in_ less x before
+      row_at row place in_ less x (inl before) = nothing_at BUCKET_ROOTS ROW_BUCKETS pools.rows ROWS row place p.rows in_ less x before
       row_at row place in_ less x (inr new) = let root = new.4 in let small = new.3 in let same : row ≡ new.0 = omega (arith, root, small, less) in
           rows_apart new.0 new.2 (subst (λ (n : ℕ). IsInPool n pools.rows) same in_)
 
   -- ---- what the mask had
-  old_bucket : (at_row j : ℕ) → IsIn at_row m.kept.mask.rows → j < 16 → BucketOf masks (10243 + 16 * at_row + j)
+  old_bucket : (at_row j : ℕ) → IsIn at_row m.kept.mask.rows → j < 16 → BucketOf masks (BUCKET_ROOTS + ROW_BUCKETS * at_row + j)
   old_bucket at_row j at less = record {
     slot = slot;
     bucket = 16 * at.0 + j;
@@ -224,27 +225,27 @@ module _ (masks : Masks) (shape : Shape) (cells : List ℕ) (h : List (Commit Ed
       row_is : slice_index m.kept.mask.rows ((16 * at.0 + j) / 16) ≡ at_row
       row_is = ap (slice_index m.kept.mask.rows) whole_part ∙ get_or_from_slice_get m.kept.mask.rows at.0 at_row 0 at.1
 
-      root_is : 10243 + 16 * at_row + j ≡ bucket_root m.kept.mask (16 * at.0 + j)
+      root_is : BUCKET_ROOTS + ROW_BUCKETS * at_row + j ≡ bucket_root m.kept.mask (16 * at.0 + j)
       root_is = let a = row_is in let c = rest_part in omega (arith, a, c)
 
   abbrev role_of : ℕ → Role
   role_of kk = Bucket (region_of slot m.kept.mask.serial (root_of h (places.mask_root slot)).stamp (mask_record m.kept.mask)) kk
 
-  old_stands : (row j : ℕ) (at : IsIn row m.kept.mask.rows) (less : j < 16) → Stands hook_meaning hook_codec h (10243 + 16 * row + j) (role_of (16 * at.0 + j))
+  old_stands : (row j : ℕ) (at : IsIn row m.kept.mask.rows) (less : j < 16) → Stands hook_meaning hook_codec h (BUCKET_ROOTS + ROW_BUCKETS * row + j) (role_of (16 * at.0 + j))
   unfolding old_bucket
-  old_stands row j at less = bucket_stands masks shape cells h m.has (10243 + 16 * row + j) (old_bucket row j at less)
+  old_stands row j at less = bucket_stands masks shape cells h m.has (BUCKET_ROOTS + ROW_BUCKETS * row + j) (old_bucket row j at less)
 
   slot_named : root_of after (places.mask_root slot) ≡ la.named
   slot_named = root_own (h ++ c_s) la
 
-  old_goes : (row : ℕ) → IsIn row m.kept.mask.rows → IsLeftAt after 10243 16 row
-  old_goes row at j less x s = sort (comes (10243 + 16 * row + j) x s)
+  old_goes : (row : ℕ) → IsIn row m.kept.mask.rows → IsLeftAt after BUCKET_ROOTS ROW_BUCKETS row
+  old_goes row at j less x s = sort (comes (BUCKET_ROOTS + ROW_BUCKETS * row + j) x s)
     where
-      sort : Stands hook_meaning hook_codec h (10243 + 16 * row + j) x ⊎ ((other : ℕ) × (place : ℕ) × IsIn other rows × (place < 16) × (10243 + 16 * row + j ≡ 10243 + 16 * other + place)) → ⊥
+      sort : Stands hook_meaning hook_codec h (BUCKET_ROOTS + ROW_BUCKETS * row + j) x ⊎ ((other : ℕ) × (place : ℕ) × IsIn other rows × (place < 16) × (BUCKET_ROOTS + ROW_BUCKETS * row + j ≡ BUCKET_ROOTS + ROW_BUCKETS * other + place)) → ⊥
       sort (inr new) = let root = new.4 in let small = new.3 in let same : row ≡ new.0 = omega (arith, root, small, less) in
           (all_free masks shape cells h b point slot size blocks rows m).free slot row m.kept m.stands at (subst (λ (n : ℕ). IsIn n rows) (sym same) new.2)
-      sort (inl before) = let one = (present_end hook_meaning hook_codec h b low m.kept_at.keeps.law).apart (10243 + 16 * row + j) x (role_of (16 * at.0 + j)) before (old_stands row j at less) in
-          let it : Stands hook_meaning hook_codec after (10243 + 16 * row + j) (role_of (16 * at.0 + j)) = subst (Stands hook_meaning hook_codec after (10243 + 16 * row + j)) one s in
+      sort (inl before) = let one = (present_end hook_meaning hook_codec h b low m.kept_at.keeps.law).apart (BUCKET_ROOTS + ROW_BUCKETS * row + j) x (role_of (16 * at.0 + j)) before (old_stands row j at less) in
+          let it : Stands hook_meaning hook_codec after (BUCKET_ROOTS + ROW_BUCKETS * row + j) (role_of (16 * at.0 + j)) = subst (Stands hook_meaning hook_codec after (BUCKET_ROOTS + ROW_BUCKETS * row + j)) one s in
           let stamped = it.1.stamped in let now_ = ap (λ (n : Named). n.stamp) slot_named in let old = m.older in let is = m.kept_at.point_is in omega (arith, stamped, now_, old, is)
 
   rows_differ : IsDistinct eqb m.kept.mask.rows
@@ -259,18 +260,18 @@ module _ (masks : Masks) (shape : Shape) (cells : List ℕ) (h : List (Commit Ed
           clash i j d less within same =
               let first : IsIn (get_or m.kept.mask.rows i d) m.kept.mask.rows = (i, slice_get-get_or m.kept.mask.rows i d (omega (arith, less, within))) in
               let other : IsIn (get_or m.kept.mask.rows i d) m.kept.mask.rows = (j, slice_get-get_or m.kept.mask.rows j d within ∙ ap Some (sym same)) in
-              let both = m.has.named.apart (10243 + 16 * get_or m.kept.mask.rows i d + 0) (old_bucket (get_or m.kept.mask.rows i d) 0 first (omega arith)) (old_bucket (get_or m.kept.mask.rows i d) 0 other (omega arith)) in
+              let both = m.has.named.apart (BUCKET_ROOTS + ROW_BUCKETS * get_or m.kept.mask.rows i d + 0) (old_bucket (get_or m.kept.mask.rows i d) 0 first (omega arith)) (old_bucket (get_or m.kept.mask.rows i d) 0 other (omega arith)) in
               let same_bucket : 16 * i + 0 ≡ 16 * j + 0 = both.1 in omega (arith, same_bucket, less)
 
-  pub rows_leave : MayLeave 8192 (IsLeftAt after 10243 16) pools.rows m.kept.mask.rows
+  pub rows_leave : MayLeave ROWS (IsLeftAt after BUCKET_ROOTS ROW_BUCKETS) pools.rows m.kept.mask.rows
   rows_leave = record {
     different = rows_differ;
     small = λ row at. low_row row at;
     left = λ row at. old_goes row at;
-    apart = λ at_row at in_. nothing_at 10243 16 pools.rows 8192 at_row 0 p.rows in_ (omega arith) (role_of (16 * at.0 + 0)) (old_stands at_row 0 at (omega arith));
+    apart = λ at_row at in_. nothing_at BUCKET_ROOTS ROW_BUCKETS pools.rows ROWS at_row 0 p.rows in_ (omega arith) (role_of (16 * at.0 + 0)) (old_stands at_row 0 at (omega arith));
   }
     where
-      low_row : (at_row : ℕ) → IsIn at_row m.kept.mask.rows → at_row < 8192
+      low_row : (at_row : ℕ) → IsIn at_row m.kept.mask.rows → at_row < ROWS
       low_row at_row at = let s = old_stands at_row 0 at (omega arith) in let small = s.1.small in let root = s.2 in omega (arith, small, root)
 
   -- a block that a root named before is in no commit
@@ -335,7 +336,7 @@ module _ (masks : Masks) (shape : Shape) (cells : List ℕ) (h : List (Commit Ed
       go zero e = let same : m.kept.block ≡ x = cc e in inl (sym same)
       go (suc place) e = inr (place, e)
 
-  pub blocks_leave : (gone : Pools) → ((row : ℕ) → IsIn row m.kept.mask.rows → IsIn row gone.rows.left) → MayLeave 16384 (IsLeft (gone_roots gone) after) pools.blocks leaving
+  pub blocks_leave : (gone : Pools) → ((row : ℕ) → IsIn row m.kept.mask.rows → IsIn row gone.rows.left) → MayLeave POOL_BLOCKS (IsLeft (gone_roots gone) after) pools.blocks leaving
   unfolding IsDistinct bucket_at old_at
   blocks_leave gone rows_gone = record {
     different = distinct_append (m.kept.block ∷ []) (bucket_blocks (root_of h) m.kept.mask m.kept.mask.size) (tt, tt) buckets_differ (λ x one later. apart_record x (one_in x m.kept.block one) (old_at x later));
@@ -348,7 +349,7 @@ module _ (masks : Masks) (shape : Shape) (cells : List ℕ) (h : List (Commit Ed
       apart_record x is o = let same = p.one_root (mask_root slot) (bucket_root m.kept.mask o.kk) x (subst (HasBlock h (mask_root slot)) (sym is) record_has) o.has in
           let small = (m.has.named.masks slot m.kept m.stands).small in omega (arith, same, small)
 
-      small_each : (x : ℕ) → (x ≡ m.kept.block) ⊎ IsIn x (bucket_blocks (root_of h) m.kept.mask m.kept.mask.size) → x < 16384
+      small_each : (x : ℕ) → (x ≡ m.kept.block) ⊎ IsIn x (bucket_blocks (root_of h) m.kept.mask m.kept.mask.size) → x < POOL_BLOCKS
       small_each x (inl is) = let first_low = (m.has.named.masks slot m.kept m.stands).low in omega (arith, is, first_low)
       small_each x (inr at) = let o = old_at x at in small_at h masks shape cells m.has slot m.kept m.stands o.kk o.less x (block_in (root_of h (bucket_root m.kept.mask o.kk)).chain o.has)
         where
@@ -382,8 +383,8 @@ module _ (masks : Masks) (shape : Shape) (cells : List ℕ) (h : List (Commit Ed
           let same : r ≡ bucket_root m.kept.mask o.kk = p.one_root r (bucket_root m.kept.mask o.kk) x (stays x r (bucket_root m.kept.mask o.kk) o.has has) o.has in
           let is = mask_storable masks shape cells (root_of h) m.has.named slot m.kept m.stands in let long = is.rows in let inner = o.less in
           let row : ℕ = slice_index m.kept.mask.rows (o.kk / 16) in let row_there : IsIn row m.kept.mask.rows = (o.kk / 16, slice_get-get_or m.kept.mask.rows (o.kk / 16) 0 (omega (arith, long, inner))) in
-          in_right (roots_of 3 1 gone.masks.left ++ roots_of 8195 1 gone.actions.left) (roots_of 10243 16 gone.rows.left) r
-          (subst (λ (n : ℕ). IsIn n (roots_of 10243 16 gone.rows.left)) (sym same) (roots_have 10243 16 gone.rows.left row (o.kk % 16) (rows_gone row row_there) (mod_below o.kk 16 (omega arith))))
+          in_right (roots_of MASK_ROOTS 1 gone.masks.left ++ roots_of ACTION_ROOTS 1 gone.actions.left) (roots_of BUCKET_ROOTS ROW_BUCKETS gone.rows.left) r
+          (subst (λ (n : ℕ). IsIn n (roots_of BUCKET_ROOTS ROW_BUCKETS gone.rows.left)) (sym same) (roots_have BUCKET_ROOTS ROW_BUCKETS gone.rows.left row (o.kk % 16) (rows_gone row row_there) (mod_below o.kk 16 (omega arith))))
 
   abbrev seen : List (Commit Edit)
   seen = h ++ more masks shape cells h b point slot size blocks rows m blk
@@ -391,8 +392,8 @@ module _ (masks : Masks) (shape : Shape) (cells : List ℕ) (h : List (Commit Ed
   same_seen : after ≡ seen
   same_seen = append_assoc h c_s (la ∷ [])
 
-  pub rows_leave_seen : MayLeave 8192 (IsLeftAt seen 10243 16) pools.rows m.kept.mask.rows
-  rows_leave_seen = subst (λ (z : List (Commit Edit)). MayLeave 8192 (IsLeftAt z 10243 16) pools.rows m.kept.mask.rows) same_seen rows_leave
+  pub rows_leave_seen : MayLeave ROWS (IsLeftAt seen BUCKET_ROOTS ROW_BUCKETS) pools.rows m.kept.mask.rows
+  rows_leave_seen = subst (λ (z : List (Commit Edit)). MayLeave ROWS (IsLeftAt z BUCKET_ROOTS ROW_BUCKETS) pools.rows m.kept.mask.rows) same_seen rows_leave
 
-  pub blocks_leave_seen : (gone : Pools) → ((row : ℕ) → IsIn row m.kept.mask.rows → IsIn row gone.rows.left) → MayLeave 16384 (IsLeft (gone_roots gone) seen) pools.blocks leaving
-  blocks_leave_seen gone rows_gone = subst (λ (z : List (Commit Edit)). MayLeave 16384 (IsLeft (gone_roots gone) z) pools.blocks leaving) same_seen (blocks_leave gone rows_gone)
+  pub blocks_leave_seen : (gone : Pools) → ((row : ℕ) → IsIn row m.kept.mask.rows → IsIn row gone.rows.left) → MayLeave POOL_BLOCKS (IsLeft (gone_roots gone) seen) pools.blocks leaving
+  blocks_leave_seen gone rows_gone = subst (λ (z : List (Commit Edit)). MayLeave POOL_BLOCKS (IsLeft (gone_roots gone) z) pools.blocks leaving) same_seen (blocks_leave gone rows_gone)

@@ -4,11 +4,11 @@ use Rattle.std.specs.Prelude.{ℕ, ◌<◌, List, eqb}
 use Rattle.std.specs.List.{IsDistinct}
 use Rattle.store_history.specs.declared.history.Commit.{Commit}
 use Rattle.filter_state.specs.declared.edit.Edit.{Edit}
-use Rattle.block_codec.specs.declared.places.TheConstants.{POOL_BLOCKS}
+use Rattle.store_history.specs.declared.places.TheConstants.{POOL_BLOCKS}
 use Rattle.hook_law.specs.Meaning.{IsLive}
 use Rattle.hook_law.specs.Standing.{IsIn, IsSlotOf}
-use Rattle.hook_meaning.specs.Stated.{hook_meaning}
-use Rattle.hook_meaning.specs.Blocks.{hook_codec}
+use Rattle.hook_store_law.specs.Stated.{hook_meaning}
+use Rattle.hook_store_law.specs.Blocks.{hook_codec}
 use Rattle.hook_store_law.specs.OfEdits.Premises.{now, next}
 use Rattle.root_pool_laws.specs.Blocks.{HasBlock}
 use Rattle.desk_pools.specs.declared.pools.Pools.{Pools}

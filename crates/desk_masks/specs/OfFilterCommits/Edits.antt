@@ -12,7 +12,7 @@ use Rattle.filter_state.specs.declared.refusal.Done.{Done}
 use Rattle.filter_state.specs.declared.refusal.Done.TheVariants as dones
 use Rattle.filter_state.specs.States.{Row, State}
 use Rattle.filter_state.specs.Tables.{mask_row, filter_row}
-use Rattle.hook_meaning.specs.OfEffects.Parts.{Stands}
+use Rattle.hook_store_law.specs.OfEffects.Parts.{Stands}
 use Rattle.block_codec.specs.declared.filter.StoredFilter.{StoredFilter}
 use Rattle.mask_order.specs.Fitting.{FitsBlock}
 use Rattle.hook_law.specs.Records.{Slotted, StatedFilter, stated_filter}
@@ -20,8 +20,8 @@ use Rattle.hook_law.specs.Chains.{bucket_of}
 use Rattle.hook_law.specs.Standing.{IsIn, IsMaskAt, IsSlotOf}
 use Rattle.hook_law.specs.Keeping.{IsAtRest}
 use Rattle.hook_law.specs.Numbered.{PutsActions}
-use Rattle.hook_meaning.specs.Stated.{hook_meaning}
-use Rattle.hook_meaning.specs.Blocks.{filter_record, hook_codec}
+use Rattle.hook_store_law.specs.Stated.{hook_meaning}
+use Rattle.hook_store_law.specs.Blocks.{filter_record, hook_codec}
 use Rattle.hook_store_law.specs.OfEdits.Premises.{now, IsAccepted, IsAddOf, named_row, filter_of_line}
 
 -- the filter can be stored, and it is that of the line, with its actions at the slots to which commits put

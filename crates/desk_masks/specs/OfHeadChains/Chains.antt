@@ -5,8 +5,8 @@ use Rattle.visit_room.specs.declared.names.MaskName.{MaskName}
 use Rattle.block_codec.specs.declared.table.StoredTable.{StoredTable}
 use Rattle.block_codec.specs.Tables.{IsStorableTable, FitsProtocol}
 use Rattle.hook_law.specs.Records.{StatedTable, stated_table}
-use Rattle.hook_meaning.specs.Stated.{TableNames}
-use Rattle.hook_meaning.specs.Blocks.{table_record}
+use Rattle.hook_store_law.specs.Stated.{TableNames}
+use Rattle.hook_store_law.specs.Blocks.{table_record}
 
 -- a stored table as a state has it: with the serials of its masks, and no slots
 abbrev pub stated_of : StoredTable → StatedTable TableNames

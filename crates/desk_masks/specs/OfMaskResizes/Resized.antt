@@ -12,10 +12,10 @@ use Rattle.mask_table.specs.Buckets.{bucket_root}
 use Rattle.mask_order.specs.Fitting.{FitInto}
 use Rattle.hook_law.specs.Meaning.{now_of}
 use Rattle.hook_law.specs.Standing.{IsMaskAt, IsUnused}
-use Rattle.hook_meaning.specs.Stated.{hook_meaning, filters_at}
-use Rattle.hook_meaning.specs.Blocks.{hook_codec}
-use Rattle.hook_meaning.specs.Told.{with_slots}
-use Rattle.hook_meaning.specs.OfEffects.Parts.{words_of}
+use Rattle.hook_store_law.specs.Stated.{hook_meaning, filters_at}
+use Rattle.hook_store_law.specs.Blocks.{hook_codec}
+use Rattle.hook_store_law.specs.Told.{with_slots}
+use Rattle.hook_store_law.specs.OfEffects.Parts.{words_of}
 
 -- the filters that a mask has now, as they are stored
 abbrev pub stored_now : List (Commit Edit) → ℕ → List StoredFilter

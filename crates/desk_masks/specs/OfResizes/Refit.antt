@@ -8,7 +8,7 @@ use Rattle.store_history.specs.History.{root_of}
 use Rattle.pin_store.specs.declared.shape.Shape.{Shape}
 use Rattle.flow_mask.specs.Sizes.{is_size, size_of}
 use Rattle.filter_state.specs.declared.edit.Edit.{Edit}
-use Rattle.block_codec.specs.declared.places.TheConstants.{ROWS, ROW_BUCKETS, BUCKET_ROOTS}
+use Rattle.store_history.specs.declared.places.TheConstants.{ROWS, ROW_BUCKETS, BUCKET_ROOTS}
 use Rattle.mask_table.specs.declared.mirrors.mirror.KeptMask.{KeptMask}
 use Rattle.mask_table.specs.OfMirrors.Given.{AreGiven}
 use Rattle.mask_writer.specs.Masks.{Masks}
@@ -16,8 +16,8 @@ use Rattle.mask_writer.specs.Standing.{StandsAt}
 use Rattle.hook_law.specs.Places.{mask_root, bucket_root}
 use Rattle.hook_law.specs.Standing.{IsIn}
 use Rattle.hook_law.specs.Keeping.{IsAtRestBut}
-use Rattle.hook_meaning.specs.Stated.{hook_meaning, filters_at}
-use Rattle.hook_meaning.specs.Blocks.{hook_codec}
+use Rattle.hook_store_law.specs.Stated.{hook_meaning, filters_at}
+use Rattle.hook_store_law.specs.Blocks.{hook_codec}
 use Rattle.hook_store_law.specs.Kept.{IsKeptAt}
 use Rattle.hook_store_law.specs.OfEdits.Premises.{now}
 use Rattle.desk_pools.specs.declared.pools.Pools.{Pools}

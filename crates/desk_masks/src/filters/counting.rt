@@ -5,7 +5,7 @@ ghost use Rattle.pin_store.specs.declared.shape.Shape.{Shape};
 ghost use Rattle.filter_state.specs.declared.edit.Edit.{Edit};
 ghost use Rattle.mask_table.specs.declared.mirrors.mirror.KeptMask.{KeptMask};
 ghost use Rattle.mask_writer.specs.Standing.{StandsAt};
-ghost use Rattle.hook_meaning.specs.Stated.{filters_at};
+ghost use Rattle.hook_store_law.specs.Stated.{filters_at};
 ghost use Rattle.hook_store_law.specs.OfEdits.Premises.{now};
 ghost use Rattle.desk_masks.specs.Masks.{HasMasks};
 ghost use Rattle.desk_masks.specs.OfFilterCommits.Edits.{HasLater};

@@ -8,8 +8,8 @@ ghost use Rattle.miniq_pair.specs.Heads.{hook_number};
 ghost use Rattle.miniq_pair.specs.Pairs.{first_block_of, table_links};
 ghost use Rattle.hook_law.specs.Standing.{Names};
 ghost use Rattle.hook_law.specs.Telling.{ReadsHead};
-ghost use Rattle.hook_meaning.specs.Stated.{hook_meaning, tables_at};
-ghost use Rattle.hook_meaning.specs.Blocks.{hook_codec};
+ghost use Rattle.hook_store_law.specs.Stated.{hook_meaning, tables_at};
+ghost use Rattle.hook_store_law.specs.Blocks.{hook_codec};
 ghost use Rattle.desk_masks.specs.OfHeadChains.Chains.{stated_of, FitsTable, IsNamedIn};
 
 /// The chain that a swap commits reads as its tables, where these are a state's, and it names no masks but

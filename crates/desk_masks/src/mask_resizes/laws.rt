@@ -6,8 +6,8 @@ ghost use Rattle.block_codec.specs.declared.mask.StoredMask.{StoredMask};
 ghost use Rattle.mask_table.specs.OfMirrors.Linked.{placed, raise_commits};
 ghost use Rattle.hook_law.specs.Meaning.{point_of};
 ghost use Rattle.hook_law.specs.Keeping.{Keeps};
-ghost use Rattle.hook_meaning.specs.Stated.{hook_meaning};
-ghost use Rattle.hook_meaning.specs.Blocks.{hook_codec};
+ghost use Rattle.hook_store_law.specs.Stated.{hook_meaning};
+ghost use Rattle.hook_store_law.specs.Blocks.{hook_codec};
 ghost use Rattle.desk_masks.specs.OfMaskResizes.Resized.{stored_now, CanResize};
 
 /// The commits that give a standing mask another number of buckets keep the law, and so does each first part

@@ -11,9 +11,9 @@ use Rattle.filter_state.specs.Tables.{in_table, has_mask, mask_row, mask_or_next
 use Rattle.filter_state.specs.Steps.{step, filter_add, replace_or_add}
 use Rattle.filter_state.specs.Journals.{state_after}
 use Rattle.filter_state.proofs.Pairs.{found}
-use Rattle.hook_meaning.proofs.OfEffects.Accepted.{same_filter}
-use Rattle.hook_meaning.proofs.OfEffects.Adding.{mask_for, handle_in, new_row, line_filter, adds}
-use Rattle.hook_meaning.proofs.OfEffects.Added.{added_to_old}
+use Rattle.hook_store_law.proofs.OfEffects.Accepted.{same_filter}
+use Rattle.hook_store_law.proofs.OfEffects.Adding.{mask_for, handle_in, new_row, line_filter, adds}
+use Rattle.hook_store_law.proofs.OfEffects.Added.{added_to_old}
 use Rattle.hook_store_law.specs.OfEdits.Premises.{IsAddOf}
 use Rattle.desk_needs.specs.Live.{count_of}
 use Rattle.desk_needs.specs.Needs.{made, last_mask, added, replaced, needs_from, needs_of}

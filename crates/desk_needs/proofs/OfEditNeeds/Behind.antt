@@ -10,11 +10,11 @@ use Rattle.filter_state.specs.States.{Row, State}
 use Rattle.filter_state.specs.Sound.{Sound}
 use Rattle.filter_state.specs.Tables.{filter_row}
 use Rattle.filter_state.specs.Order.{of_mask}
-use Rattle.hook_meaning.specs.OfEffects.Parts.{filter_of, filters_of}
-use Rattle.hook_meaning.proofs.OfEffects.Kept.{kept_of_mapped}
+use Rattle.hook_store_law.specs.OfEffects.Parts.{filter_of, filters_of}
+use Rattle.hook_store_law.proofs.OfEffects.Kept.{kept_of_mapped}
 use Rattle.hook_law.specs.Records.{StatedFilter}
 use Rattle.hook_law.specs.Chains.{bucket_of}
-use Rattle.hook_meaning.specs.Stated.{filter_stated, filters_at}
+use Rattle.hook_store_law.specs.Stated.{filter_stated, filters_at}
 use Rattle.hook_store_law.specs.OfEdits.Premises.{HaveOthers}
 use Rattle.hook_store_law.proofs.OfEdits.OneHandle.{only_filter}
 use Rattle.desk_masks.specs.OfFilterCommits.Edits.{HasLater}

@@ -6,7 +6,7 @@ use Rattle.filter_state.specs.States.{Row, State}
 use Rattle.filter_state.specs.Tables.{first_where}
 use Rattle.filter_state.specs.Order.{of_mask}
 use Rattle.filter_state.specs.Sound.{Sound}
-use Rattle.hook_meaning.specs.OfEffects.Parts.{Filter, filter_of, filters_of, without}
+use Rattle.hook_store_law.specs.OfEffects.Parts.{Filter, filter_of, filters_of, without}
 use Rattle.hook_store_law.proofs.OfEdits.OneHandle.{only_filter, around}
 use Rattle.desk_needs.specs.Live.{count_of}
 use Rattle.desk_needs.specs.Needs.{last_mask}

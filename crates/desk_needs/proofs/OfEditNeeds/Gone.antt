@@ -13,8 +13,8 @@ use Rattle.filter_state.specs.Tables.{in_table, has_handle, filter_row}
 use Rattle.filter_state.specs.Steps.{step}
 use Rattle.filter_state.specs.Journals.{state_after}
 use Rattle.filter_state.proofs.Pairs.{found}
-use Rattle.hook_meaning.specs.OfEffects.Parts.{filters_of, without}
-use Rattle.hook_meaning.proofs.OfEffects.Deleting.{filter_deleted}
+use Rattle.hook_store_law.specs.OfEffects.Parts.{filters_of, without}
+use Rattle.hook_store_law.proofs.OfEffects.Deleting.{filter_deleted}
 use Rattle.desk_needs.specs.Live.{count_of}
 use Rattle.desk_needs.specs.declared.needs.Needs.{Needs}
 use Rattle.desk_needs.specs.Needs.{nothing, later, deleted, needs_from, needs_of}

@@ -14,11 +14,11 @@ use Rattle.filter_state.specs.Tables.{mask_row, mask_or_next}
 use Rattle.filter_state.specs.Steps.{step, filter_replace, with_row, with_actions, with_new_actions, without_row, mask_serial_for}
 use Rattle.filter_state.specs.Journals.{state_after}
 use Rattle.state_laws.proofs.Tests.{bytes_eq_true, bytes_eq_from}
-use Rattle.hook_meaning.specs.OfEffects.Parts.{Filter, filters_of, without}
-use Rattle.hook_meaning.proofs.OfEffects.Adding.{line_filter}
-use Rattle.hook_meaning.proofs.OfEffects.Replacing.{replaces, moved_row, exchanged_actions}
-use Rattle.hook_meaning.proofs.OfEffects.Moving.{known}
-use Rattle.hook_meaning.proofs.OfEffects.Moved.{replaced_key, replaced_mask}
+use Rattle.hook_store_law.specs.OfEffects.Parts.{Filter, filters_of, without}
+use Rattle.hook_store_law.proofs.OfEffects.Adding.{line_filter}
+use Rattle.hook_store_law.proofs.OfEffects.Replacing.{replaces, moved_row, exchanged_actions}
+use Rattle.hook_store_law.proofs.OfEffects.Moving.{known}
+use Rattle.hook_store_law.proofs.OfEffects.Moved.{replaced_key, replaced_mask}
 use Rattle.hook_store_law.specs.OfEdits.Premises.{named_row}
 use Rattle.desk_needs.specs.Live.{count_of, rows_of}
 use Rattle.desk_needs.specs.declared.needs.Needs.{Needs}

@@ -8,7 +8,7 @@ use Rattle.filter_state.specs.Sound.{Sound, IsRow}
 use Rattle.filter_state.specs.Order.{of_mask}
 use Rattle.filter_state.specs.Tables.{masks_of}
 use Rattle.filter_state.proofs.Pairs.{each_weaker, any_none}
-use Rattle.hook_meaning.specs.OfEffects.Parts.{Stands, filters_of}
+use Rattle.hook_store_law.specs.OfEffects.Parts.{Stands, filters_of}
 use Rattle.hook_law.specs.Standing.{IsIn}
 use Rattle.desk_needs.specs.Live.{count_of, rows_of}
 use Rattle.desk_needs.specs.OfEditNeeds.Told.{laid_rows, laid_masks}

@@ -12,9 +12,9 @@ use Rattle.filter_state.specs.Refusals.{no_hook}
 use Rattle.filter_state.specs.Steps.{step, pref_for, filter_add, add_at, add_resolved, filter_added, replace_or_add, resolved_for}
 use Rattle.state_laws.proofs.Answers.{and_then_ok}
 use Rattle.state_laws.proofs.Room.{found_any}
-use Rattle.hook_meaning.proofs.OfEffects.Accepted.{not_unless, same_step}
-use Rattle.hook_meaning.proofs.OfEffects.Adding.{handle_in, line_filter}
-use Rattle.hook_meaning.proofs.OfEffects.Added.{added_to_old, added_to_new}
+use Rattle.hook_store_law.proofs.OfEffects.Accepted.{not_unless, same_step}
+use Rattle.hook_store_law.proofs.OfEffects.Adding.{handle_in, line_filter}
+use Rattle.hook_store_law.proofs.OfEffects.Added.{added_to_old, added_to_new}
 use Rattle.hook_store_law.specs.OfEdits.Premises.{IsAddOf}
 use Rattle.desk_needs.specs.Live.{count_of}
 use Rattle.desk_needs.proofs.OfEditNeeds.Counted.{counted, one_more}

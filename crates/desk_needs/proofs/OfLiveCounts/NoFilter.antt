@@ -23,7 +23,7 @@ use Rattle.filter_state.specs.Journals.{state_after}
 use Rattle.filter_state.specs.Sound.{Sound, Each, EachPair, StandApart}
 use Rattle.state_laws.proofs.Answers.{not_refused, not_not, neither, err_ok}
 use Rattle.state_laws.proofs.Tests.{named}
-use Rattle.hook_meaning.proofs.OfEffects.Accepted.{not_unless, same_step}
+use Rattle.hook_store_law.proofs.OfEffects.Accepted.{not_unless, same_step}
 use Rattle.hook_store_law.specs.OfEdits.Premises.{IsOfFilters}
 use Rattle.hook_store_law.proofs.OfEdits.Stepping.{unless_refused}
 use Rattle.desk_needs.specs.OfLiveCounts.Counts.{StayAsMany, ActionsStay, ActionComes, ActionGoes}

@@ -11,9 +11,9 @@ use Rattle.filter_state.specs.Sound.{Sound, IsRow}
 use Rattle.filter_state.specs.Tables.{in_table, has_handle, filter_row}
 use Rattle.filter_state.specs.Steps.{step}
 use Rattle.filter_state.proofs.Pairs.{found}
-use Rattle.hook_meaning.specs.OfEffects.Parts.{Stands, filters_of, without}
-use Rattle.hook_meaning.specs.OfEffects.Effects.{ChangesHook}
-use Rattle.hook_meaning.proofs.OfEffects.Deleting.{filter_deleted, table_deleted}
+use Rattle.hook_store_law.specs.OfEffects.Parts.{Stands, filters_of, without}
+use Rattle.hook_store_law.specs.OfEffects.Effects.{ChangesHook}
+use Rattle.hook_store_law.proofs.OfEffects.Deleting.{filter_deleted, table_deleted}
 use Rattle.hook_law.specs.Standing.{IsIn}
 use Rattle.desk_needs.specs.Live.{count_of}
 use Rattle.desk_needs.proofs.OfEditNeeds.Counted.{counted, one_less}

@@ -13,11 +13,11 @@ use Rattle.filter_state.specs.Sound.{Sound}
 use Rattle.filter_state.specs.Tables.{mask_row, mask_or_next}
 use Rattle.filter_state.specs.Steps.{step, filter_replace}
 use Rattle.state_laws.proofs.Tests.{bytes_eq_true, bytes_eq_from}
-use Rattle.hook_meaning.specs.OfEffects.Parts.{Filter, filters_of, without, is_handle}
-use Rattle.hook_meaning.proofs.OfEffects.Adding.{line_filter}
-use Rattle.hook_meaning.proofs.OfEffects.Replacing.{replaces}
-use Rattle.hook_meaning.proofs.OfEffects.InPlace.{replaced_in_place}
-use Rattle.hook_meaning.proofs.OfEffects.Moved.{replaced_key, replaced_mask}
+use Rattle.hook_store_law.specs.OfEffects.Parts.{Filter, filters_of, without, is_handle}
+use Rattle.hook_store_law.proofs.OfEffects.Adding.{line_filter}
+use Rattle.hook_store_law.proofs.OfEffects.Replacing.{replaces}
+use Rattle.hook_store_law.proofs.OfEffects.InPlace.{replaced_in_place}
+use Rattle.hook_store_law.proofs.OfEffects.Moved.{replaced_key, replaced_mask}
 use Rattle.hook_store_law.specs.OfEdits.Premises.{named_row}
 use Rattle.desk_needs.specs.Live.{count_of}
 use Rattle.desk_needs.proofs.OfEditNeeds.Counted.{counted, one_more, one_less}

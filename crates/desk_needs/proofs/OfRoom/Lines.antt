@@ -18,8 +18,8 @@ use Rattle.filter_state.specs.Tables.{in_table, has_handle}
 use Rattle.filter_state.specs.Steps.{Stepped, step, filter_add, filter_replace, replace_or_add, taken_out, change_given, make_given, made_of, with_actions}
 use Rattle.filter_state.specs.Journals.{state_after}
 use Rattle.state_laws.proofs.Answers.{and_then_ok}
-use Rattle.hook_meaning.proofs.OfEffects.Adding.{adds}
-use Rattle.hook_meaning.proofs.OfEffects.Replacing.{replaces}
+use Rattle.hook_store_law.proofs.OfEffects.Adding.{adds}
+use Rattle.hook_store_law.proofs.OfEffects.Replacing.{replaces}
 use Rattle.hook_store_law.specs.OfEdits.Premises.{named_row}
 use Rattle.hook_store_law.proofs.OfEdits.Stepping.{unless_refused}
 use Rattle.desk_needs.specs.Needs.{made}

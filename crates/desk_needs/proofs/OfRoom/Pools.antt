@@ -20,10 +20,10 @@ use Rattle.filter_state.specs.Journals.{state_after}
 use Rattle.flow_mask.specs.Sizes.{size_of}
 use Rattle.filter_state.proofs.Free.{length_filter_le}
 use Rattle.state_laws.proofs.Tests.{bytes_eq_true, bytes_eq_from}
-use Rattle.hook_meaning.proofs.OfEffects.Adding.{adds, handle_in}
-use Rattle.hook_meaning.proofs.OfEffects.Replacing.{replaces}
-use Rattle.hook_meaning.proofs.OfEffects.Moved.{replaced_mask}
-use Rattle.hook_meaning.proofs.OfEffects.Deleting.{filter_deleted}
+use Rattle.hook_store_law.proofs.OfEffects.Adding.{adds, handle_in}
+use Rattle.hook_store_law.proofs.OfEffects.Replacing.{replaces}
+use Rattle.hook_store_law.proofs.OfEffects.Moved.{replaced_mask}
+use Rattle.hook_store_law.proofs.OfEffects.Deleting.{filter_deleted}
 use Rattle.hook_store_law.specs.OfEdits.Premises.{IsAddOf, named_row}
 use Rattle.desk_needs.specs.declared.needs.Needs.{Needs}
 use Rattle.desk_needs.specs.declared.pool.Pool.{Pool}

@@ -3,7 +3,7 @@ use Rattle.std.specs.Prelude.{ℕ, ◌+◌, ◌-◌, ◌/◌, ◌==◌, not, Som
 use Rattle.tc_base.specs.declared.hook.Hook.{Hook}
 use Rattle.flow_mask.specs.Sizes.{size_of}
 use Rattle.filter_state.specs.States.{Row, State}
-use Rattle.block_codec.specs.declared.places.TheConstants.{ROW_BUCKETS}
+use Rattle.store_history.specs.declared.places.TheConstants.{ROW_BUCKETS}
 use Rattle.desk_needs.specs.Live.{count_of}
 use Rattle.desk_needs.specs.declared.needs.Needs.{Needs}
 use Rattle.desk_needs.specs.Needs.{nothing, later}

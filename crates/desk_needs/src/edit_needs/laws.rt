@@ -12,7 +12,7 @@ ghost use Rattle.filter_state.specs.Sound.{Sound};
 ghost use Rattle.filter_state.specs.Tables.{mask_row, mask_or_next, filter_row};
 ghost use Rattle.filter_state.specs.Steps.{step};
 ghost use Rattle.flow_mask.specs.Sizes.{size_of};
-ghost use Rattle.hook_meaning.specs.Stated.{filters_at};
+ghost use Rattle.hook_store_law.specs.Stated.{filters_at};
 ghost use Rattle.hook_store_law.specs.OfEdits.Premises.{IsAddOf, named_row};
 ghost use Rattle.desk_masks.specs.OfFilterCommits.Edits.{HasLater};
 ghost use Rattle.desk_needs.specs.Live.{count_of};

@@ -12,7 +12,7 @@ ghost use Rattle.filter_state.specs.States.{Row, State};
 ghost use Rattle.filter_state.specs.Sound.{Sound};
 ghost use Rattle.filter_state.specs.Tables.{mask_row, mask_or_next, filter_row};
 ghost use Rattle.filter_state.specs.Steps.{step, pref_for};
-ghost use Rattle.hook_meaning.specs.OfEffects.Parts.{Stands};
+ghost use Rattle.hook_store_law.specs.OfEffects.Parts.{Stands};
 ghost use Rattle.hook_law.specs.Standing.{IsIn};
 ghost use Rattle.hook_store_law.specs.OfEdits.Premises.{IsAddOf, named_row};
 ghost use Rattle.desk_needs.specs.Live.{count_of};

@@ -11,8 +11,8 @@ use Rattle.filter_state.specs.States.{Row, State}
 use Rattle.filter_state.specs.Actions.{and_then}
 use Rattle.filter_state.specs.Refusals.{no_hook}
 use Rattle.filter_state.specs.Steps.{step, filter_add, filter_replace, replace_or_add, add_at, add_resolved, filter_added, pref_for, resolved_for}
-use Rattle.hook_meaning.proofs.OfEffects.Accepted.{not_unless, same_step}
-use Rattle.hook_meaning.proofs.OfEffects.Replacing.{is_there, replaces}
+use Rattle.hook_store_law.proofs.OfEffects.Accepted.{not_unless, same_step}
+use Rattle.hook_store_law.proofs.OfEffects.Replacing.{is_there, replaces}
 use Rattle.hook_law.specs.Records.{StatedFilter}
 use Rattle.hook_law.specs.Standing.{IsIn}
 use Rattle.root_pool_laws.proofs.Apart.{in_right}

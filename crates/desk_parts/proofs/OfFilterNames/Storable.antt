@@ -5,7 +5,9 @@ use Rattle.std.specs.Option.{option_map}
 use Rattle.std.specs.Prelude.{IsTrue, All}
 use Rattle.std.proofs.lemmas.List.{length-map}
 use Rattle.std.proofs.lemmas.List.Elements.{All-cons, All-nil}
+use Rattle.act_registry.specs.declared.limits.TheConstants.{MADE_MAX}
 use Rattle.store_history.specs.declared.history.Commit.{Commit}
+use Rattle.store_history.specs.declared.places.TheConstants.{ACTION_SLOTS}
 use Rattle.visit_room.specs.declared.names.ActionName.{ActionName}
 use Rattle.filter_state.specs.declared.edit.Edit.{Edit}
 use Rattle.filter_state.specs.declared.edit.FilterLine.{FilterLine}
@@ -15,14 +17,14 @@ use Rattle.filter_state.specs.Actions.{has_serial}
 use Rattle.filter_state.specs.Order.{of_mask}
 use Rattle.filter_state.specs.Sound.{Each, IsRow, IsAction, Sound}
 use Rattle.filter_state.proofs.Pairs.{any_first, found}
-use Rattle.hook_meaning.specs.OfEffects.Parts.{filter_of}
+use Rattle.hook_store_law.specs.OfEffects.Parts.{filter_of}
 use Rattle.block_codec.specs.declared.filter.StoredFilter.{StoredFilter}
 use Rattle.block_codec.specs.Names.{IsActionName}
 use Rattle.hook_law.specs.Records.{Slotted, StatedFilter, serials_of}
 use Rattle.hook_law.specs.Meaning.{IsLive}
 use Rattle.hook_law.specs.Standing.{IsIn, IsSlotOf}
-use Rattle.hook_meaning.specs.Stated.{hook_meaning, action_stated, filters_at, filter_stated}
-use Rattle.hook_meaning.specs.Blocks.{action_slotted, hook_codec}
+use Rattle.hook_store_law.specs.Stated.{hook_meaning, action_stated, filters_at, filter_stated}
+use Rattle.hook_store_law.specs.Blocks.{action_slotted, hook_codec}
 use Rattle.hook_store_law.specs.OfEdits.Premises.{filter_of_line}
 use Rattle.desk_actions.specs.Places.{Placed, slot_of}
 use Rattle.desk_masks.specs.OfFilterCommits.Edits.{IsOfLine}
@@ -31,13 +33,13 @@ use Rattle.desk_parts.specs.OfFilterNames.Named.{named, CanBeNamed}
 -- an action that a filter names is live, with a serial that can be stored
 record IsNamed (s : State) (a : ℕ) : Type 0 where
   live : IsLive hook_meaning s a
-  serial : (1 ≤ a) × (a ≤ 16384)
+  serial : (1 ≤ a) × (a ≤ MADE_MAX)
 
 name_one : (s : State) → Sound s → (a : ℕ) → IsTrue (list_any (has_serial a) s.actions) → IsNamed s a
 name_one s sound a any = let x = any_first (has_serial a) s.actions any in let f = found (IsAction s) (has_serial a) s.actions x.0 sound.actions x.1 in
     let same : x.0.serial ≡ a = eqb-true x.0.serial a f.1 in let ranges = f.0.serial in let most = sound.made in record {
       live = λ none. let bad : Some (action_stated x.0) ≡ None = sym (ap (option_map action_stated) x.1) ∙ none in cc bad;
-      serial = (subst (λ n. 1 ≤ n) same ranges.0, subst (λ n. n ≤ 16384) same (omega (arith, ranges, most)));
+      serial = (subst (λ n. 1 ≤ n) same ranges.0, subst (λ n. n ≤ MADE_MAX) same (omega (arith, ranges, most)));
     }
 
 -- what holds of each filter of a mask
@@ -90,9 +92,9 @@ each_as : {X : Type 0} (P Q : X → Type 0) → ((x : X) → P x → Q x) → (x
 each_as P Q f [] all = tt
 each_as P Q f (x ∷ xs) all = (f x all.0, each_as P Q f xs all.1)
 
-all_made : (s : State) (serials : List ℕ) → Each (IsNamed s) serials → All (λ a. a ≤ 16384) serials
-all_made s [] each = All-nil (λ a. a ≤ 16384)
-all_made s (a ∷ rest) each = let low = each.0.serial.1 in All-cons (λ a. a ≤ 16384) a rest low (all_made s rest each.1)
+all_made : (s : State) (serials : List ℕ) → Each (IsNamed s) serials → All (λ a. a ≤ MADE_MAX) serials
+all_made s [] each = All-nil (λ a. a ≤ MADE_MAX)
+all_made s (a ∷ rest) each = let low = each.0.serial.1 in All-cons (λ a. a ≤ MADE_MAX) a rest low (all_made s rest each.1)
 
 module _ (h : List (Commit Edit)) (s : State) (placed : Placed) (line : FilterLine) (handle : ℕ) (serials : List ℕ) (can : CanBeNamed h s placed (filter_of_line line handle serials)) where
   good : IsGood s (filter_of_line line handle serials)
@@ -101,13 +103,13 @@ module _ (h : List (Commit Edit)) (s : State) (placed : Placed) (line : FilterLi
   pub few_serials : length serials ≤ 16
   few_serials = good.few
 
-  pub made_serials : All (λ a. a ≤ 16384) serials
+  pub made_serials : All (λ a. a ≤ MADE_MAX) serials
   made_serials = all_made s serials good.names
 
   abbrev action_with : ℕ → ActionName
   action_with a = record { serial = a; slot = slot_of placed a }
 
-  slot_small : (a : ℕ) → IsLive hook_meaning s a → slot_of placed a < 2048
+  slot_small : (a : ℕ) → IsLive hook_meaning s a → slot_of placed a < ACTION_SLOTS
   slot_small a live = (can.slots a live).puts.small
 
   abbrev stored : StoredFilter

@@ -23,8 +23,8 @@ use Rattle.state_laws.proofs.OfOrder.First.{mask_same, some_mask_same, row_same}
 use Rattle.row_laws.proofs.OfLookups.Masks.{mask_found, mask_some, mask_missing}
 use Rattle.row_laws.proofs.OfLookups.Handles.{row_found, filter_missing, no_filter}
 use Rattle.head_laws.proofs.MaskRows.{mask_rows}
-use Rattle.hook_meaning.specs.OfEffects.Parts.{filter_of}
-use Rattle.hook_meaning.specs.Stated.{filter_stated, filters_at}
+use Rattle.hook_store_law.specs.OfEffects.Parts.{filter_of}
+use Rattle.hook_store_law.specs.Stated.{filter_stated, filters_at}
 
 some_of : {A : Type 0} (o : Option A) → is_some o ≡ true → (x : A) × (o ≡ Some x)
 some_of (Some x) e = (x, refl)

@@ -36,8 +36,8 @@ use Rattle.hook_law.specs.Standing.{IsMaskAt, Names}
 use Rattle.hook_law.specs.Telling.{ReadsHead}
 use Rattle.hook_law.specs.Keeping.{Keeps}
 use Rattle.hook_law.proofs.Looking.{head_told}
-use Rattle.hook_meaning.specs.Stated.{TableNames, hook_meaning, table_stated, tables_at}
-use Rattle.hook_meaning.specs.Blocks.{mask_slotted, table_record, hook_codec}
+use Rattle.hook_store_law.specs.Stated.{TableNames, hook_meaning, table_stated, tables_at}
+use Rattle.hook_store_law.specs.Blocks.{mask_slotted, table_record, hook_codec}
 use Rattle.hook_store_law.specs.OfEdits.Premises.{now}
 use Rattle.desk_masks.specs.declared.hook_tables.HookTables.{HookTables}
 use Rattle.desk_masks.specs.Tables.{HasTables}

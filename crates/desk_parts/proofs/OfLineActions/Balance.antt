@@ -18,12 +18,12 @@ use Rattle.filter_state.specs.declared.refusal.Refusal.{Refusal}
 use Rattle.filter_state.specs.Tables.{in_table, has_handle}
 use Rattle.filter_state.specs.Refusals.{or_else, no_hook, protocol_clash_if, no_such_table, no_such_filter}
 use Rattle.filter_state.specs.Steps.{taken_out, filter_del, step}
-use Rattle.hook_meaning.proofs.OfEffects.Accepted.{not_unless, same_step}
+use Rattle.hook_store_law.proofs.OfEffects.Accepted.{not_unless, same_step}
 use Rattle.desk_parts.proofs.OfLineActions.Living.{new_live, made_rises}
 use Rattle.filter_state.specs.Sound.{Sound, Each, EachPair, StandApart, IsAction}
 use Rattle.hook_law.specs.Meaning.{IsLive}
 use Rattle.hook_law.specs.Standing.{IsIn}
-use Rattle.hook_meaning.specs.Stated.{action_stated, hook_meaning}
+use Rattle.hook_store_law.specs.Stated.{action_stated, hook_meaning}
 use Rattle.hook_store_law.specs.OfEdits.Premises.{now, next, IsAccepted, IsOfFilters, NewOnesCome}
 use Rattle.hook_store_law.proofs.OfEdits.Accepted.{sound, next_sound}
 use Rattle.hook_store_law.proofs.OfEdits.OfFilters.{new_ones_come}

@@ -9,7 +9,7 @@ use Rattle.filter_state.specs.Actions.{has_serial}
 use Rattle.filter_state.specs.Tables.{first_where}
 use Rattle.action_plan.specs.Entries.{action_of, actions_of}
 use Rattle.action_plan.proofs.Mapped.{first_mapped}
-use Rattle.hook_meaning.specs.Stated.{action_stated}
+use Rattle.hook_store_law.specs.Stated.{action_stated}
 
 found_serial : (serial : ℕ) (es : List (Entry Params)) → first_where (has_serial serial) (actions_of es) ≡ option_map action_of (find (entries.has_serial serial) es)
 found_serial serial es = sym (first_mapped action_of (entries.has_serial serial) (has_serial serial) (λ e. refl) es)

@@ -7,8 +7,8 @@ use Rattle.filter_state.specs.declared.refusal.Done.{Done}
 use Rattle.filter_state.specs.States.{State}
 use Rattle.hook_law.specs.Meaning.{state_at, IsLive}
 use Rattle.hook_law.specs.Numbered.{PutsActions, IsPutAction}
-use Rattle.hook_meaning.specs.Stated.{hook_meaning}
-use Rattle.hook_meaning.specs.Blocks.{hook_codec}
+use Rattle.hook_store_law.specs.Stated.{hook_meaning}
+use Rattle.hook_store_law.specs.Blocks.{hook_codec}
 use Rattle.hook_store_law.specs.Kept.{IsKeptAt}
 use Rattle.hook_store_law.specs.OfEdits.Premises.{now, next, IsAccepted, IsOfFilters, NewOnesCome}
 use Rattle.hook_store_law.proofs.OfEdits.OfFilters.{new_ones_come}

@@ -6,14 +6,15 @@ use Rattle.std.proofs.lemmas.Bool.{eqb-false}
 use Rattle.std.proofs.lemmas.Option.{slice_get_within}
 use Rattle.std.proofs.lemmas.List.{get_or-set_same, get_or-set_other, length-set, map-append, take-append-drop}
 use Rattle.store_history.specs.declared.history.Commit.{Commit}
+use Rattle.store_history.specs.declared.places.TheConstants.{MASK_SLOTS, ACTION_SLOTS, ROW_BUCKETS, MASK_ROOTS, ACTION_ROOTS, BUCKET_ROOTS, POOL_BLOCKS}
 use Rattle.filter_state.specs.declared.edit.Edit.{Edit}
 use Rattle.hook_lists.specs.declared.kept.Kept.{Kept}
 use Rattle.hook_law.specs.Places.{action_root}
 use Rattle.hook_law.specs.Meaning.{IsLive}
 use Rattle.hook_law.specs.Standing.{Role, Action as ActionRole, IsIn, IsSlotOf, Stands}
 use Rattle.hook_law.proofs.Standing.{slot_longer, present_end, at_end}
-use Rattle.hook_meaning.specs.Stated.{hook_meaning}
-use Rattle.hook_meaning.specs.Blocks.{hook_codec}
+use Rattle.hook_store_law.specs.Stated.{hook_meaning}
+use Rattle.hook_store_law.specs.Blocks.{hook_codec}
 use Rattle.hook_store_law.specs.OfEdits.Premises.{now}
 use Rattle.desk_pools.specs.OfNumbers.Numbers.{PoolNumbers}
 use Rattle.root_pool_laws.specs.Pools.{IsPool}
@@ -77,7 +78,7 @@ module _ (lists : Kept) (old : Pools) (placed : Placed) (h : List (Commit Edit))
   low : b ≤ length h
   low = let late = m.late in let made = m.made in omega (arith, late, made)
 
-  pub slot_small : (a : ℕ) → IsIn a serials → slot_of placed a < 2048
+  pub slot_small : (a : ℕ) → IsIn a serials → slot_of placed a < ACTION_SLOTS
   slot_small a at = (m.there a at).slot.puts.small
 
   -- where the action stood before the edit
@@ -103,7 +104,7 @@ module _ (lists : Kept) (old : Pools) (placed : Placed) (h : List (Commit Edit))
   live_slot a c one dead live same = let both : ActionRole a ≡ ActionRole c = stands_alone a one (ActionRole c) (slot_of placed c, m.here.slots c live, ap action_root (sym same), live) in
       let equal : a ≡ c = cc both in dead (subst (IsLive hook_meaning (now h)) (sym equal) live)
 
-  pub block_small : (a : ℕ) → IsIn a serials → block_of placed (slot_of placed a) < 16384
+  pub block_small : (a : ℕ) → IsIn a serials → block_of placed (slot_of placed a) < POOL_BLOCKS
   block_small a at = (m.there a at).block.0
 
   has_block : (a : ℕ) → IsIn a serials → HasBlock h (action_root (slot_of placed a)) (block_of placed (slot_of placed a))
@@ -113,12 +114,12 @@ module _ (lists : Kept) (old : Pools) (placed : Placed) (h : List (Commit Edit))
   pub record DroppedUpTo (pools : Pools) (left : Placed) (upto : ℕ) : Type 0 where
     pub pools_are : ArePools pools h b
     pub same : left.slots ≡ placed.slots
-    pub wide : length left.blocks ≡ 2048
+    pub wide : length left.blocks ≡ ACTION_SLOTS
     pub gone : List ℕ
     pub once : IsDistinct eqb gone
     pub dead : (a : ℕ) → IsIn a gone → IsIn a serials × (IsLive hook_meaning (now h) a → ⊥)
     pub all : (place a : ℕ) → slice_get serials place ≡ Some a → place < upto → IsLive hook_meaning (now h) a ⊎ IsIn a gone
-    pub own : (a : ℕ) → IsIn a serials → (IsIn a gone × (block_of left (slot_of placed a) ≡ 16384))
+    pub own : (a : ℕ) → IsIn a serials → (IsIn a gone × (block_of left (slot_of placed a) ≡ POOL_BLOCKS))
         ⊎ ((IsIn a gone → ⊥) × (block_of left (slot_of placed a) ≡ block_of placed (slot_of placed a)))
     pub living : (a : ℕ) → IsLive hook_meaning (now h) a → block_of left (slot_of placed a) ≡ block_of placed (slot_of placed a)
     pub slots : pools.actions.left ≡ old.actions.left ++ map (slot_of placed) gone
@@ -161,52 +162,52 @@ module _ (lists : Kept) (old : Pools) (placed : Placed) (h : List (Commit Edit))
             let same = two_slots r.0 a (d.dead r.0 r.1).0 at r.2 in away (subst (λ (n : ℕ). IsIn n d.gone) same r.1)
 
     -- the roots of slots that left are among those of what is gone, and no other slot's
-    slot_gone : (a : ℕ) → IsIn (action_root (slot_of placed a)) (gone_roots pools) → slot_of placed a < 2048 → IsIn (slot_of placed a) pools.actions.left
-    slot_gone a at small = pick (in_append (roots_of 3 1 pools.masks.left ++ roots_of 8195 1 pools.actions.left) (roots_of 10243 16 pools.rows.left) (action_root (slot_of placed a)) at)
+    slot_gone : (a : ℕ) → IsIn (action_root (slot_of placed a)) (gone_roots pools) → slot_of placed a < ACTION_SLOTS → IsIn (slot_of placed a) pools.actions.left
+    slot_gone a at small = pick (in_append (roots_of MASK_ROOTS 1 pools.masks.left ++ roots_of ACTION_ROOTS 1 pools.actions.left) (roots_of BUCKET_ROOTS ROW_BUCKETS pools.rows.left) (action_root (slot_of placed a)) at)
       where
         s : ℕ
         s = slot_of placed a
 
-        of_masks : IsIn (action_root s) (roots_of 3 1 pools.masks.left) → IsIn s pools.actions.left
-        of_masks in_ = let r = in_roots 3 1 pools.masks.left (action_root s) in_ in let below : r.0 < 8192 = mask_small r.0 r.1 in let is = r.4 in let less = r.3 in absurd (omega (arith, below, is, less))
+        of_masks : IsIn (action_root s) (roots_of MASK_ROOTS 1 pools.masks.left) → IsIn s pools.actions.left
+        of_masks in_ = let r = in_roots MASK_ROOTS 1 pools.masks.left (action_root s) in_ in let below : r.0 < MASK_SLOTS = mask_small r.0 r.1 in let is = r.4 in let less = r.3 in absurd (omega (arith, below, is, less))
           where
-            mask_small : (x : ℕ) → IsIn x pools.masks.left → x < 8192
+            mask_small : (x : ℕ) → IsIn x pools.masks.left → x < MASK_SLOTS
             mask_small x in_ = let whole = in_right pools.masks.free pools.masks.left x in_ in d.pools_are.masks.small whole.0 x whole.1
 
-        two : IsIn (action_root s) (roots_of 3 1 pools.masks.left) ⊎ IsIn (action_root s) (roots_of 8195 1 pools.actions.left) → IsIn s pools.actions.left
+        two : IsIn (action_root s) (roots_of MASK_ROOTS 1 pools.masks.left) ⊎ IsIn (action_root s) (roots_of ACTION_ROOTS 1 pools.actions.left) → IsIn s pools.actions.left
         two (inl one) = of_masks one
-        two (inr one) = let r = in_roots 8195 1 pools.actions.left (action_root s) one in let is = r.4 in let less = r.3 in let same : r.0 ≡ s = omega (arith, is, less) in subst (λ (n : ℕ). IsIn n pools.actions.left) same r.1
+        two (inr one) = let r = in_roots ACTION_ROOTS 1 pools.actions.left (action_root s) one in let is = r.4 in let less = r.3 in let same : r.0 ≡ s = omega (arith, is, less) in subst (λ (n : ℕ). IsIn n pools.actions.left) same r.1
 
-        pick : IsIn (action_root s) (roots_of 3 1 pools.masks.left ++ roots_of 8195 1 pools.actions.left) ⊎ IsIn (action_root s) (roots_of 10243 16 pools.rows.left) → IsIn s pools.actions.left
-        pick (inl one) = two (in_append (roots_of 3 1 pools.masks.left) (roots_of 8195 1 pools.actions.left) (action_root s) one)
-        pick (inr one) = let r = in_roots 10243 16 pools.rows.left (action_root s) one in let is = r.4 in absurd (omega (arith, is, small))
+        pick : IsIn (action_root s) (roots_of MASK_ROOTS 1 pools.masks.left ++ roots_of ACTION_ROOTS 1 pools.actions.left) ⊎ IsIn (action_root s) (roots_of BUCKET_ROOTS ROW_BUCKETS pools.rows.left) → IsIn s pools.actions.left
+        pick (inl one) = two (in_append (roots_of MASK_ROOTS 1 pools.masks.left) (roots_of ACTION_ROOTS 1 pools.actions.left) (action_root s) one)
+        pick (inr one) = let r = in_roots BUCKET_ROOTS ROW_BUCKETS pools.rows.left (action_root s) one in let is = r.4 in absurd (omega (arith, is, small))
 
     block_apart : (a : ℕ) → IsIn a serials → (IsIn a d.gone → ⊥) → IsInPool (block_of placed (slot_of placed a)) pools.blocks → ⊥
     block_apart a at away (inl in_) = unnamed_end h b (block_of placed (slot_of placed a)) low (d.pools_are.blocks.may_be_given in_.0 (block_of placed (slot_of placed a)) in_.1) (action_root (slot_of placed a)) (has_block a at)
     block_apart a at away (inr in_) = slot_apart a at away (inr (slot_gone a (d.pools_are.blocks.have_left in_.0 (block_of placed (slot_of placed a)) in_.1 (action_root (slot_of placed a)) (has_block a at)) (slot_small a at)))
 
     module _ (a : ℕ) (at : IsIn a serials) where
-      block_is : block_of left (slot_of placed a) < 16384 → (IsIn a d.gone → ⊥) × (block_of left (slot_of placed a) ≡ block_of placed (slot_of placed a))
+      block_is : block_of left (slot_of placed a) < POOL_BLOCKS → (IsIn a d.gone → ⊥) × (block_of left (slot_of placed a) ≡ block_of placed (slot_of placed a))
       block_is less = pick (d.own a at)
         where
-          pick : (IsIn a d.gone × (block_of left (slot_of placed a) ≡ 16384)) ⊎ ((IsIn a d.gone → ⊥) × (block_of left (slot_of placed a) ≡ block_of placed (slot_of placed a)))
+          pick : (IsIn a d.gone × (block_of left (slot_of placed a) ≡ POOL_BLOCKS)) ⊎ ((IsIn a d.gone → ⊥) × (block_of left (slot_of placed a) ≡ block_of placed (slot_of placed a)))
               → (IsIn a d.gone → ⊥) × (block_of left (slot_of placed a) ≡ block_of placed (slot_of placed a))
           pick (inl gone) = let is = gone.1 in absurd (omega (arith, is, less))
           pick (inr still) = still
 
       -- one that is there and dead
-      module _ (less : block_of left (slot_of placed a) < 16384) (dead : IsLive hook_meaning (now h) a → ⊥) where
+      module _ (less : block_of left (slot_of placed a) < POOL_BLOCKS) (dead : IsLive hook_meaning (now h) a → ⊥) where
         pub old_block : block_of left (slot_of placed a) ≡ block_of placed (slot_of placed a)
         old_block = (block_is less).1
 
-        pub slot_room : length pools.actions.free + length pools.actions.left < 2048
-        slot_room = not_full 2048 _ _ pools.actions (slot_of placed a) d.pools_are.actions (slot_small a at) (slot_apart a at (block_is less).0)
+        pub slot_room : length pools.actions.free + length pools.actions.left < ACTION_SLOTS
+        slot_room = not_full ACTION_SLOTS _ _ pools.actions (slot_of placed a) d.pools_are.actions (slot_small a at) (slot_apart a at (block_is less).0)
 
-        pub block_room : length pools.blocks.free + length pools.blocks.left < 16384
-        block_room = not_full 16384 _ _ pools.blocks (block_of placed (slot_of placed a)) d.pools_are.blocks (block_small a at) (block_apart a at (block_is less).0)
+        pub block_room : length pools.blocks.free + length pools.blocks.left < POOL_BLOCKS
+        block_room = not_full POOL_BLOCKS _ _ pools.blocks (block_of placed (slot_of placed a)) d.pools_are.blocks (block_small a at) (block_apart a at (block_is less).0)
 
-        pub empty_slot : IsLeftAt h 8195 1 (slot_of placed a)
-        empty_slot j small x s = let same : 8195 + 1 * slot_of placed a + j ≡ action_root (slot_of placed a) = omega (arith, small) in
+        pub empty_slot : IsLeftAt h ACTION_ROOTS 1 (slot_of placed a)
+        empty_slot j small x s = let same : ACTION_ROOTS + 1 * slot_of placed a + j ≡ action_root (slot_of placed a) = omega (arith, small) in
             let here = subst (λ (r : ℕ). Stands hook_meaning hook_codec h r x) same s in
             let it : Stands hook_meaning hook_codec h (action_root (slot_of placed a)) (ActionRole a) = subst (Stands hook_meaning hook_codec h (action_root (slot_of placed a))) (sym (stands_alone a at x here)) here in dead it.3
 
@@ -220,28 +221,28 @@ module _ (lists : Kept) (old : Pools) (placed : Placed) (h : List (Commit Edit))
         left_block more in_ r has = subst (λ (n : ℕ). IsIn n (gone_roots more)) (d.pools_are.one_root (action_root (slot_of placed a)) r (block_of placed (slot_of placed a)) (has_block a at) has) in_gone
           where
             in_gone : IsIn (action_root (slot_of placed a)) (gone_roots more)
-            in_gone = let same : 8195 + 1 * slot_of placed a + 0 ≡ action_root (slot_of placed a) = omega arith in
-                in_left (roots_of 3 1 more.masks.left ++ roots_of 8195 1 more.actions.left) (roots_of 10243 16 more.rows.left) (action_root (slot_of placed a))
-                (in_right (roots_of 3 1 more.masks.left) (roots_of 8195 1 more.actions.left) (action_root (slot_of placed a))
-                (subst (λ (n : ℕ). IsIn n (roots_of 8195 1 more.actions.left)) same (roots_have 8195 1 more.actions.left (slot_of placed a) 0 in_ (omega arith))))
+            in_gone = let same : ACTION_ROOTS + 1 * slot_of placed a + 0 ≡ action_root (slot_of placed a) = omega arith in
+                in_left (roots_of MASK_ROOTS 1 more.masks.left ++ roots_of ACTION_ROOTS 1 more.actions.left) (roots_of BUCKET_ROOTS ROW_BUCKETS more.rows.left) (action_root (slot_of placed a))
+                (in_right (roots_of MASK_ROOTS 1 more.masks.left) (roots_of ACTION_ROOTS 1 more.actions.left) (action_root (slot_of placed a))
+                (subst (λ (n : ℕ). IsIn n (roots_of ACTION_ROOTS 1 more.actions.left)) same (roots_have ACTION_ROOTS 1 more.actions.left (slot_of placed a) 0 in_ (omega arith))))
 
         module _ (more : Pools) (moved : Placed) (p : ArePools more h b) (slots : more.actions.left ≡ pools.actions.left ++ slot_of placed a ∷ []) (blocks : more.blocks.left ≡ pools.blocks.left ++ block_of placed (slot_of placed a) ∷ [])
             (free_slots : more.actions.free ≡ pools.actions.free) (free_blocks : more.blocks.free ≡ pools.blocks.free) (rest : more ≡ record pools { blocks = more.blocks; actions = more.actions })
-            (cleared : moved ≡ record left { blocks = slice_set left.blocks (slot_of placed a) 16384 }) (there : slice_get serials upto ≡ Some a) where
+            (cleared : moved ≡ record left { blocks = slice_set left.blocks (slot_of placed a) POOL_BLOCKS }) (there : slice_get serials upto ≡ Some a) where
           away : IsIn a d.gone → ⊥
           away = (block_is less).0
 
-          moved_own : block_of moved (slot_of placed a) ≡ 16384
-          moved_own = ap (λ (q : Placed). block_of q (slot_of placed a)) cleared ∙ get_or-set_same left.blocks (slot_of placed a) 16384 0 (let small = slot_small a at in let wide = d.wide in omega (arith, small, wide))
+          moved_own : block_of moved (slot_of placed a) ≡ POOL_BLOCKS
+          moved_own = ap (λ (q : Placed). block_of q (slot_of placed a)) cleared ∙ get_or-set_same left.blocks (slot_of placed a) POOL_BLOCKS 0 (let small = slot_small a at in let wide = d.wide in omega (arith, small, wide))
 
           moved_other : (s : ℕ) → s ≢ slot_of placed a → block_of moved s ≡ block_of left s
-          moved_other s other = ap (λ (q : Placed). block_of q s) cleared ∙ get_or-set_other left.blocks (slot_of placed a) s 16384 0 other
+          moved_other s other = ap (λ (q : Placed). block_of q s) cleared ∙ get_or-set_other left.blocks (slot_of placed a) s POOL_BLOCKS 0 other
 
           pub dropped_one : DroppedUpTo more moved (upto + 1)
           dropped_one = record {
             pools_are = p;
             same = ap (λ (q : Placed). q.slots) cleared ∙ d.same;
-            wide = ap (λ (q : Placed). length q.blocks) cleared ∙ (length-set left.blocks (slot_of placed a) 16384 ∙ d.wide);
+            wide = ap (λ (q : Placed). length q.blocks) cleared ∙ (length-set left.blocks (slot_of placed a) POOL_BLOCKS ∙ d.wide);
             gone = d.gone ++ a ∷ [];
             once = distinct_more d.gone a d.once away;
             dead = λ c in_. dead_each c (in_more d.gone a c in_);
@@ -270,7 +271,7 @@ module _ (lists : Kept) (old : Pools) (placed : Placed) (h : List (Commit Edit))
                   inr (in_right d.gone (a ∷ []) c (0, ap Some (sym same)))
               all_each place c e false is low_ = let other = eqb-false place upto is in also c (d.all place c e (omega (arith, low_, other)))
 
-              own_each : (c : ℕ) → IsIn c serials → (t : Bool) → eqb c a ≡ t → (IsIn c (d.gone ++ a ∷ []) × (block_of moved (slot_of placed c) ≡ 16384))
+              own_each : (c : ℕ) → IsIn c serials → (t : Bool) → eqb c a ≡ t → (IsIn c (d.gone ++ a ∷ []) × (block_of moved (slot_of placed c) ≡ POOL_BLOCKS))
                   ⊎ ((IsIn c (d.gone ++ a ∷ []) → ⊥) × (block_of moved (slot_of placed c) ≡ block_of placed (slot_of placed c)))
               own_each c in_ true is = let same : c ≡ a = eqb-true c a is in
                   inl (in_right d.gone (a ∷ []) c (0, ap Some (sym same)), ap (λ (n : ℕ). block_of moved (slot_of placed n)) same ∙ moved_own)
@@ -278,8 +279,8 @@ module _ (lists : Kept) (old : Pools) (placed : Placed) (h : List (Commit Edit))
                   sort (moved_other (slot_of placed c) apart) (d.own c in_)
                 where
                   sort : block_of moved (slot_of placed c) ≡ block_of left (slot_of placed c)
-                      → (IsIn c d.gone × (block_of left (slot_of placed c) ≡ 16384)) ⊎ ((IsIn c d.gone → ⊥) × (block_of left (slot_of placed c) ≡ block_of placed (slot_of placed c)))
-                      → (IsIn c (d.gone ++ a ∷ []) × (block_of moved (slot_of placed c) ≡ 16384)) ⊎ ((IsIn c (d.gone ++ a ∷ []) → ⊥) × (block_of moved (slot_of placed c) ≡ block_of placed (slot_of placed c)))
+                      → (IsIn c d.gone × (block_of left (slot_of placed c) ≡ POOL_BLOCKS)) ⊎ ((IsIn c d.gone → ⊥) × (block_of left (slot_of placed c) ≡ block_of placed (slot_of placed c)))
+                      → (IsIn c (d.gone ++ a ∷ []) × (block_of moved (slot_of placed c) ≡ POOL_BLOCKS)) ⊎ ((IsIn c (d.gone ++ a ∷ []) → ⊥) × (block_of moved (slot_of placed c) ≡ block_of placed (slot_of placed c)))
                   sort still (inl gone) = inl (in_left d.gone (a ∷ []) c gone.0, still ∙ gone.1)
                   sort still (inr there_) = inr (λ both. not_both (in_more d.gone a c both), still ∙ there_.1)
                     where
@@ -288,7 +289,7 @@ module _ (lists : Kept) (old : Pools) (placed : Placed) (h : List (Commit Edit))
                       not_both (inr same) = eqb-false c a is same
 
       -- one that is live, or that has left already
-      pub dropped_not : slice_get serials upto ≡ Some a → IsLive hook_meaning (now h) a ⊎ (block_of left (slot_of placed a) < 16384 → ⊥) → DroppedUpTo pools left (upto + 1)
+      pub dropped_not : slice_get serials upto ≡ Some a → IsLive hook_meaning (now h) a ⊎ (block_of left (slot_of placed a) < POOL_BLOCKS → ⊥) → DroppedUpTo pools left (upto + 1)
       dropped_not there why = record {
         pools_are = d.pools_are;
         same = d.same;
@@ -306,11 +307,11 @@ module _ (lists : Kept) (old : Pools) (placed : Placed) (h : List (Commit Edit))
         rest = d.rest;
       }
         where
-          it : IsLive hook_meaning (now h) a ⊎ (block_of left (slot_of placed a) < 16384 → ⊥) → IsLive hook_meaning (now h) a ⊎ IsIn a d.gone
+          it : IsLive hook_meaning (now h) a ⊎ (block_of left (slot_of placed a) < POOL_BLOCKS → ⊥) → IsLive hook_meaning (now h) a ⊎ IsIn a d.gone
           it (inl live) = inl live
           it (inr full) = sort (d.own a at)
             where
-              sort : (IsIn a d.gone × (block_of left (slot_of placed a) ≡ 16384)) ⊎ ((IsIn a d.gone → ⊥) × (block_of left (slot_of placed a) ≡ block_of placed (slot_of placed a)))
+              sort : (IsIn a d.gone × (block_of left (slot_of placed a) ≡ POOL_BLOCKS)) ⊎ ((IsIn a d.gone → ⊥) × (block_of left (slot_of placed a) ≡ block_of placed (slot_of placed a)))
                   → IsLive hook_meaning (now h) a ⊎ IsIn a d.gone
               sort (inl gone) = inr gone.0
               sort (inr still) = absurd (full (let is = still.1 in let small = block_small a at in omega (arith, is, small)))
@@ -348,5 +349,5 @@ module _ (lists : Kept) (old : Pools) (placed : Placed) (h : List (Commit Edit))
 -- what stays so as one serial after the other is looked at
 pub record DropLoop (lists : Kept) (old : Pools) (placed : Placed) (serials : List ℕ) (pools : Pools) (left : Placed) (upto : ℕ) : Type 0 where
   pub all : (h : List (Commit Edit)) (b after : ℕ) (m : MayGo lists old placed h b after serials) → DroppedUpTo lists old placed h b after serials m pools left upto
-  pub blocks : pools.blocks.size ≡ 16384
-  pub actions : pools.actions.size ≡ 2048
+  pub blocks : pools.blocks.size ≡ POOL_BLOCKS
+  pub actions : pools.actions.size ≡ ACTION_SLOTS

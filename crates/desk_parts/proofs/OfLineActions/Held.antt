@@ -23,12 +23,12 @@ use Rattle.filter_state.specs.Steps.{made_of, resolved_for, with_actions, with_r
 use Rattle.filter_state.specs.Sound.{Sound, Each, IsRow, IsAction}
 use Rattle.filter_state.proofs.Pairs.{each_weaker, each_filter, each_flat_map, found, any_first}
 use Rattle.state_laws.proofs.Answers.{same_ok, err_ok, and_then_ok}
-use Rattle.hook_meaning.proofs.OfEffects.Accepted.{not_unless, same_step}
-use Rattle.hook_meaning.proofs.OfEffects.Adding.{adds}
-use Rattle.hook_meaning.proofs.OfEffects.Replacing.{exchanged_actions, is_there, replaces}
+use Rattle.hook_store_law.proofs.OfEffects.Accepted.{not_unless, same_step}
+use Rattle.hook_store_law.proofs.OfEffects.Adding.{adds}
+use Rattle.hook_store_law.proofs.OfEffects.Replacing.{exchanged_actions, is_there, replaces}
 use Rattle.hook_law.specs.Meaning.{IsLive}
 use Rattle.hook_law.specs.Standing.{IsIn}
-use Rattle.hook_meaning.specs.Stated.{action_stated, hook_meaning}
+use Rattle.hook_store_law.specs.Stated.{action_stated, hook_meaning}
 use Rattle.hook_store_law.specs.OfEdits.Premises.{IsOfFilters}
 use Rattle.desk_parts.specs.OfLineActions.Gone.{named_by, serials_gone}
 use Rattle.desk_parts.proofs.OfLineActions.Living.{IsHeldIn, held_left, held_map, held_all, held_found, more_references}

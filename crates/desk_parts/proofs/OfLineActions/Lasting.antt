@@ -4,6 +4,7 @@ use Rattle.store_history.specs.declared.history.Commit.{Commit}
 use Rattle.store_history.specs.declared.history.Named.{Named}
 use Rattle.store_history.specs.History.{root_of}
 use Rattle.store_history.proofs.Lists.{get_parts}
+use Rattle.store_history.specs.declared.places.TheConstants.{ACTION_SLOTS}
 use Rattle.filter_state.specs.declared.edit.Edit.{Edit}
 use Rattle.filter_state.specs.States.{State}
 use Rattle.hook_law.specs.Places.{action_root}
@@ -12,8 +13,8 @@ use Rattle.hook_law.specs.Standing.{Action as ActionRole, IsSlotOf}
 use Rattle.hook_law.specs.Keeping.{Keeps}
 use Rattle.hook_law.proofs.Lists.{root_of_none}
 use Rattle.hook_law.proofs.Standing.{slot_longer}
-use Rattle.hook_meaning.specs.Stated.{hook_meaning}
-use Rattle.hook_meaning.specs.Blocks.{hook_codec}
+use Rattle.hook_store_law.specs.Stated.{hook_meaning}
+use Rattle.hook_store_law.specs.Blocks.{hook_codec}
 use Rattle.hook_store_law.specs.OfEdits.Premises.{now}
 use Rattle.desk_pools.specs.declared.pools.Pools.{Pools}
 use Rattle.desk_pools.specs.Pools.{ArePools}
@@ -23,7 +24,7 @@ use Rattle.desk_actions.proofs.Turning.{standing_slot}
 use Rattle.desk_parts.specs.OfLineActions.Put.{IsPlaced, HaveNoSlots}
 
 module _ (placed : Placed) (h more : List (Commit Edit)) (none : HaveNoSlots more) where
-  same_root : (slot : ℕ) → slot < 2048 → root_of (h ++ more) (action_root slot) ≡ root_of h (action_root slot)
+  same_root : (slot : ℕ) → slot < ACTION_SLOTS → root_of (h ++ more) (action_root slot) ≡ root_of h (action_root slot)
   same_root slot small = root_of_none h more (action_root slot) (λ j c at is. none j c at slot small is)
 
   slot_before : (action slot : ℕ) → IsSlotOf hook_codec (h ++ more) action slot → IsSlotOf hook_codec h action slot

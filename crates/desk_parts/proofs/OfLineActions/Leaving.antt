@@ -1,7 +1,9 @@
 -- The loop that lets dead actions go, from its invariant to its invariant.
 use Rattle.std.proofs.Common.{◌≡◌, ◌∙◌, ◌⊎◌, inl, inr, ℕ, ◌+◌, ◌<◌, ◌≤◌, List, [], ◌∷◌, ◌++◌, length, get_or, slice_get, Some, None, refl, sym, ap, subst, arith}
 use Rattle.std.specs.Option.{option_map}
+use Rattle.act_registry.specs.declared.limits.TheConstants.{MADE_MAX}
 use Rattle.store_history.specs.declared.history.Commit.{Commit}
+use Rattle.store_history.specs.declared.places.TheConstants.{ACTION_SLOTS, ACTION_ROOTS, POOL_BLOCKS}
 use Rattle.filter_state.specs.declared.edit.Edit.{Edit}
 use Rattle.filter_state.specs.States.{Action}
 use Rattle.filter_state.specs.Actions.{has_serial}
@@ -10,7 +12,7 @@ use Rattle.hook_lists.specs.declared.kept.Kept.{Kept}
 use Rattle.hook_lists.specs.States.{state_of}
 use Rattle.hook_law.specs.Meaning.{IsLive}
 use Rattle.hook_law.specs.Standing.{IsIn}
-use Rattle.hook_meaning.specs.Stated.{hook_meaning, action_stated, action_at}
+use Rattle.hook_store_law.specs.Stated.{hook_meaning, action_stated, action_at}
 use Rattle.hook_store_law.specs.OfEdits.Premises.{now}
 use Rattle.desk_pools.specs.OfNumbers.Numbers.{PoolNumbers}
 use Rattle.root_pool_laws.specs.Blocks.{IsLeft}
@@ -23,7 +25,7 @@ use Rattle.desk_parts.specs.OfLineActions.Dropped.{MayGo, AreDropped}
 use Rattle.desk_parts.proofs.OfLineActions.Going.{DroppedUpTo, DropLoop, dropped_none, dropped_one, dropped_not, all_dropped, slot_small, old_block, slot_room, block_room, empty_slot, apart_slot, apart_block, left_block}
 
 module _ (lists : Kept) (old : Pools) (placed : Placed) (serials : List ℕ) where
-  pub drop_start : old.blocks.size ≡ 16384 → old.actions.size ≡ 2048 → DropLoop lists old placed serials old placed 0
+  pub drop_start : old.blocks.size ≡ POOL_BLOCKS → old.actions.size ≡ ACTION_SLOTS → DropLoop lists old placed serials old placed 0
   drop_start blocks actions = record { all = λ h b after m. dropped_none lists old placed h b after serials m; blocks = blocks; actions = actions }
 
   pub drop_end : (pools : Pools) (left : Placed) (upto : ℕ) → DropLoop lists old placed serials pools left upto → length serials ≤ upto → (h : List (Commit Edit)) (b after : ℕ) → MayGo lists old placed h b after serials
@@ -38,7 +40,7 @@ module _ (lists : Kept) (old : Pools) (placed : Placed) (serials : List ℕ) whe
     at : IsIn a serials
     at = (upto, there)
 
-    pub serial_low : (h : List (Commit Edit)) (b after : ℕ) → MayGo lists old placed h b after serials → a ≤ 16384
+    pub serial_low : (h : List (Commit Edit)) (b after : ℕ) → MayGo lists old placed h b after serials → a ≤ MADE_MAX
     serial_low h b after m = m.small a at
 
     module _ (h : List (Commit Edit)) (b after : ℕ) (m : MayGo lists old placed h b after serials) where
@@ -52,21 +54,21 @@ module _ (lists : Kept) (old : Pools) (placed : Placed) (serials : List ℕ) whe
       its_block = block_is ∙ ap (block_of left) its_slot
 
     -- it is live, or has left already
-    pub loop_kept : (action_at (state_of lists) a ≡ None → ⊥) ⊎ (block < 16384 → ⊥) → DropLoop lists old placed serials pools left (upto + 1)
+    pub loop_kept : (action_at (state_of lists) a ≡ None → ⊥) ⊎ (block < POOL_BLOCKS → ⊥) → DropLoop lists old placed serials pools left (upto + 1)
     loop_kept why = record {
       all = λ h b after m. dropped_not lists old placed h b after serials m pools left upto (lp.all h b after m) a at there (sort h b after m why);
       blocks = lp.blocks;
       actions = lp.actions;
     }
       where
-        sort : (h : List (Commit Edit)) (b after : ℕ) → (m : MayGo lists old placed h b after serials) → (action_at (state_of lists) a ≡ None → ⊥) ⊎ (block < 16384 → ⊥)
-            → IsLive hook_meaning (now h) a ⊎ (block_of left (slot_of placed a) < 16384 → ⊥)
+        sort : (h : List (Commit Edit)) (b after : ℕ) → (m : MayGo lists old placed h b after serials) → (action_at (state_of lists) a ≡ None → ⊥) ⊎ (block < POOL_BLOCKS → ⊥)
+            → IsLive hook_meaning (now h) a ⊎ (block_of left (slot_of placed a) < POOL_BLOCKS → ⊥)
         sort h b after m (inl live) = inl (λ none. live (terms_there h b after m a ∙ none))
         sort h b after m (inr full) = inr (λ less. full (let is = its_block h b after m in omega (arith, is, less)))
 
-    module _ (less : block < 16384) (none : action_at (state_of lists) a ≡ None) where
+    module _ (less : block < POOL_BLOCKS) (none : action_at (state_of lists) a ≡ None) where
       module _ (h : List (Commit Edit)) (b after : ℕ) (m : MayGo lists old placed h b after serials) where
-        its_less : block_of left (slot_of placed a) < 16384
+        its_less : block_of left (slot_of placed a) < POOL_BLOCKS
         its_less = let is = its_block h b after m in omega (arith, is, less)
 
         its_dead : IsLive hook_meaning (now h) a → ⊥
@@ -82,9 +84,9 @@ module _ (lists : Kept) (old : Pools) (placed : Placed) (serials : List ℕ) whe
         old_is = its_block h b after m ∙ old_block lists old placed h b after serials m pools left upto (lp.all h b after m) a at its_less its_dead
 
       module _ (mid more : Pools) (moved : Placed)
-          (goes : (h : List (Commit Edit)) (b : ℕ) → ArePools pools h b → slot < 2048 → IsLeftAt h 8195 1 slot → (IsInPool slot pools.actions → ⊥) → ArePools mid h b)
+          (goes : (h : List (Commit Edit)) (b : ℕ) → ArePools pools h b → slot < ACTION_SLOTS → IsLeftAt h ACTION_ROOTS 1 slot → (IsInPool slot pools.actions → ⊥) → ArePools mid h b)
           (slot_free : mid.actions.free ≡ pools.actions.free) (slot_left : mid.actions.left ≡ pools.actions.left ++ slot ∷ []) (slot_size : mid.actions.size ≡ pools.actions.size) (slot_others : mid ≡ record pools { actions = mid.actions })
-          (follows : (h : List (Commit Edit)) (b : ℕ) → ArePools mid h b → block < 16384 → IsLeft (gone_roots mid) h block → (IsInPool block mid.blocks → ⊥) → ArePools more h b)
+          (follows : (h : List (Commit Edit)) (b : ℕ) → ArePools mid h b → block < POOL_BLOCKS → IsLeft (gone_roots mid) h block → (IsInPool block mid.blocks → ⊥) → ArePools more h b)
           (blk_free : more.blocks.free ≡ mid.blocks.free) (blk_left : more.blocks.left ≡ mid.blocks.left ++ block ∷ []) (blk_size : more.blocks.size ≡ mid.blocks.size) (blk_others : more ≡ record mid { blocks = more.blocks })
           (cleared : moved ≡ cleared_at left slot) where
         same_blocks : mid.blocks ≡ pools.blocks
@@ -94,7 +96,7 @@ module _ (lists : Kept) (old : Pools) (placed : Placed) (serials : List ℕ) whe
         same_actions = ap (λ (p : Pools). p.actions) blk_others
 
         module _ (h : List (Commit Edit)) (b after : ℕ) (m : MayGo lists old placed h b after serials) where
-          l : block_of left (slot_of placed a) < 16384
+          l : block_of left (slot_of placed a) < POOL_BLOCKS
           l = its_less h b after m
 
           e : IsLive hook_meaning (now h) a → ⊥
@@ -110,8 +112,8 @@ module _ (lists : Kept) (old : Pools) (placed : Placed) (serials : List ℕ) whe
           t = old_is h b after m
 
           mid_pools : ArePools mid h b
-          mid_pools = let q = lp.all h b after m in goes h b q.pools_are (subst (λ (n : ℕ). n < 2048) (sym s) (slot_small lists old placed h b after serials m a at))
-              (subst (IsLeftAt h 8195 1) (sym s) (empty_slot lists old placed h b after serials m pools left upto (lp.all h b after m) a at l e))
+          mid_pools = let q = lp.all h b after m in goes h b q.pools_are (subst (λ (n : ℕ). n < ACTION_SLOTS) (sym s) (slot_small lists old placed h b after serials m a at))
+              (subst (IsLeftAt h ACTION_ROOTS 1) (sym s) (empty_slot lists old placed h b after serials m pools left upto (lp.all h b after m) a at l e))
               (subst (λ (n : ℕ). IsInPool n pools.actions → ⊥) (sym s) (apart_slot lists old placed h b after serials m pools left upto (lp.all h b after m) a at l e))
 
           more_pools : ArePools more h b

@@ -20,10 +20,10 @@ use Rattle.filter_state.specs.Steps.{made_of, resolved_for, with_actions, with_r
 use Rattle.filter_state.specs.Sound.{Sound, Each, IsRow, IsAction}
 use Rattle.filter_state.proofs.Pairs.{each_weaker, found, any_first}
 use Rattle.state_laws.proofs.Answers.{same_ok, err_ok, and_then_ok}
-use Rattle.hook_meaning.proofs.OfEffects.Adding.{adds}
-use Rattle.hook_meaning.proofs.OfEffects.Replacing.{exchanged_actions, is_there, replaces}
+use Rattle.hook_store_law.proofs.OfEffects.Adding.{adds}
+use Rattle.hook_store_law.proofs.OfEffects.Replacing.{exchanged_actions, is_there, replaces}
 use Rattle.hook_law.specs.Meaning.{IsLive}
-use Rattle.hook_meaning.specs.Stated.{action_stated, hook_meaning}
+use Rattle.hook_store_law.specs.Stated.{action_stated, hook_meaning}
 use Rattle.desk_parts.specs.OfLineActions.Put.{IsOfLine}
 
 -- ---- somebody holds the action with that serial

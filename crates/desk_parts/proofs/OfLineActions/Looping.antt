@@ -1,8 +1,10 @@
 -- The loop that puts new actions, from its invariant to its invariant.
 use Rattle.std.proofs.Common.{◌≡◌, ◌≢◌, ◌∙◌, ◌⊎◌, inl, inr, ℕ, ◌+◌, ◌-◌, ◌<◌, ◌≤◌, List, [], ◌∷◌, ◌++◌, length, Some, None, refl, sym, ap, subst, arith, length-append}
 use Rattle.std.specs.Option.{option_map}
+use Rattle.act_registry.specs.declared.limits.TheConstants.{MADE_MAX}
 use Rattle.store_history.specs.declared.history.Commit.{Commit}
 use Rattle.store_history.proofs.Histories.{named_longer, named_at_end}
+use Rattle.store_history.specs.declared.places.TheConstants.{ACTION_SLOTS, ACTION_ROOTS, POOL_BLOCKS}
 use Rattle.pin_store.specs.declared.shape.Shape.{Shape}
 use Rattle.pin_store.specs.declared.view.Sheet.{Sheet}
 use Rattle.pin_store.specs.Layout.{block_words}
@@ -21,8 +23,8 @@ use Rattle.filter_lists.specs.Spells.{Spells}
 use Rattle.hook_law.specs.Meaning.{state_at, IsLive}
 use Rattle.hook_law.specs.Standing.{Action as ActionRole, IsIn}
 use Rattle.hook_law.specs.Keeping.{IsAtRest}
-use Rattle.hook_meaning.specs.Stated.{hook_meaning, action_stated, action_at}
-use Rattle.hook_meaning.specs.Blocks.{hook_codec}
+use Rattle.hook_store_law.specs.Stated.{hook_meaning, action_stated, action_at}
+use Rattle.hook_store_law.specs.Blocks.{hook_codec}
 use Rattle.hook_store_law.specs.Kept.{KeepsHook, IsKeptAt}
 use Rattle.hook_store_law.specs.OfEdits.Premises.{now, next, IsAccepted}
 use Rattle.hook_store_law.proofs.OfEdits.Accepted.{sound, next_sound}
@@ -97,20 +99,20 @@ module _ (h : List (Commit Edit)) (b point made : ℕ) (y : Edit) (done : Done) 
       pub storable_next : IsStorableAction x
       storable_next = subst IsStorableAction it_is can.storable
 
-      pub serial_next : x.serial ≤ 16384
-      serial_next = subst (λ (n : ℕ). n ≤ 16384) (sym x_serial) can.most
+      pub serial_next : x.serial ≤ MADE_MAX
+      serial_next = subst (λ (n : ℕ). n ≤ POOL_BLOCKS) (sym x_serial) can.most
 
       module _ (mid pools : Pools) (slot blk : ℕ) (slot_free : before.actions.free ≡ mid.actions.free ++ slot ∷ []) (slot_left : mid.actions.left ≡ before.actions.left) (slot_size : mid.actions.size ≡ before.actions.size)
           (slot_others : mid ≡ record before { actions = mid.actions }) (blk_free : mid.blocks.free ≡ pools.blocks.free ++ blk ∷ []) (blk_left : pools.blocks.left ≡ mid.blocks.left) (blk_size : pools.blocks.size ≡ mid.blocks.size)
-          (blk_others : pools ≡ record mid { blocks = pools.blocks }) (q : ArePools pools k b) (slot_taken : IsTaken 2048 (IsFreeAt k b 8195 1) mid.actions slot) (blk_taken : IsTaken 16384 (IsUnnamed b k) pools.blocks blk) where
+          (blk_others : pools ≡ record mid { blocks = pools.blocks }) (q : ArePools pools k b) (slot_taken : IsTaken ACTION_SLOTS (IsFreeAt k b ACTION_ROOTS 1) mid.actions slot) (blk_taken : IsTaken POOL_BLOCKS (IsUnnamed b k) pools.blocks blk) where
         same_actions : pools.actions ≡ mid.actions
         same_actions = ap (λ (p : Pools). p.actions) blk_others
 
         same_blocks : mid.blocks ≡ before.blocks
         same_blocks = ap (λ (p : Pools). p.blocks) slot_others
 
-        taken : IsTaken 2048 (IsFreeAt k b 8195 1) pools.actions slot
-        taken = subst (λ (p : PoolNumbers). IsTaken 2048 (IsFreeAt k b 8195 1) p slot) (sym same_actions) slot_taken
+        taken : IsTaken ACTION_SLOTS (IsFreeAt k b ACTION_ROOTS 1) pools.actions slot
+        taken = subst (λ (p : PoolNumbers). IsTaken ACTION_SLOTS (IsFreeAt k b ACTION_ROOTS 1) p slot) (sym same_actions) slot_taken
 
         was : IsInPool slot before.actions
         was = inl (subst (λ (l : List ℕ). IsIn slot l) (sym slot_free) (in_right mid.actions.free (slot ∷ []) slot (0, refl)))

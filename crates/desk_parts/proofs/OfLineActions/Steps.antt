@@ -9,6 +9,7 @@ use Rattle.store_history.specs.declared.history.Commit.{Commit}
 use Rattle.store_history.specs.History.{root_of, edits_of}
 use Rattle.store_history.proofs.Lists.{some_is, get_parts}
 use Rattle.store_history.proofs.Histories.{root_own, root_other}
+use Rattle.store_history.specs.declared.places.TheConstants.{ACTION_SLOTS, ACTION_ROOTS, POOL_BLOCKS}
 use Rattle.pin_store.specs.Calls.{IsUnnamed}
 use Rattle.act_kinds.specs.declared.params.Params.{Params}
 use Rattle.filter_state.specs.declared.edit.Edit.{Edit}
@@ -29,8 +30,8 @@ use Rattle.hook_law.proofs.Growing.{edits_still, now_still}
 use Rattle.hook_law.proofs.Standing.{slot_longer, slot_here, slot_push, unused_end}
 use Rattle.hook_law.proofs.Sparing.{spare_back, spare_keeps, spare_unused}
 use Rattle.hook_law.proofs.Resting.{spare_rests}
-use Rattle.hook_meaning.specs.Stated.{ActionTerms, hook_meaning, action_at}
-use Rattle.hook_meaning.specs.Blocks.{action_record, hook_codec}
+use Rattle.hook_store_law.specs.Stated.{ActionTerms, hook_meaning, action_at}
+use Rattle.hook_store_law.specs.Blocks.{action_record, hook_codec}
 use Rattle.hook_store_law.specs.Kept.{KeepsHook, IsKeptAt}
 use Rattle.hook_store_law.specs.OfEdits.Premises.{now, next}
 use Rattle.desk_actions.specs.OfRoots.Records.{action_block, action_commit}
@@ -65,7 +66,7 @@ pub record PutUpTo (h : List (Commit Edit)) (b point made : ℕ) (y : Edit) (k :
   pub pools_are : ArePools pools k b
   pub free : (slot : ℕ) → IsInPool slot pools.actions → root_of k (action_root slot) ≡ root_of h (action_root slot)
   pub long : length placed.slots ≡ 16385
-  pub wide : length placed.blocks ≡ 2048
+  pub wide : length placed.blocks ≡ ACTION_SLOTS
   pub old : (action : ℕ) → IsLive hook_meaning (now h) action → IsPlaced placed k action
   pub new : (action : ℕ) → made < action → action ≤ upto → IsPutThere b k y pools placed action
   pub given : (action slot : ℕ) → IsSlotOf hook_codec k action slot → action ≤ upto
@@ -107,12 +108,12 @@ module _ (h : List (Commit Edit)) (b point made : ℕ) (y : Edit) (kept : IsKept
     low : b ≤ length k
     low = let more = ap length p.seen ∙ length-append h p.more in let first = kept.low in omega (arith, more, first)
 
-    module _ (pools : Pools) (slot blk : ℕ) (q : ArePools pools k b) (taken : IsTaken 2048 (IsFreeAt k b 8195 1) pools.actions slot) (block : IsTaken 16384 (IsUnnamed b k) pools.blocks blk)
+    module _ (pools : Pools) (slot blk : ℕ) (q : ArePools pools k b) (taken : IsTaken ACTION_SLOTS (IsFreeAt k b ACTION_ROOTS 1) pools.actions slot) (block : IsTaken POOL_BLOCKS (IsUnnamed b k) pools.blocks blk)
         (was : IsInPool slot before.actions) (fewer : (x : ℕ) → IsInPool x pools.actions → IsInPool x before.actions) where
       abbrev pub c : Commit Edit
       c = action_commit slot blk (stored_as serial index given) (point + 1) None y
 
-      small : slot < 2048
+      small : slot < ACTION_SLOTS
       small = taken.small
 
       unused : IsUnused hook_meaning hook_codec b k (action_root slot)
@@ -189,7 +190,7 @@ module _ (h : List (Commit Edit)) (b point made : ℕ) (y : Edit) (kept : IsKept
       own_placed = record {
         slot = subst (IsSlotOf hook_codec (k ++ c ∷ []) serial) (sym own_slot) (slot_here hook_codec k c serial slot own_put);
         block = subst (λ (s : ℕ). IsAlone (k ++ c ∷ []) s (block_of after s)) (sym own_slot) (
-          subst (λ (n : ℕ). n < 16384) (sym own_block) block.small,
+          subst (λ (n : ℕ). n < POOL_BLOCKS) (sym own_block) block.small,
           action_block (stored_as serial index given),
           ap (λ (n : Named). n.chain) (root_own k c)
               ∙ ap (λ (n : ℕ). record { block = n; words = action_block (stored_as serial index given) } ∷ []) (sym own_block),

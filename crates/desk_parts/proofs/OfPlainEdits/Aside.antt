@@ -6,6 +6,7 @@ use Rattle.store_history.specs.declared.history.Named.{Named}
 use Rattle.store_history.specs.declared.history.Commit.{Commit}
 use Rattle.store_history.specs.History.{root_of, edits_of}
 use Rattle.store_history.proofs.Histories.{root_other}
+use Rattle.store_history.specs.declared.places.TheConstants.{ACTION_ROOTS, BUCKET_ROOTS}
 use Rattle.pin_store.specs.declared.shape.Shape.{Shape}
 use Rattle.pin_store.specs.Layout.{block_words}
 use Rattle.filter_state.specs.declared.edit.Edit.{Edit}
@@ -19,8 +20,8 @@ use Rattle.hook_law.specs.Meaning.{point_of}
 use Rattle.hook_law.specs.Keeping.{Keeps}
 use Rattle.hook_law.proofs.Growing.{edits_more, now_next}
 use Rattle.hook_law.proofs.Standing.{slot_longer}
-use Rattle.hook_meaning.specs.Stated.{hook_meaning, filters_at}
-use Rattle.hook_meaning.specs.Blocks.{hook_codec}
+use Rattle.hook_store_law.specs.Stated.{hook_meaning, filters_at}
+use Rattle.hook_store_law.specs.Blocks.{hook_codec}
 use Rattle.hook_store_law.specs.OfEdits.Premises.{now, IsAccepted, IsOfFilters}
 use Rattle.hook_store_law.proofs.OfEdits.Accepted.{leads, sound}
 use Rattle.hook_store_law.proofs.OfEdits.Stating.{rows_stay}
@@ -32,7 +33,7 @@ use Rattle.desk_masks.proofs.Going.{IsAside, tables_go, masks_go, aside_of_heads
 
 -- the marker's root, or that of a slot of actions
 abbrev pub IsAsideRoot : ℕ → Type 0
-IsAsideRoot root = (root < 1) ⊎ ((8195 ≤ root) × (root < 10243))
+IsAsideRoot root = (root < 1) ⊎ ((ACTION_ROOTS ≤ root) × (root < BUCKET_ROOTS))
 
 module _ (h : List (Commit Edit)) (b : ℕ) (c : Commit Edit) (y : Edit) (number : ℕ) (t : State) (done : Done) (a : IsAccepted h b y t done) (plain : IsOfFilters y → ⊥)
     (carries : c.edit ≡ Some (number, y)) (aside : IsAsideRoot c.root) where

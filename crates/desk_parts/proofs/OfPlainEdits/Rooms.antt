@@ -2,14 +2,15 @@
 use Rattle.std.proofs.Common.{◌≡◌, ℕ, zero, suc, ◌+◌, ◌<◌, true, Some, List, [], ◌∷◌, length, slice_get, refl, sym, subst, arith}
 use Rattle.std.specs.List.{IsDistinct}
 use Rattle.store_history.specs.declared.history.Commit.{Commit}
+use Rattle.store_history.specs.declared.places.TheConstants.{ACTION_SLOTS, POOL_BLOCKS}
 use Rattle.act_kinds.specs.declared.params.Kind.{Kind}
 use Rattle.filter_state.specs.declared.edit.Edit.{Edit}
 use Rattle.filter_state.specs.Actions.{is_live}
 use Rattle.hook_law.specs.Places.{action_root}
 use Rattle.hook_law.specs.Meaning.{IsLive}
 use Rattle.hook_law.specs.Standing.{Action as ActionRole, Stands}
-use Rattle.hook_meaning.specs.Stated.{hook_meaning}
-use Rattle.hook_meaning.specs.Blocks.{hook_codec}
+use Rattle.hook_store_law.specs.Stated.{hook_meaning}
+use Rattle.hook_store_law.specs.Blocks.{hook_codec}
 use Rattle.hook_store_law.specs.OfEdits.Premises.{now}
 use Rattle.desk_pools.specs.OfNumbers.Numbers.{PoolNumbers}
 use Rattle.root_pool_laws.specs.Pools.{IsPool}
@@ -53,7 +54,7 @@ module _ (parts : Parts) (d : IsDesk parts) (kind : Kind) (index : ℕ) (is : is
   abbrev slot : ℕ
   slot = slot_of parts.actions serial
 
-  small : slot < 2048
+  small : slot < ACTION_SLOTS
   small = (d.actions.slots serial live).puts.small
 
   stands : Stands hook_meaning hook_codec h (action_root slot) (ActionRole serial)
@@ -64,9 +65,9 @@ module _ (parts : Parts) (d : IsDesk parts) (kind : Kind) (index : ℕ) (is : is
 
   pub room_of_slot : length parts.pools.actions.free + length parts.pools.actions.left < parts.pools.actions.size
   room_of_slot = let p = d.pools in let size = d.sized.3 in
-      let room = not_full 2048 _ _ parts.pools.actions slot p.actions small (standing_slot parts.pools h (base parts.ledger) slot (ActionRole serial) d.whole.kept.low p stands) in omega (arith, room, size)
+      let room = not_full ACTION_SLOTS _ _ parts.pools.actions slot p.actions small (standing_slot parts.pools h (base parts.ledger) slot (ActionRole serial) d.whole.kept.low p stands) in omega (arith, room, size)
 
   pub room_of_block : length parts.pools.blocks.free + length parts.pools.blocks.left < parts.pools.blocks.size
   room_of_block = let p = d.pools in let size = d.sized.0 in
-      let room = not_full 16384 _ _ parts.pools.blocks (block_of parts.actions slot) p.blocks alone.0
+      let room = not_full POOL_BLOCKS _ _ parts.pools.blocks (block_of parts.actions slot) p.blocks alone.0
       (standing_block parts.pools h (base parts.ledger) (action_root slot) (block_of parts.actions slot) (ActionRole serial) d.whole.kept.low p (alone_has h slot (block_of parts.actions slot) alone) stands) in omega (arith, room, size)

@@ -20,7 +20,7 @@ use Rattle.filter_state.specs.Order.{of_mask}
 use Rattle.filter_state.proofs.Free.{length_filter_le}
 use Rattle.filter_state.proofs.Pairs.{found}
 use Rattle.state_laws.proofs.Tests.{row_in_table, bytes_eq_from}
-use Rattle.hook_meaning.specs.OfEffects.Parts.{Filter, filter_of, filters_of}
+use Rattle.hook_store_law.specs.OfEffects.Parts.{Filter, filter_of, filters_of}
 use Rattle.mask_table.specs.declared.mirrors.mirror.KeptMask.{KeptMask}
 use Rattle.store_history.specs.Reads.{read_first}
 use Rattle.block_codec.specs.OfReadings.Read.{mask_of_words}
@@ -33,10 +33,10 @@ use Rattle.hook_law.specs.Meaning.{point_of}
 use Rattle.hook_law.specs.Records.{StatedFilter}
 use Rattle.hook_law.specs.Standing.{IsMaskAt}
 use Rattle.hook_law.specs.Keeping.{IsAtRest}
-use Rattle.hook_meaning.specs.Stated.{hook_meaning, filter_stated, filters_at}
-use Rattle.hook_meaning.specs.Blocks.{mask_record, hook_codec}
-use Rattle.hook_meaning.proofs.Reading.{first_maps}
-use Rattle.hook_meaning.proofs.States.{state_is, sound_after}
+use Rattle.hook_store_law.specs.Stated.{hook_meaning, filter_stated, filters_at}
+use Rattle.hook_store_law.specs.Blocks.{mask_record, hook_codec}
+use Rattle.hook_store_law.proofs.Reading.{first_maps}
+use Rattle.hook_store_law.proofs.States.{state_is, sound_after}
 use Rattle.hook_store_law.specs.OfEdits.Premises.{now, named_row}
 use Rattle.hook_store_law.proofs.OfEdits.OneHandle.{only_filter, around}
 use Rattle.desk_masks.specs.OfFilterCommits.Edits.{HasLater}

@@ -17,8 +17,8 @@ use Rattle.filter_state.specs.Tables.{mask_row, mask_or_next}
 use Rattle.filter_state.specs.Steps.{step, pref_for, filter_add, add_at, add_resolved, filter_added, replace_or_add, resolved_for}
 use Rattle.filter_state.specs.Refusals.{no_hook}
 use Rattle.state_laws.proofs.Answers.{and_then_ok}
-use Rattle.hook_meaning.proofs.OfEffects.Accepted.{not_unless, same_step}
-use Rattle.hook_meaning.proofs.OfEffects.Adding.{handle_in}
+use Rattle.hook_store_law.proofs.OfEffects.Accepted.{not_unless, same_step}
+use Rattle.hook_store_law.proofs.OfEffects.Adding.{handle_in}
 use Rattle.hook_store_law.specs.OfEdits.Premises.{now, IsAccepted, IsAddOf}
 use Rattle.hook_store_law.proofs.OfEdits.Accepted.{sound}
 use Rattle.desk_needs.specs.declared.needs.Needs.{Needs}

@@ -7,8 +7,8 @@ use Rattle.filter_state.specs.declared.edit.Edit.{Edit}
 use Rattle.filter_state.specs.States.{Row}
 use Rattle.filter_state.specs.Tables.{mask_row, filter_row}
 use Rattle.hook_law.specs.Standing.{IsMaskAt}
-use Rattle.hook_meaning.specs.Stated.{filters_at}
-use Rattle.hook_meaning.specs.Blocks.{hook_codec}
+use Rattle.hook_store_law.specs.Stated.{filters_at}
+use Rattle.hook_store_law.specs.Blocks.{hook_codec}
 use Rattle.hook_store_law.specs.OfEdits.Premises.{now}
 use Rattle.desk_parts.specs.declared.finding.masks.FoundMask.{FoundMask}
 use Rattle.desk_parts.specs.declared.finding.filters.FoundFilter.{FoundFilter}

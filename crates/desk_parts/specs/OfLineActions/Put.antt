@@ -5,13 +5,13 @@ use Rattle.store_history.specs.declared.history.Commit.{Commit}
 use Rattle.store_history.specs.History.{root_of, edits_of}
 use Rattle.filter_state.specs.declared.edit.Edit.{Edit}
 use Rattle.filter_state.specs.declared.edit.Edit.TheVariants as edits
-use Rattle.block_codec.specs.declared.places.TheConstants.{ACTION_SLOTS}
+use Rattle.store_history.specs.declared.places.TheConstants.{ACTION_SLOTS}
 use Rattle.hook_law.specs.Places.{action_root}
 use Rattle.hook_law.specs.Standing.{IsSlotOf}
 use Rattle.hook_law.specs.Keeping.{IsAtRest}
 use Rattle.hook_law.specs.Numbered.{PutsActions}
-use Rattle.hook_meaning.specs.Stated.{hook_meaning}
-use Rattle.hook_meaning.specs.Blocks.{hook_codec}
+use Rattle.hook_store_law.specs.Stated.{hook_meaning}
+use Rattle.hook_store_law.specs.Blocks.{hook_codec}
 use Rattle.hook_store_law.specs.Kept.{KeepsHook}
 use Rattle.desk_actions.specs.Places.{Placed, slot_of, block_of, IsAlone}
 

@@ -9,7 +9,7 @@ ghost use Rattle.filter_state.specs.declared.refusal.Done.TheVariants as dones;
 ghost use Rattle.filter_state.specs.States.{Row, State};
 ghost use Rattle.filter_state.specs.Tables.{mask_row, mask_or_next};
 ghost use Rattle.hook_law.specs.Standing.{IsIn};
-ghost use Rattle.hook_meaning.specs.Stated.{filters_at};
+ghost use Rattle.hook_store_law.specs.Stated.{filters_at};
 ghost use Rattle.hook_store_law.specs.OfEdits.Premises.{now, next, IsAccepted, IsAddOf, named_row, filter_of_line};
 
 /// An accepted edit that adds or replaces a filter is answered by the filter.

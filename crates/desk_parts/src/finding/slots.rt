@@ -4,7 +4,7 @@ ghost use Rattle.filter_tables.specs.Plain.{PlainMask, PlainTable};
 ghost use Rattle.filter_tables.specs.Places.{item_at};
 ghost use Rattle.filter_tables.specs.Rows.{tables_on};
 ghost use Rattle.hook_lists.specs.States.{both_of, AreKept};
-ghost use Rattle.hook_meaning.specs.Blocks.{hook_codec};
+ghost use Rattle.hook_store_law.specs.Blocks.{hook_codec};
 ghost use Rattle.hook_law.specs.Standing.{IsMaskAt};
 ghost use Rattle.desk_actions.specs.OfLedgers.Kept.{commits, IsWhole};
 ghost use Rattle.desk_masks.specs.Tables.{HasTables};

@@ -2,22 +2,22 @@
 ghost use Rattle.std.specs.Prelude.{◌≡◌, ◌↔◌, ◌≤◌, ℕ, List, None, IsTrue, length};
 ghost use Rattle.store_history.specs.declared.history.Commit.{Commit};
 ghost use Rattle.act_registry.specs.declared.limits.TheConstants.{MADE_MAX};
-ghost use Rattle.block_codec.specs.declared.places.TheConstants.{POOL_BLOCKS, ACTION_SLOTS};
+ghost use Rattle.store_history.specs.declared.places.TheConstants.{POOL_BLOCKS, ACTION_SLOTS};
 ghost use Rattle.filter_state.specs.declared.edit.Edit.{Edit};
 ghost use Rattle.hook_lists.specs.States.{state_of};
 ghost use Rattle.filter_lists.specs.Spells.{Spells};
 ghost use Rattle.hook_law.specs.Keeping.{Keeps};
-ghost use Rattle.hook_meaning.specs.Stated.{hook_meaning, action_at};
-ghost use Rattle.hook_meaning.specs.Blocks.{hook_codec};
+ghost use Rattle.hook_store_law.specs.Stated.{hook_meaning, action_at};
+ghost use Rattle.hook_store_law.specs.Blocks.{hook_codec};
 ghost use Rattle.hook_store_law.specs.OfEdits.Premises.{now};
 ghost use Rattle.desk_pools.specs.Pools.{ArePools};
 ghost use Rattle.desk_actions.specs.Places.{AreHere};
 ghost use Rattle.desk_parts.specs.OfLineActions.Dropped.{MayGo, AreDropped};
 
-use block_codec::places::POOL_BLOCKS;
 use desk_actions::ActionPlaces;
 use desk_pools::Pools;
 use filter_lists::Lists;
+use store_history::places::POOL_BLOCKS;
 
 // No action with this serial is live.
 fn is_dead(lists: &Lists, serial: u32) -> bool

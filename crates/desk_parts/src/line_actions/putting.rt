@@ -1,6 +1,7 @@
 //! The actions that a filter's line makes.
 ghost use Rattle.std.specs.Prelude.{◌≡◌, ◌<◌, ◌≤◌, ◌+◌, ◌^◌, ℕ, length, Some, Ok};
-ghost use Rattle.block_codec.specs.declared.places.TheConstants.{BLOCK_WORDS, BLOCKS, ROOTS};
+ghost use Rattle.store_history.specs.declared.places.TheConstants.{ROOTS};
+ghost use Rattle.block_codec.specs.declared.places.TheConstants.{BLOCK_WORDS, BLOCKS};
 ghost use Rattle.pin_store.specs.Sheets.{base_of, IsSameButCells};
 ghost use Rattle.pin_store.specs.Calls.{seen_by, sheet_of, IsSeatOf};
 ghost use Rattle.filter_state.specs.Lines.{IsLine};
@@ -10,8 +11,8 @@ ghost use Rattle.hook_lists.specs.States.{state_of};
 ghost use Rattle.filter_lists.specs.Spells.{Spells};
 ghost use Rattle.hook_law.specs.Meaning.{IsLive};
 ghost use Rattle.hook_law.specs.Keeping.{IsAtRest};
-ghost use Rattle.hook_meaning.specs.Stated.{hook_meaning, action_at};
-ghost use Rattle.hook_meaning.specs.Blocks.{hook_codec};
+ghost use Rattle.hook_store_law.specs.Stated.{hook_meaning, action_at};
+ghost use Rattle.hook_store_law.specs.Blocks.{hook_codec};
 ghost use Rattle.hook_store_law.specs.Kept.{IsKeptAt};
 ghost use Rattle.hook_store_law.specs.OfEdits.Premises.{now, next};
 ghost use Rattle.desk_pools.specs.Pools.{ArePools};

@@ -2,14 +2,14 @@
 ghost use Rattle.std.specs.Prelude.{◌≡◌, ◌≤◌, ◌+◌, ◌/◌};
 ghost use Rattle.flow_mask.specs.Sizes.{size_of};
 ghost use Rattle.filter_state.specs.declared.limits.TheConstants.{FILTERS_MAX, LINE_ACTIONS_MAX};
-ghost use Rattle.block_codec.specs.declared.places.TheConstants.{ROW_BUCKETS};
+ghost use Rattle.store_history.specs.declared.places.TheConstants.{ROW_BUCKETS};
 ghost use Rattle.desk_needs.specs.OfEditNeeds.Told.{blocks_anew, rows_anew, laid, laid_rows, laid_masks, moved_to};
 ghost use Rattle.desk_parts.specs.OfWays.Ways.{AreFew, needs_by};
 
 use crate::ways::way::Way;
-use block_codec::places::ROW_BUCKETS;
 use desk_needs::Needs;
 use flow_mask::size_for;
+use store_history::places::ROW_BUCKETS;
 use tc_base::Hook;
 
 const NOTHING: Needs = Needs {

@@ -1,6 +1,6 @@
 //! The way is looked up.
 ghost use Rattle.std.specs.Prelude.{◌≡◌, ◌≢◌, ◌≤◌, ◌<◌, ℕ, Option, Some, None, IfSome};
-ghost use Rattle.block_codec.specs.declared.places.TheConstants.{MASK_SLOTS};
+ghost use Rattle.store_history.specs.declared.places.TheConstants.{MASK_SLOTS};
 ghost use Rattle.tc_base.specs.declared.hook.Proto.{Proto};
 ghost use Rattle.filter_state.specs.declared.limits.TheConstants.{FILTERS_MAX};
 ghost use Rattle.filter_state.specs.declared.edit.Edit.{Edit as AnEdit};
@@ -10,7 +10,7 @@ ghost use Rattle.filter_state.specs.Lines.{IsLine};
 ghost use Rattle.filter_state.specs.States.{Row, State};
 ghost use Rattle.filter_state.specs.Tables.{mask_row, filter_row};
 ghost use Rattle.hook_law.specs.Standing.{IsMaskAt};
-ghost use Rattle.hook_meaning.specs.Blocks.{hook_codec};
+ghost use Rattle.hook_store_law.specs.Blocks.{hook_codec};
 ghost use Rattle.hook_store_law.specs.OfEdits.Premises.{now, IsAccepted, IsAddOf, IsOfFilters, named_row};
 ghost use Rattle.desk_actions.specs.OfLedgers.Kept.{commits, base, IsWhole};
 ghost use Rattle.desk_masks.specs.Tables.{HasTables};

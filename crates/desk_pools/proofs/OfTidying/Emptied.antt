@@ -18,8 +18,8 @@ use Rattle.std.proofs.lemmas.Bool.{eqb-false}
 use Rattle.hook_law.specs.Unnumbered.{Empties, EmptiesAll}
 use Rattle.hook_law.proofs.Sparing.{Spared, spares_keep, empties_spare}
 use Rattle.hook_law.proofs.Lists.{root_of_none, root_of_empty}
-use Rattle.hook_meaning.specs.Stated.{hook_meaning}
-use Rattle.hook_meaning.specs.Blocks.{hook_codec}
+use Rattle.hook_store_law.specs.Stated.{hook_meaning}
+use Rattle.hook_store_law.specs.Blocks.{hook_codec}
 use Rattle.hook_law.specs.Standing.{IsIn}
 use Rattle.desk_pools.specs.Pools.{roots_of, IsFreeAt}
 use Rattle.desk_pools.proofs.RootsOf.{range_in, in_roots}

@@ -6,6 +6,7 @@ use Rattle.store_history.specs.declared.history.Link.{Link}
 use Rattle.store_history.specs.declared.history.Commit.{Commit}
 use Rattle.store_history.specs.History.{root_of, IsNamed}
 use Rattle.store_history.proofs.Histories.{named_later}
+use Rattle.store_history.specs.declared.places.TheConstants.{MASK_SLOTS, ACTION_SLOTS, ROWS, ROW_BUCKETS, MASK_ROOTS, ACTION_ROOTS, BUCKET_ROOTS, POOL_BLOCKS}
 use Rattle.pin_store.specs.Calls.{IsUnnamed}
 use Rattle.filter_state.specs.declared.edit.Edit.{Edit}
 use Rattle.hook_law.specs.Meaning.{point_of}
@@ -18,8 +19,8 @@ use Rattle.tc_base.specs.declared.hook.Hook.{Hook}
 use Rattle.tc_base.specs.declared.hook.Hook.TheVariants.{Ingress, Egress}
 use Rattle.block_codec.specs.declared.places.TheConstants.{TABLES}
 use Rattle.miniq_pair.specs.Pairs.{first_block_of}
-use Rattle.hook_meaning.specs.Stated.{hook_meaning}
-use Rattle.hook_meaning.specs.Blocks.{hook_codec}
+use Rattle.hook_store_law.specs.Stated.{hook_meaning}
+use Rattle.hook_store_law.specs.Blocks.{hook_codec}
 use Rattle.root_pool_laws.specs.Pools.{IsPool, IsEmptyRoot}
 use Rattle.root_pool_laws.specs.Blocks.{HasBlock, IsLeft}
 use Rattle.hook_law.specs.Standing.{IsIn}
@@ -67,10 +68,10 @@ idle_rises h b c hook idle le p = record {
 
 pub pools_rise : (pools : Pools) (h : List (Commit Edit)) (b c : ℕ) → b ≤ c → ArePools pools h b → ArePools pools h c
 pools_rise pools h b c le p = record {
-  masks = pool_as 8192 (IsFreeAt h b 3 1) (IsFreeAt h c 3 1) (IsLeftAt h 3 1) (IsLeftAt h 3 1) pools.masks.free pools.masks.left (λ x at f. free_rises h b c 3 1 x le f) (λ x at l. l) p.masks;
-  actions = pool_as 2048 (IsFreeAt h b 8195 1) (IsFreeAt h c 8195 1) (IsLeftAt h 8195 1) (IsLeftAt h 8195 1) pools.actions.free pools.actions.left (λ x at f. free_rises h b c 8195 1 x le f) (λ x at l. l) p.actions;
-  rows = pool_as 8192 (IsFreeAt h b 10243 16) (IsFreeAt h c 10243 16) (IsLeftAt h 10243 16) (IsLeftAt h 10243 16) pools.rows.free pools.rows.left (λ x at f. free_rises h b c 10243 16 x le f) (λ x at l. l) p.rows;
-  blocks = pool_as 16384 (IsUnnamed b h) (IsUnnamed c h) (IsLeft (gone_roots pools) h) (IsLeft (gone_roots pools) h) pools.blocks.free pools.blocks.left
+  masks = pool_as MASK_SLOTS (IsFreeAt h b MASK_ROOTS 1) (IsFreeAt h c MASK_ROOTS 1) (IsLeftAt h MASK_ROOTS 1) (IsLeftAt h MASK_ROOTS 1) pools.masks.free pools.masks.left (λ x at f. free_rises h b c MASK_ROOTS 1 x le f) (λ x at l. l) p.masks;
+  actions = pool_as ACTION_SLOTS (IsFreeAt h b ACTION_ROOTS 1) (IsFreeAt h c ACTION_ROOTS 1) (IsLeftAt h ACTION_ROOTS 1) (IsLeftAt h ACTION_ROOTS 1) pools.actions.free pools.actions.left (λ x at f. free_rises h b c ACTION_ROOTS 1 x le f) (λ x at l. l) p.actions;
+  rows = pool_as ROWS (IsFreeAt h b BUCKET_ROOTS ROW_BUCKETS) (IsFreeAt h c BUCKET_ROOTS ROW_BUCKETS) (IsLeftAt h BUCKET_ROOTS ROW_BUCKETS) (IsLeftAt h BUCKET_ROOTS ROW_BUCKETS) pools.rows.free pools.rows.left (λ x at f. free_rises h b c BUCKET_ROOTS ROW_BUCKETS x le f) (λ x at l. l) p.rows;
+  blocks = pool_as POOL_BLOCKS (IsUnnamed b h) (IsUnnamed c h) (IsLeft (gone_roots pools) h) (IsLeft (gone_roots pools) h) pools.blocks.free pools.blocks.left
       (λ x at f. unnamed_rises h b c x le f) (λ x at l. l) p.blocks;
   ingress = idle_rises h b c Ingress pools.ingress le p.ingress;
   egress = idle_rises h b c Egress pools.egress le p.egress;
@@ -120,15 +121,15 @@ module _ (old : Pools) (h : List (Commit Edit)) (b point : ℕ) (kept : IsKeptAt
   all_unused first width size F free left q = numbers_unused h b first width left (λ place x e. left_free h b first width x end (q.have_left place x e))
 
   pub gone_unused_roots : AllUnused h b point kept (gone_roots old)
-  gone_unused_roots place root e = sort (in_append (roots_of 3 1 old.masks.left ++ roots_of 8195 1 old.actions.left) (roots_of 10243 16 old.rows.left) root (place, e))
+  gone_unused_roots place root e = sort (in_append (roots_of MASK_ROOTS 1 old.masks.left ++ roots_of ACTION_ROOTS 1 old.actions.left) (roots_of BUCKET_ROOTS ROW_BUCKETS old.rows.left) root (place, e))
     where
-      first_two : IsIn root (roots_of 3 1 old.masks.left) ⊎ IsIn root (roots_of 8195 1 old.actions.left) → IsUnused hook_meaning hook_codec b h root
-      first_two (inl at) = all_unused 3 1 8192 (IsFreeAt h b 3 1) old.masks.free old.masks.left p.masks at.0 root at.1
-      first_two (inr at) = all_unused 8195 1 2048 (IsFreeAt h b 8195 1) old.actions.free old.actions.left p.actions at.0 root at.1
+      first_two : IsIn root (roots_of MASK_ROOTS 1 old.masks.left) ⊎ IsIn root (roots_of ACTION_ROOTS 1 old.actions.left) → IsUnused hook_meaning hook_codec b h root
+      first_two (inl at) = all_unused MASK_ROOTS 1 MASK_SLOTS (IsFreeAt h b MASK_ROOTS 1) old.masks.free old.masks.left p.masks at.0 root at.1
+      first_two (inr at) = all_unused ACTION_ROOTS 1 ACTION_SLOTS (IsFreeAt h b ACTION_ROOTS 1) old.actions.free old.actions.left p.actions at.0 root at.1
 
-      sort : IsIn root (roots_of 3 1 old.masks.left ++ roots_of 8195 1 old.actions.left) ⊎ IsIn root (roots_of 10243 16 old.rows.left) → IsUnused hook_meaning hook_codec b h root
-      sort (inl at) = first_two (in_append (roots_of 3 1 old.masks.left) (roots_of 8195 1 old.actions.left) root at)
-      sort (inr at) = all_unused 10243 16 8192 (IsFreeAt h b 10243 16) old.rows.free old.rows.left p.rows at.0 root at.1
+      sort : IsIn root (roots_of MASK_ROOTS 1 old.masks.left ++ roots_of ACTION_ROOTS 1 old.actions.left) ⊎ IsIn root (roots_of BUCKET_ROOTS ROW_BUCKETS old.rows.left) → IsUnused hook_meaning hook_codec b h root
+      sort (inl at) = first_two (in_append (roots_of MASK_ROOTS 1 old.masks.left) (roots_of ACTION_ROOTS 1 old.actions.left) root at)
+      sort (inr at) = all_unused BUCKET_ROOTS ROW_BUCKETS ROWS (IsFreeAt h b BUCKET_ROOTS ROW_BUCKETS) old.rows.free old.rows.left p.rows at.0 root at.1
 
   pub gone_spared : Spared hook_meaning hook_codec b h (emptying point (gone_roots old))
   gone_spared = emptied h b point kept (gone_roots old) gone_unused_roots
@@ -156,11 +157,11 @@ module _ (old : Pools) (h : List (Commit Edit)) (b point : ℕ) (kept : IsKeptAt
     heads = λ r block high x. p.heads r block high (names_before h point (gone_roots old) r block x).0;
     ingress = subst (IsIdle (h ++ emptying point (gone_roots old)) b Ingress) (sym places.0) (idle_emptied Ingress old.ingress p.ingress);
     egress = subst (IsIdle (h ++ emptying point (gone_roots old)) b Egress) (sym places.1) (idle_emptied Egress old.egress p.egress);
-    masks = freed 8192 3 1 old.masks.free old.masks.left new.masks.free new.masks.left masks.0 masks.1 p.masks;
-    actions = freed 2048 8195 1 old.actions.free old.actions.left new.actions.free new.actions.left actions.0 actions.1 p.actions;
-    rows = freed 8192 10243 16 old.rows.free old.rows.left new.rows.free new.rows.left rows.0 rows.1 p.rows;
-    blocks = subst (λ q. IsPool 16384 (IsUnnamed b (h ++ emptying point (gone_roots old))) (IsLeft (gone_roots new) (h ++ emptying point (gone_roots old))) q.free q.left) (sym blocks)
-        (pool_as 16384 (IsUnnamed b h) (IsUnnamed b (h ++ emptying point (gone_roots old))) (IsLeft (gone_roots old) h) (IsLeft (gone_roots new) (h ++ emptying point (gone_roots old)))
+    masks = freed MASK_SLOTS MASK_ROOTS 1 old.masks.free old.masks.left new.masks.free new.masks.left masks.0 masks.1 p.masks;
+    actions = freed ACTION_SLOTS ACTION_ROOTS 1 old.actions.free old.actions.left new.actions.free new.actions.left actions.0 actions.1 p.actions;
+    rows = freed ROWS BUCKET_ROOTS ROW_BUCKETS old.rows.free old.rows.left new.rows.free new.rows.left rows.0 rows.1 p.rows;
+    blocks = subst (λ q. IsPool POOL_BLOCKS (IsUnnamed b (h ++ emptying point (gone_roots old))) (IsLeft (gone_roots new) (h ++ emptying point (gone_roots old))) q.free q.left) (sym blocks)
+        (pool_as POOL_BLOCKS (IsUnnamed b h) (IsUnnamed b (h ++ emptying point (gone_roots old))) (IsLeft (gone_roots old) h) (IsLeft (gone_roots new) (h ++ emptying point (gone_roots old)))
         old.blocks.free old.blocks.left (λ x at f. unnamed_emptied (gone_roots old) h b point x kept.low f)
         (λ x at l r n. let m = names_before h point (gone_roots old) r x n in absurd (m.1 (l r m.0))) p.blocks);
   }
@@ -174,15 +175,15 @@ module _ (old : Pools) (h : List (Commit Edit)) (b point : ℕ) (kept : IsKeptAt
   part_free roots unused g c seen base first width x left = subst (λ (k : ℕ). IsFreeAt g k first width x) (sym base)
       (subst (λ (l : List (Commit Edit)). IsFreeAt l b first width x) (sym seen) (free_after h b point kept roots unused first width x (left_free h b first width x end left)))
 
-  pub masks_unused : AllUnused h b point kept (roots_of 3 1 old.masks.left)
-  masks_unused = all_unused 3 1 8192 (IsFreeAt h b 3 1) old.masks.free old.masks.left p.masks
+  pub masks_unused : AllUnused h b point kept (roots_of MASK_ROOTS 1 old.masks.left)
+  masks_unused = all_unused MASK_ROOTS 1 MASK_SLOTS (IsFreeAt h b MASK_ROOTS 1) old.masks.free old.masks.left p.masks
 
-  pub two_unused : AllUnused h b point kept (roots_of 3 1 old.masks.left ++ roots_of 8195 1 old.actions.left)
-  two_unused place root e = sort (in_append (roots_of 3 1 old.masks.left) (roots_of 8195 1 old.actions.left) root (place, e))
+  pub two_unused : AllUnused h b point kept (roots_of MASK_ROOTS 1 old.masks.left ++ roots_of ACTION_ROOTS 1 old.actions.left)
+  two_unused place root e = sort (in_append (roots_of MASK_ROOTS 1 old.masks.left) (roots_of ACTION_ROOTS 1 old.actions.left) root (place, e))
     where
-      sort : IsIn root (roots_of 3 1 old.masks.left) ⊎ IsIn root (roots_of 8195 1 old.actions.left) → IsUnused hook_meaning hook_codec b h root
+      sort : IsIn root (roots_of MASK_ROOTS 1 old.masks.left) ⊎ IsIn root (roots_of ACTION_ROOTS 1 old.actions.left) → IsUnused hook_meaning hook_codec b h root
       sort (inl at) = masks_unused at.0 root at.1
-      sort (inr at) = all_unused 8195 1 2048 (IsFreeAt h b 8195 1) old.actions.free old.actions.left p.actions at.0 root at.1
+      sort (inr at) = all_unused ACTION_ROOTS 1 ACTION_SLOTS (IsFreeAt h b ACTION_ROOTS 1) old.actions.free old.actions.left p.actions at.0 root at.1
 
 -- a number that left is within its pool
 pub left_small : (size : ℕ) (F L : ℕ → Type 0) (free left : List ℕ) → IsPool size F L free left → (place x : ℕ) → slice_get left place ≡ Some x → x < size
@@ -195,7 +196,7 @@ two_seen h g k point xs ys first second = second ∙ (ap (λ (l : List (Commit E
 
 -- ---- where nothing but blocks is left, and the base is the end, the blocks are free
 gone_none : (pools : Pools) → pools.masks.left ≡ [] → pools.actions.left ≡ [] → pools.rows.left ≡ [] → gone_roots pools ≡ []
-gone_none pools masks actions rows = λ t. (roots_of 3 1 (masks t) ++ roots_of 8195 1 (actions t)) ++ roots_of 10243 16 (rows t)
+gone_none pools masks actions rows = λ t. (roots_of MASK_ROOTS 1 (masks t) ++ roots_of ACTION_ROOTS 1 (actions t)) ++ roots_of BUCKET_ROOTS ROW_BUCKETS (rows t)
 
 idle_freed : (h : List (Commit Edit)) (c : ℕ) (hook : Hook) (idle now : IdlePlace) → c ≡ length h → now ≡ record { place = idle.place; is_free = true } → IsIdle h c hook idle → IsIdle h c hook now
 idle_freed h c hook idle now end is p = subst (IsIdle h c hook) (sym is) (record {
@@ -208,10 +209,10 @@ pub blocks_freed : (old new : Pools) (h : List (Commit Edit)) (c : ℕ) → c �
     → (new.rows ≡ old.rows) × (new.masks ≡ old.masks) × (new.actions ≡ old.actions) → new.blocks.free ≡ old.blocks.free ++ old.blocks.left → new.blocks.left ≡ []
     → (new.ingress ≡ record { place = old.ingress.place; is_free = true }) × (new.egress ≡ record { place = old.egress.place; is_free = true }) → ArePools new h c
 blocks_freed old new h c end p masks actions rows same free left places = record {
-  masks = subst (λ q. IsPool 8192 (IsFreeAt h c 3 1) (IsLeftAt h 3 1) q.free q.left) (sym same.1) p.masks;
-  actions = subst (λ q. IsPool 2048 (IsFreeAt h c 8195 1) (IsLeftAt h 8195 1) q.free q.left) (sym same.2) p.actions;
-  rows = subst (λ q. IsPool 8192 (IsFreeAt h c 10243 16) (IsLeftAt h 10243 16) q.free q.left) (sym same.0) p.rows;
-  blocks = pool_freed 16384 (IsUnnamed c h) (IsUnnamed c h) (IsLeft (gone_roots old) h) (IsLeft (gone_roots new) h) old.blocks.free old.blocks.left new.blocks.free new.blocks.left
+  masks = subst (λ q. IsPool MASK_SLOTS (IsFreeAt h c MASK_ROOTS 1) (IsLeftAt h MASK_ROOTS 1) q.free q.left) (sym same.1) p.masks;
+  actions = subst (λ q. IsPool ACTION_SLOTS (IsFreeAt h c ACTION_ROOTS 1) (IsLeftAt h ACTION_ROOTS 1) q.free q.left) (sym same.2) p.actions;
+  rows = subst (λ q. IsPool ROWS (IsFreeAt h c BUCKET_ROOTS ROW_BUCKETS) (IsLeftAt h BUCKET_ROOTS ROW_BUCKETS) q.free q.left) (sym same.0) p.rows;
+  blocks = pool_freed POOL_BLOCKS (IsUnnamed c h) (IsUnnamed c h) (IsLeft (gone_roots old) h) (IsLeft (gone_roots new) h) old.blocks.free old.blocks.left new.blocks.free new.blocks.left
       free left (λ x f. f) by_none p.blocks;
   ingress = idle_freed h c Ingress old.ingress new.ingress end places.0 p.ingress;
   egress = idle_freed h c Egress old.egress new.egress end places.1 p.egress;

@@ -5,8 +5,8 @@ use Rattle.filter_state.specs.declared.edit.Edit.{Edit}
 use Rattle.hook_law.specs.Standing.{IsUnused}
 use Rattle.hook_law.proofs.Pushing.{keeps_rises}
 use Rattle.hook_store_law.specs.Kept.{IsKeptAt}
-use Rattle.hook_meaning.specs.Stated.{hook_meaning}
-use Rattle.hook_meaning.specs.Blocks.{hook_codec}
+use Rattle.hook_store_law.specs.Stated.{hook_meaning}
+use Rattle.hook_store_law.specs.Blocks.{hook_codec}
 use Rattle.desk_pools.specs.declared.pools.Pools.{Pools}
 use Rattle.desk_pools.specs.Pools.{gone_roots, ArePools}
 use Rattle.desk_pools.specs.OfTidying.Tidied.{emptying, Empties}

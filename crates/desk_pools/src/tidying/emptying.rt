@@ -5,8 +5,8 @@ ghost use Rattle.pin_store.specs.Sheets.{base_of};
 ghost use Rattle.pin_store.specs.Calls.{seen_by, sheet_of, IsSeatOf};
 ghost use Rattle.hook_law.specs.Standing.{IsUnused};
 ghost use Rattle.hook_store_law.specs.Kept.{IsKeptAt};
-ghost use Rattle.hook_meaning.specs.Stated.{hook_meaning};
-ghost use Rattle.hook_meaning.specs.Blocks.{hook_codec};
+ghost use Rattle.hook_store_law.specs.Stated.{hook_meaning};
+ghost use Rattle.hook_store_law.specs.Blocks.{hook_codec};
 ghost use Rattle.desk_pools.specs.Pools.{roots_of, IsFreeAt};
 ghost use Rattle.desk_pools.specs.OfTidying.Tidied.{emptying};
 

@@ -1,6 +1,6 @@
 //! Tidying.
 ghost use Rattle.std.specs.Prelude.{◌≡◌, ◌<◌, ◌≤◌, ◌+◌, ◌^◌, ◌⊎◌, ◌++◌, ℕ, List, [], length, true};
-ghost use Rattle.block_codec.specs.declared.places.TheConstants.{ROOTS};
+ghost use Rattle.store_history.specs.declared.places.TheConstants.{ROOTS};
 ghost use Rattle.pin_store.specs.declared.scan.Scan.TheVariants.{Quiet};
 ghost use Rattle.pin_store.specs.Sheets.{base_of};
 ghost use Rattle.pin_store.specs.Calls.{seen_by, sheet_of, IsSeatOf};
@@ -12,9 +12,9 @@ ghost use Rattle.desk_pools.specs.OfTidying.Tidied.{emptying, IsTwiceIn, Empties
 use crate::Pools;
 use crate::tidying::emptying::empty_each;
 use crate::tidying::settling::settle;
-use block_codec::places::{ACTION_ROOTS, BUCKET_ROOTS, MASK_ROOTS, ROW_BUCKETS};
 use hook_store_law::HookLaw;
 use pin_store::{Scan, Store, Writer};
+use store_history::places::{ACTION_ROOTS, BUCKET_ROOTS, MASK_ROOTS, ROW_BUCKETS};
 use tc_base::Point;
 
 // All commits are before the base. Empties the roots of all that left.

@@ -16,6 +16,7 @@ use Rattle.filter_lists.specs.declared.adding.addition.Addition.{Addition}
 use Rattle.filter_lists.specs.declared.adding.arrival.Arrival.{Arrival}
 use Rattle.filter_lists.specs.declared.adding.arrival.Seat.{Seat}
 use Rattle.filter_lists.specs.OfAdding.Arrivals.{row_of_arrival, IsSeat}
+use Rattle.tc_base.specs.Memory.{no_memory}
 
 -- the addition of a filter whose actions stand in a plan
 abbrev pub addition_of : Arrival → Seat → List PlannedAction → List ℕ → Addition
@@ -44,5 +45,5 @@ abbrev pub IsPlanned : Kept → Result Addition Refusal → Stepped → Type 0
 IsPlanned kept (Ok addition) (Ok (next, said)) = IsReady kept addition
     × (state_after (state_of kept) addition ≡ next) × (answer_of addition ≡ said)
 IsPlanned kept (Err refusal) (Err said) = refusal ≡ said
-IsPlanned kept (Err refusal) (Ok next) = refusal ≡ refusals.NoMemory
+IsPlanned kept (Err refusal) (Ok next) = refusal ≡ refusals.NoMemory no_memory
 IsPlanned kept planned stepped = ⊥

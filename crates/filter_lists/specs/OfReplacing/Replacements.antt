@@ -29,6 +29,7 @@ use Rattle.filter_lists.specs.declared.replacing.replacement.Change.{Change}
 use Rattle.filter_lists.specs.declared.replacing.replacement.Change.TheVariants as changes
 use Rattle.filter_lists.specs.declared.replacing.replacement.Old.{Old}
 use Rattle.filter_lists.specs.declared.replacing.replacement.Replacement.{Replacement}
+use Rattle.tc_base.specs.Memory.{no_memory}
 
 -- the rows after a change of the old one
 abbrev pub changed : State → Row → Change → State
@@ -112,5 +113,5 @@ IsPlanned kept (Ok r) (Ok (next, said)) =
     (table : PlainTable) × (mask : PlainMask) × (filter : Filter) × IsReady kept r table mask filter
     × (state_after (state_of kept) (row_of r.old.hook table mask filter) r ≡ next) × (answer_of r ≡ said)
 IsPlanned kept (Err refusal) (Err said) = refusal ≡ said
-IsPlanned kept (Err refusal) (Ok next) = refusal ≡ refusals.NoMemory
+IsPlanned kept (Err refusal) (Ok next) = refusal ≡ refusals.NoMemory no_memory
 IsPlanned kept planned stepped = ⊥

@@ -9,6 +9,7 @@ use Rattle.tool_words.specs.declared.status.InputKind.{InputKind}
 use Rattle.tool_words.specs.declared.status.InputKind.TheVariants as kinds
 use Rattle.tool_words.specs.declared.status.Status.{Status}
 use Rattle.tool_words.specs.declared.status.Status.TheVariants as statuses
+use Rattle.tc_base.specs.Memory.{no_memory}
 
 -- the byte offset of a fault; the magic, the version and the link type stand at 0, 4 and 20
 abbrev pub break_of : CaptureFault → Option Break
@@ -18,7 +19,7 @@ break_of faults.BadVersion = Some (record { place = 4; kind = kinds.BadVersion }
 break_of faults.NotEthernet = Some (record { place = 20; kind = kinds.NotEthernet })
 break_of (faults.CutRecord offset) = Some (record { place = offset; kind = kinds.CutRecord })
 break_of (faults.TooLong offset len) = Some (record { place = offset; kind = kinds.TooLong len })
-break_of faults.NoMemory = None
+break_of (faults.NoMemory memory) = None
 
 -- the bytes have this fault, or are a capture of more packets than there is room for
 abbrev pub IsBroken : ℕ → List ℕ → ℕ → InputKind → Type 0
@@ -28,14 +29,8 @@ IsBroken room bytes at what =
     ⊎ ((at ≡ 0) × (what ≡ kinds.TooManyPackets)
     × ((capture : Capture) × IsCapture bytes capture × (room < length capture.packets)))
 
--- a break of the file under the name is told, unless memory ran out
-abbrev pub IsTold : List ℕ → Option Break → Status → Type 0
-IsTold name None status = status ≡ statuses.NoMemory
-IsTold name (Some found) status =
-    (status ≡ statuses.NoMemory) ⊎ (status ≡ statuses.BadInput name found.place found.kind)
-
 -- too many packets are told, unless memory ran out
 abbrev pub IsTooMany : ℕ → List ℕ → ℕ → Status → Type 0
 IsTooMany room name count status =
     (room < count)
-    × ((status ≡ statuses.NoMemory) ⊎ (status ≡ statuses.BadInput name 0 kinds.TooManyPackets))
+    × ((status ≡ statuses.NoMemory no_memory) ⊎ (status ≡ statuses.BadInput name 0 kinds.TooManyPackets))

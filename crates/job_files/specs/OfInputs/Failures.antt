@@ -21,14 +21,14 @@ abbrev pub LoadFails : {S : Type 0} → (S → Option Held) → (S → ℕ) → 
     → Status → Type 0
 LoadFails held read_faults failed_name old new name (statuses.ReadFault failed) =
     (failed ≡ name) × ReadFails held read_faults failed_name old new name
-LoadFails held read_faults failed_name old new name statuses.NoMemory = Unit {0}
+LoadFails held read_faults failed_name old new name (statuses.NoMemory memory) = Unit {0}
 LoadFails held read_faults failed_name old new name status = ⊥
 
 -- the commands of the bytes under the name pass the room, which is told at the line unless memory ran out
 abbrev pub IsPastRoom : ℕ → List ℕ → List ℕ → Status → Type 0
 IsPastRoom room name bytes (statuses.BadInput file place kind) =
     (file ≡ name) × (line_past room (commands_of bytes) ≡ Some place) × (kind ≡ kinds.TooManyLines)
-IsPastRoom room name bytes statuses.NoMemory = Unit {0}
+IsPastRoom room name bytes (statuses.NoMemory memory) = Unit {0}
 IsPastRoom room name bytes status = ⊥
 
 -- why no batch was loaded

@@ -1,10 +1,11 @@
 //! Batches under a name, with so many commands at most.
-ghost use Rattle.std.specs.Prelude.{◌≡◌, ◌≤◌, length, IfOk, IfErr, OnOk, Some};
+ghost use Rattle.std.specs.Prelude.{◌≡◌, [], ◌∷◌, ◌≤◌, length, IfOk, IfErr, OnOk, Some};
+ghost use Rattle.tc_base.specs.Outside.{AsksFor};
 ghost use Rattle.batch_run.specs.Commands.{commands_of, line_past};
 ghost use Rattle.job_files.specs.OfInputs.Holdings.{HasBatch};
 ghost use Rattle.job_files.specs.OfInputs.Failures.{IsPastRoom, BatchFails};
 
-use crate::inputs::faults::bad_input;
+use crate::inputs::faults::{bad_input, copied_name};
 use crate::inputs::loading::load;
 use std::alloc::Global;
 use tc_base::{Bytes, Shelf};
@@ -49,7 +50,10 @@ fn count_within(alloc: Global, name: &str, bytes: &[u8], room: u32) -> Result<u3
 {
     match count_commands(bytes, room) {
         Ok(count) => Ok(count),
-        Err(line) => Err(bad_input(alloc, name, line, InputKind::TooManyLines)),
+        Err(line) => {
+            let name = copied_name(alloc, name)?;
+            Err(bad_input(name, line, InputKind::TooManyLines))
+        }
     }
 }
 
@@ -70,6 +74,8 @@ pub fn load_batch<S: Shelf>(
     ensures later { S.read_faults shelf.old ≤ S.read_faults shelf.new }
     ensures failed_name { OnOk result (S.failed_name shelf.new ≡ S.failed_name shelf.old) }
     ensures write_faults { S.write_faults shelf.new ≡ S.write_faults shelf.old }
+    ensures fetched { AsksFor (S.fetched shelf.old) (S.fetched shelf.new) (name.now ∷ []) result }
+    ensures put_names { S.put_names shelf.new ≡ S.put_names shelf.old }
 {
     let bytes = load(alloc, shelf, name)?;
     let commands = count_within(alloc, name, &bytes, room)?;

@@ -1,19 +1,22 @@
 //! Captures under a name, with so many packets at most.
-ghost use Rattle.std.specs.Prelude.{◌≡◌, ◌≤◌, length, IfOk, IfErr, OnOk};
+ghost use Rattle.std.specs.Prelude.{◌≡◌, ◌≤◌, [], ◌∷◌, length, IfOk, IfErr, OnOk, OnErr, Some, None};
 ghost use Rattle.pcap_io.specs.Captures.{AreShort};
-ghost use Rattle.job_files.specs.OfInputs.Broken.{break_of, IsTold, IsTooMany};
+ghost use Rattle.tc_base.specs.Outside.{AsksFor};
+ghost use Rattle.job_files.specs.OfInputs.Broken.{break_of, IsTooMany};
 ghost use Rattle.job_files.specs.OfInputs.Holdings.{HasCapture};
 ghost use Rattle.job_files.specs.OfInputs.Failures.{CaptureFails};
 
-use crate::inputs::faults::bad_input;
+use crate::inputs::faults::{bad_input, copied_name};
 use crate::inputs::loading::load;
 use pcap_io::{Capture, CaptureFault, read_whole};
 use std::alloc::Global;
-use tc_base::Shelf;
+use tc_base::{NoMemory, Shelf};
 use tool_words::{Break, InputKind, Status};
 
-fn break_in(fault: CaptureFault) -> Option<Break>
-    ensures { result ≡ break_of fault }
+// Where and how the bytes break; a fault that is want of memory is handed on.
+fn break_in(fault: CaptureFault) -> Result<Break, NoMemory>
+    ensures broken { IfOk result (λ found. break_of fault ≡ Some found) }
+    ensures refused { OnErr result (break_of fault ≡ None) }
 {
     let (place, kind) = match fault {
         CaptureFault::CutHeader { offset } => (offset, InputKind::CutHeader),
@@ -22,19 +25,9 @@ fn break_in(fault: CaptureFault) -> Option<Break>
         CaptureFault::NotEthernet => (20, InputKind::NotEthernet),
         CaptureFault::CutRecord { offset } => (offset, InputKind::CutRecord),
         CaptureFault::TooLong { offset, length } => (offset, InputKind::TooLong { length }),
-        CaptureFault::NoMemory => return None,
+        CaptureFault::NoMemory(memory) => return Err(memory),
     };
-    Some(Break { place, kind })
-}
-
-// How a fault of the capture under the name is told.
-fn told(alloc: Global, name: &str, fault: CaptureFault) -> Status
-    ensures { IsTold name.now (break_of fault) result }
-{
-    match break_in(fault) {
-        None => Status::NoMemory,
-        Some(found) => bad_input(alloc, name, found.place, found.kind),
-    }
+    Ok(Break { place, kind })
 }
 
 // Refuses a capture of more packets than there is room for.
@@ -44,7 +37,8 @@ fn within_room(alloc: Global, name: &str, capture: Capture, room: usize) -> Resu
     ensures many { IfErr result (IsTooMany room name.now (length capture.packets)) }
 {
     if capture.packets.len() > room {
-        return Err(bad_input(alloc, name, 0, InputKind::TooManyPackets));
+        let name = copied_name(alloc, name)?;
+        return Err(bad_input(name, 0, InputKind::TooManyPackets));
     }
     Ok(capture)
 }
@@ -66,10 +60,16 @@ pub fn load_capture<S: Shelf>(
     ensures later { S.read_faults shelf.old ≤ S.read_faults shelf.new }
     ensures failed_name { OnOk result (S.failed_name shelf.new ≡ S.failed_name shelf.old) }
     ensures write_faults { S.write_faults shelf.new ≡ S.write_faults shelf.old }
+    ensures fetched { AsksFor (S.fetched shelf.old) (S.fetched shelf.new) (name.now ∷ []) result }
+    ensures put_names { S.put_names shelf.new ≡ S.put_names shelf.old }
 {
     let bytes = load(alloc, shelf, name)?;
     match read_whole(alloc, bytes) {
         Ok(capture) => within_room(alloc, name, capture, room),
-        Err(fault) => Err(told(alloc, name, fault)),
+        Err(fault) => {
+            let found = break_in(fault)?;
+            let name = copied_name(alloc, name)?;
+            Err(bad_input(name, found.place, found.kind))
+        }
     }
 }

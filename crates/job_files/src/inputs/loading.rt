@@ -1,9 +1,10 @@
 //! Bytes under a name.
-ghost use Rattle.std.specs.Prelude.{◌≡◌, ◌≤◌, IfOk, IfErr, OnOk};
+ghost use Rattle.std.specs.Prelude.{◌≡◌, [], ◌∷◌, ◌≤◌, IfOk, IfErr, OnOk};
+ghost use Rattle.tc_base.specs.Outside.{AsksFor};
 ghost use Rattle.job_files.specs.OfInputs.Holdings.{Holds};
 ghost use Rattle.job_files.specs.OfInputs.Failures.{LoadFails};
 
-use crate::inputs::faults::read_fault;
+use crate::inputs::faults::{copied_name, read_fault};
 use std::alloc::Global;
 use tc_base::{Fetch, Shelf};
 use tool_words::Status;
@@ -18,10 +19,12 @@ pub fn load<S: Shelf>(alloc: Global, shelf: &mut S, name: &str) -> Result<Vec<u8
     ensures later { S.read_faults shelf.old ≤ S.read_faults shelf.new }
     ensures failed_name { OnOk result (S.failed_name shelf.new ≡ S.failed_name shelf.old) }
     ensures write_faults { S.write_faults shelf.new ≡ S.write_faults shelf.old }
+    ensures fetched { AsksFor (S.fetched shelf.old) (S.fetched shelf.new) (name.now ∷ []) result }
+    ensures put_names { S.put_names shelf.new ≡ S.put_names shelf.old }
 {
     match shelf.fetch(name) {
         Ok(bytes) => Ok(bytes),
-        Err(Fetch::NoMemory) => Err(Status::NoMemory),
-        Err(Fetch::Missing | Fetch::Failed) => Err(read_fault(alloc, name)),
+        Err(Fetch::NoMemory(memory)) => Err(Status::NoMemory(memory)),
+        Err(Fetch::Missing | Fetch::Failed) => Err(read_fault(copied_name(alloc, name)?)),
     }
 }

@@ -17,6 +17,7 @@ use Rattle.shared_hook.specs.Applied.{stepped, IsCause, IsApplied, IsRefused}
 use Rattle.round_terms.specs.Underway.{IsMet}
 use Rattle.job_rounds.specs.OfRoundState.Turns.{IsUntouched}
 use Rattle.job_rounds.proofs.OfRoundState.Counts.{now_is}
+use Rattle.tc_base.specs.Memory.{no_memory}
 
 pub met_accepted : (old new : DeskView) (words : List (List ℕ)) (edit : Edit) (done : Done) → Gives words edit → IsApplied old new edit done → IsMet (journal old) (journal new) words (kinds.Accepted done)
 met_accepted old new words edit done gives is =
@@ -24,14 +25,14 @@ met_accepted old new words edit done gives is =
     (now (seen_by new.place), edit ∷ [], (edit, gives, from, refl), is.journal_is)
 
 -- want of memory is told apart, so any other refusal is the step's
-cause_of : (refusal : Refusal) (it : Stepped) → refusal ≢ refusals.NoMemory → IsCause refusal it → it ≡ Err refusal
+cause_of : (refusal : Refusal) (it : Stepped) → refusal ≢ refusals.NoMemory no_memory → IsCause refusal it → it ≡ Err refusal
 cause_of refusal (Ok next) other want = absurd (other want)
 cause_of refusal (Err said) other same = ap (λ (r : Refusal). Err r) (sym same)
 
 pub same_journal : (old new : DeskView) → new.place ≡ old.place → journal new ≡ journal old
 same_journal old new same = ap (λ place. edits_of (seen_by place)) same
 
-pub met_refused : (old new : DeskView) (words : List (List ℕ)) (edit : Edit) (refusal : Refusal) → Gives words edit → refusal ≢ refusals.NoMemory → IsRefused old new edit refusal
+pub met_refused : (old new : DeskView) (words : List (List ℕ)) (edit : Edit) (refusal : Refusal) → Gives words edit → refusal ≢ refusals.NoMemory no_memory → IsRefused old new edit refusal
     → IsMet (journal old) (journal new) words (kinds.Refused refusal)
 met_refused old new words edit refusal gives other is =
     let from : step (state_from no_state (journal old)) edit ≡ Err refusal = ap (λ (s : State). step s edit) (sym (now_is (seen_by old.place))) ∙ cause_of refusal (stepped old edit) other is.cause in

@@ -16,7 +16,7 @@ use Rattle.filter_lists.specs.Spells.{Spells}
 use Rattle.filter_lists.specs.Edits.{MayStep}
 use Rattle.state_laws.proofs.OfOrder.Soundness.{sound_same}
 use Rattle.hook_store_law.specs.OfEdits.Premises.{now}
-use Rattle.hook_meaning.proofs.States.{state_is}
+use Rattle.hook_store_law.proofs.States.{state_is}
 use Rattle.desk_needs.proofs.OfRoom.Lines.{few_made}
 use Rattle.round_terms.specs.MadeAction.{MadeAction}
 use Rattle.round_terms.specs.Made.{later_names, made_since}

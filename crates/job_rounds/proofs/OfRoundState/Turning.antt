@@ -80,7 +80,7 @@ module _ {E : Type 0} {name : E → ℕ} {heard : E → Option (List EventName)}
     left_over it desk turns.Applied none same = absurd none
     left_over it desk turns.Over none same = absurd none
     left_over it desk (turns.Held pool reader pin needed free) held same = record { text = text; line = line; next = next; force = force; own_line = it.own_line; not_met = held; journal_is = same; rest = refl }
-    left_over it desk turns.NoMemory none same = record { text = text; line = line; next = next; force = force; own_line = it.own_line; not_met = none; journal_is = same; rest = refl }
+    left_over it desk (turns.NoMemory memory) none same = record { text = text; line = line; next = next; force = force; own_line = it.own_line; not_met = none; journal_is = same; rest = refl }
 
     pub left_still : IsCalledAt name heard spare store job number before first given round control old text line next force → (desk : DeskView) (events : List Event) (made : List MadeAction) (turned : Turned)
         → IsNotMet old.desk desk (words_of text) turned → journal desk ≡ journal old.desk → events ≡ old.events → made ≡ old.made

@@ -1,5 +1,6 @@
 -- Workers that go into threads and come back (this project's own).
-use Rattle.block_codec.specs.declared.places.TheConstants.{READERS, ROOTS}
+use Rattle.store_history.specs.declared.places.TheConstants.{ROOTS}
+use Rattle.block_codec.specs.declared.places.TheConstants.{READERS}
 use Rattle.walk_ends.specs.declared.limits.TheConstants.{PACKETS_MAX}
 use Rattle.std.specs.Prelude.{◌≡◌, ℕ, ◌+◌, ◌*◌, ◌<◌, ◌≤◌, ◌^◌, List, [], ◌∷◌, ◌++◌, length, map}
 use Rattle.std.specs.Prelude.{slice_get, Some, IfOk, Ok}
@@ -22,6 +23,7 @@ use Rattle.job_rounds.specs.declared.one_round.hands.OfRound.{OfRound}
 use Rattle.job_rounds.specs.declared.one_round.hands.Started.{Started}
 use Rattle.job_rounds.specs.declared.one_round.hands.Started.TheVariants as started
 use Rattle.job_rounds.specs.declared.one_round.joining.Back.{Back}
+use Rattle.job_rounds.specs.declared.one_round.begun.Alone.TheVariants.{Idle}
 
 -- ---- before
 -- the worker's reader is one of the store, outside, and may go inside once more for each packet
@@ -78,11 +80,13 @@ pub record HasWorked (store : StoreName) (hook : Hook) (packets : List Packet) (
 abbrev pub KeepsPromise : OfRound → Ended → Type 0
 KeepsPromise p end = HasWorked (store_name p.store.value) p.hook p.packets.value p.hand.value end
 
--- a worker has a thread, whose end will be that of its work; or has worked already
+-- a worker has a thread, whose end will be that of its work; or has worked already, and there are no packets, or
+-- the system made no thread
 abbrev pub IsStartedFor : StoreName → Hook → List Packet → Hand → Started → Type 0
 IsStartedFor store hook packets hand (started.There handle) =
     (end : Ended) → KeepsPromise handle.promise end → HasWorked store hook packets hand end
-IsStartedFor store hook packets hand (started.Here end) = HasWorked store hook packets hand end
+IsStartedFor store hook packets hand (started.Here end why) =
+    HasWorked store hook packets hand end × (why ≡ Idle → packets ≡ [])
 
 -- ALL ARE BACK: workers, seats and logs of each, in the order of the hands
 pub record IsBackFrom (store : StoreName) (hook : Hook) (packets : List Packet) (hands : List Hand)

@@ -7,6 +7,7 @@ use Rattle.filter_lists.specs.Edits.{Stays}
 use Rattle.tc_batch.specs.Grammar.{Gives}
 use Rattle.round_terms.specs.EventKind.{EventKind}
 use Rattle.round_terms.specs.Counts.{is_accepted}
+use Rattle.round_terms.specs.declared.place.Place.{Place}
 use Rattle.round_terms.specs.Files.{RoundFile}
 use Rattle.round_terms.specs.Hearing.{HeardIf}
 use Rattle.round_terms.specs.Underway.{made_behind, IsMet}
@@ -17,6 +18,11 @@ use Rattle.shared_hook.specs.Applied.{IsHeld}
 use Rattle.job_rounds.specs.declared.round_state.turned.Turned.{Turned}
 use Rattle.job_rounds.specs.declared.round_state.turned.Turned.TheVariants as turns
 use Rattle.job_rounds.specs.OfRoundState.Rounds.{Underway}
+
+-- a control's next line has that number
+abbrev pub IsLineNumber : List RoundFile → List Place → ℕ → ℕ → Type 0
+IsLineNumber files places control line = (text : List ℕ) × (next : ℕ) × (force : Bool)
+    × IsLineFor files places control text line next force
 
 -- ---- the desk at a line that isn't met
 -- an edit of the line is held, as a desk says it
@@ -37,7 +43,7 @@ IsNotMet old new words turns.Applied = ⊥
 IsNotMet old new words turns.Over = ⊥
 IsNotMet old new words (turns.Held pool reader pin needed free) =
     IsHeldFor old new words pool reader pin needed free
-IsNotMet old new words turns.NoMemory = IsUntouched old new
+IsNotMet old new words (turns.NoMemory memory) = IsUntouched old new
 
 -- ---- the state behind a turn
 -- the control's next line was met
@@ -80,5 +86,5 @@ IsTurned name heard spare files round control old new turns.Applied =
 IsTurned name heard spare files round control old new turns.Over = new ≡ old
 IsTurned name heard spare files round control old new (turns.Held pool reader pin needed free) =
     IsLeft files control old new (turns.Held pool reader pin needed free)
-IsTurned name heard spare files round control old new turns.NoMemory =
-    IsLeft files control old new turns.NoMemory
+IsTurned name heard spare files round control old new (turns.NoMemory memory) =
+    IsLeft files control old new (turns.NoMemory memory)

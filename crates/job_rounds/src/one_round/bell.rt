@@ -1,5 +1,7 @@
 //! What wakes the thread that waits for a round's threads.
 
+ghost use Rattle.std.specs.Prelude.{◌≡◌, ◌-◌};
+
 use std::sync::{Condvar, Mutex, Wait};
 
 // How often the bell rang, and how many of the threads are still to leave.
@@ -7,6 +9,13 @@ use std::sync::{Condvar, Mutex, Wait};
 struct Moves {
     rings: u64,
     running: u32,
+}
+
+// One of them has left.
+fn one_left(moves: &mut Moves)
+    ensures { moves.new ≡ record moves.old { running = moves.old.running - 1 } }
+{
+    moves.running = moves.running.saturating_sub(1);
 }
 
 /// A bell that the threads of a round ring for the one that started them. So that one may sleep, and is awake
@@ -35,8 +44,7 @@ impl Bell {
 
     /// One is done, or will never begin.
     pub(crate) fn leave<R: Wait>(&self, rt: &R) {
-        let mut moves = self.moves.lock(rt);
-        moves.running = moves.running.saturating_sub(1);
+        one_left(&mut self.moves.lock(rt));
         self.moved.notify_one();
     }
 

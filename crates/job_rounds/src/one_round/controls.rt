@@ -1,10 +1,11 @@
 //! What a control's thread does.
-ghost use Rattle.std.specs.Prelude.{◌≡◌, ◌≤◌, length};
+ghost use Rattle.std.specs.Prelude.{◌≡◌, ◌≤◌, length, IfSome, IfNone, OnOk};
 ghost use Rattle.job_rounds.specs.OfRoundState.Rounds.{store_name};
 ghost use Rattle.job_rounds.specs.OfOneRound.Rounds.{IsNamedRound};
+ghost use Rattle.job_rounds.specs.OfOneRound.Controls.{HadLine, HasMet, HasTurned, WasThrough};
 
 use crate::one_round::bell::Bell;
-use crate::one_round::turns::turn_while;
+use crate::one_round::turns::{line_in, turn_while};
 use crate::round_state::{RoundName, RoundState, Turned};
 use hook_store_law::HookStore;
 use round_terms::LoadedJob;
@@ -27,6 +28,7 @@ fn take_turn<N: RoundName, E: Ear, R: Wait>(
     requires named { IsNamedRound N.store N.job N.number (length N.before) N.ear.spare (store_name store.now)
         job.now round }
     requires control { (1 ≤ control) × (control ≤ job.now.job.controls) }
+    ensures { HasTurned E.name E.heard E.spare N.store N.job N.number N.before N.ear control result }
 {
     let mut state = lock.lock(rt);
     turn_while(rt, &mut state, store, job, round, control)
@@ -44,8 +46,11 @@ pub(crate) fn line_of<N: RoundName, E: Ear, R: Wait>(
     requires named { IsNamedRound N.store N.job N.number (length N.before) N.ear.spare (store_name store.now)
         job.now round }
     requires control { (1 ≤ control) × (control ≤ job.now.job.controls) }
+    ensures some { IfSome result (HadLine E.name E.heard E.spare N.store N.job N.number N.before N.ear control) }
+    ensures none { IfNone result (WasThrough E.name E.heard E.spare N.store N.job N.number N.before N.ear
+        control) }
 {
-    lock.lock(rt).next_line(job, round, control)
+    line_in(&lock.lock(rt), store, job, round, control)
 }
 
 // Meets the next line of a control. One that is held is tried again, and the lock is free meanwhile.
@@ -61,6 +66,7 @@ fn meet_next<N: RoundName, E: Ear, R: Wait>(
     requires named { IsNamedRound N.store N.job N.number (length N.before) N.ear.spare (store_name store.now)
         job.now round }
     requires control { (1 ≤ control) × (control ≤ job.now.job.controls) }
+    ensures { OnOk result (HasMet E.name E.heard E.spare N.store N.job N.number N.before N.ear control) }
 {
     for _ in rt.forever() {
         match take_turn(rt, lock, store, job, round, control) {
@@ -70,7 +76,7 @@ fn meet_next<N: RoundName, E: Ear, R: Wait>(
                 bell.ring(rt);
                 thread::yield_now();
             }
-            Turned::NoMemory => return Err(NoMemory),
+            Turned::NoMemory(memory) => return Err(memory),
         }
     }
     unreachable!()
@@ -90,6 +96,7 @@ fn apply_lines<N: RoundName, E: Ear, G: Gate, R: Wait>(
     requires named { IsNamedRound N.store N.job N.number (length N.before) N.ear.spare (store_name store.now)
         job.now round }
     requires control { (1 ≤ control) × (control ≤ job.now.job.controls) }
+    ensures { OnOk result (WasThrough E.name E.heard E.spare N.store N.job N.number N.before N.ear control) }
 {
     for _ in rt.forever() {
         let Some(line) = line_of(rt, lock, store, job, round, control) else {
@@ -115,11 +122,13 @@ pub(crate) fn control_all<N: RoundName, E: Ear, G: Gate, R: Wait>(
     control: u32,
     gates: &G,
     bell: &Bell,
-)
+) -> Result<(), NoMemory>
     requires named { IsNamedRound N.store N.job N.number (length N.before) N.ear.spare (store_name store.now)
         job.now round }
     requires control { (1 ≤ control) × (control ≤ job.now.job.controls) }
+    ensures { OnOk result (WasThrough E.name E.heard E.spare N.store N.job N.number N.before N.ear control) }
 {
-    let _left = apply_lines(rt, lock, store, job, round, control, gates, bell).is_err();
+    let applied = apply_lines(rt, lock, store, job, round, control, gates, bell);
     bell.leave(rt);
+    applied
 }

@@ -5,7 +5,9 @@ ghost use Rattle.job_rounds.specs.OfRoundState.Rounds.{store_name};
 ghost use Rattle.job_rounds.specs.OfOneRound.Rounds.{IsNamedRound, AreThrough};
 ghost use Rattle.job_rounds.specs.OfOneRound.Hands.{AreClaimed, AreWalkable, IsBackFrom};
 ghost use Rattle.job_rounds.specs.OfOneRound.Ends.{IsRoundEnd};
+ghost use Rattle.job_rounds.specs.OfOneRound.Numbers.{AreAll};
 
+use crate::one_round::begun::Begun;
 use crate::one_round::finishing::finish_all;
 use crate::one_round::hands::Hand;
 use crate::one_round::joining::Back;
@@ -49,11 +51,14 @@ fn record_round<N: RoundName, E: Ear, G: Gate>(
     } = back;
     meet_all(round.store, &mut desk, &mut workers);
     let count = round.packets.len() as u32;
-    let Ok(outcomes) = settle(alloc, round.claims, seats, logs, count) else {
-        drop((desk, ear));
-        drop((workers, events));
-        drop(made);
-        return Err(NoMemory);
+    let outcomes = match settle(alloc, round.claims, seats, logs, count) {
+        Ok(outcomes) => outcomes,
+        Err(memory) => {
+            drop((desk, ear));
+            drop((workers, events));
+            drop(made);
+            return Err(memory);
+        }
     };
     Ok(RoundEnd {
         desk,
@@ -76,9 +81,11 @@ pub(crate) fn end_round<N: RoundName, E: Ear, G: Gate, T: Tender, R: Wait>(
     tender: &mut T,
     hands: Snapshot<Vec<Hand>>,
     back: Back,
+    begun: Vec<Begun<N, E>>,
 ) -> Result<RoundEnd<E>, NoMemory>
     requires named { IsNamedRound N.store N.job N.number (length N.before) N.ear.spare
         (store_name round.now.store.now) job.now number }
+    requires begun { AreAll job.now.job.controls begun.items }
     requires packets { AreWalkable (store_name round.now.store.now) round.now.packets.now }
     requires hands { AreClaimed (store_name round.now.store.now) round.now.claims.now
         (length round.now.packets.now) hands.value.items }
@@ -88,10 +95,10 @@ pub(crate) fn end_round<N: RoundName, E: Ear, G: Gate, T: Tender, R: Wait>(
     ensures end { IfOk result (IsRoundEnd E.name E.heard E.spare N.store N.job N.number round.now.hook
         round.now.packets.now N.before N.ear (map (λ hand. hand.worker) hands.value.items)) }
 {
-    let Ok(()) = finish_all(rt, &mut state, round.store, job, number, round.gates) else {
+    if let Err(memory) = finish_all(rt, &mut state, round.store, job, number, round.gates, begun) {
         drop((state, back));
-        return Err(NoMemory);
-    };
+        return Err(memory);
+    }
     tender.turn();
     record_round(alloc, state, job, number, round, hands, back)
 }

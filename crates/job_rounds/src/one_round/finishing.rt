@@ -5,7 +5,9 @@ ghost use Rattle.round_terms.specs.Files.{files_of};
 ghost use Rattle.round_terms.specs.Coming.{IsThroughAll};
 ghost use Rattle.job_rounds.specs.OfRoundState.Rounds.{store_name};
 ghost use Rattle.job_rounds.specs.OfOneRound.Rounds.{IsNamedRound, AreThrough};
+ghost use Rattle.job_rounds.specs.OfOneRound.Numbers.{AreAll};
 
+use crate::one_round::begun::Begun;
 use crate::one_round::turns::turn_while;
 use crate::round_state::{RoundName, RoundState, Turned};
 use hook_store_law::HookStore;
@@ -34,7 +36,7 @@ fn meet_next<N: RoundName, E: Ear, R: Wait>(
             Turned::Applied => return Ok(()),
             Turned::Over => return Ok(()),
             Turned::Held { .. } => thread::yield_now(),
-            Turned::NoMemory => return Err(NoMemory),
+            Turned::NoMemory(memory) => return Err(memory),
         }
     }
     unreachable!()
@@ -68,8 +70,8 @@ fn finish_control<N: RoundName, E: Ear, G: Gate, R: Wait>(
     unreachable!()
 }
 
-/// Meets all lines that are left, of those controls that had no thread, or whose threads found no memory. In
-/// each case it is what tells that every control is through.
+/// Meets all lines that are left, of those controls that had no thread, or whose threads found no memory, once
+/// each has begun. In each case it is what tells that every control is through.
 pub(crate) fn finish_all<N: RoundName, E: Ear, G: Gate, R: Wait>(
     rt: &R,
     state: &mut RoundState<N, E>,
@@ -77,9 +79,11 @@ pub(crate) fn finish_all<N: RoundName, E: Ear, G: Gate, R: Wait>(
     job: &LoadedJob,
     round: u32,
     gates: &G,
+    _begun: Vec<Begun<N, E>>,
 ) -> Result<(), NoMemory>
     requires named { IsNamedRound N.store N.job N.number (length N.before) N.ear.spare (store_name store.now)
         job.now round }
+    requires begun { AreAll job.now.job.controls _begun.items }
     ensures { OnOk result (AreThrough (files_of N.job N.number) job.now.job.controls state.new.events) }
 {
     for done in 0..job.job.controls {

@@ -4,6 +4,7 @@ ghost use Rattle.std.specs.List.{AllByRecursion};
 ghost use Rattle.job_rounds.specs.OfRoundState.Rounds.{store_name};
 ghost use Rattle.job_rounds.specs.OfOneRound.Hands.{AreWalkable, CanWork, HasWorked, fresh_seat};
 
+use crate::one_round::begun::Alone;
 use crate::one_round::bell::Bell;
 use hook_store_law::HookStore;
 use pcap_io::Packets;
@@ -46,11 +47,12 @@ impl Promise<Ended> for OfRound {
     ghost kept_by = { KeepsPromise };
 }
 
-/// A worker that works in a thread of its own; or one that could have none, and has worked.
+/// A worker that works in a thread of its own; or one that has none, and has worked: there were no packets, or
+/// the system refused a thread.
 #[derive(Drop)]
 pub(crate) enum Started {
     There(PromisedHandle<Ended, OfRound>),
-    Here(Ended),
+    Here(Ended, Alone),
 }
 
 /// Gives each worker a seat.

@@ -54,7 +54,7 @@ fn end_of<R: Threads>(rt: &R, started: Started) -> Ended
 {
     match started {
         Started::There(handle) => handle.join(rt),
-        Started::Here(end) => end,
+        Started::Here(end, _) => end,
     }
 }
 

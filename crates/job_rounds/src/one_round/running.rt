@@ -11,6 +11,7 @@ ghost use Rattle.job_rounds.specs.OfRoundState.Rounds.{store_name, IsDeskOf};
 ghost use Rattle.job_rounds.specs.OfOneRound.Rounds.{AreEvents, IsNamedRound, IsRoundWithRoom};
 ghost use Rattle.job_rounds.specs.OfOneRound.Hands.{AreReady, AreWalkable, fresh_seat};
 ghost use Rattle.job_rounds.specs.OfOneRound.Ends.{HaveWalked, IsLawfulRound, IsRoundEnd};
+ghost use Rattle.job_rounds.specs.Tidied.{IsReadied};
 
 use crate::one_round::hands::{Hand, hands_of};
 use crate::one_round::round_end::RoundEnd;
@@ -65,10 +66,13 @@ fn run_named<N: RoundName + Send + Sync, E: Ear, G: Gate, T: Tender, R: Threads 
     ensures end { IfOk result (IsRoundEnd E.name E.heard E.spare N.store N.job N.number hook packets.now
         N.before N.ear workers.items) }
 {
-    let Ok((claims, hands)) = seated(alloc, job.job.workers, workers) else {
-        // In one call: part by part it is long to prove.
-        drop((desk, ear));
-        return Err(NoMemory);
+    let (claims, hands) = match seated(alloc, job.job.workers, workers) {
+        Ok(it) => it,
+        Err(memory) => {
+            // In one call: part by part it is long to prove.
+            drop((desk, ear));
+            return Err(memory);
+        }
     };
     let state = RoundState::<N, E>::new(alloc, desk, ear, job.job.controls)?;
     let round = RoundWork {
@@ -89,9 +93,9 @@ fn run_named<N: RoundName + Send + Sync, E: Ear, G: Gate, T: Tender, R: Threads 
 /// outcome, and the round is a lawful one, if the workers had seen all edits and all of their own earlier
 /// points.
 ///
-/// A control without a batch has no thread, nor has a worker where there are no packets. A control or a
-/// worker that can have no thread does its work in the caller's. It may wait: for threads, at the gate, at a
-/// held edit. The tender has turns while it waits, and one behind all threads.
+/// The desk was tidied. A control without a line has no thread, nor has a worker where there are no packets.
+/// A control or a worker for which the system makes no thread has its work done in the caller's. It may wait:
+/// for threads, at the gate, at a held edit. The tender has turns while it waits, and one behind all threads.
 ///
 /// `NoMemory`: memory was refused, here or in a thread. All threads are gone by then, with all that came in.
 pub fn run_round<E: Ear, G: Gate, T: Tender, R: Threads + Wait + Sync>(
@@ -110,6 +114,7 @@ pub fn run_round<E: Ear, G: Gate, T: Tender, R: Threads + Wait + Sync>(
 ) -> Result<RoundEnd<E>, NoMemory>
     requires round { IsRoundWithRoom job.now number (length (journal desk)) (E.spare ear) }
     requires desk { IsSeatOf store.now desk.place }
+    requires tidied { IsReadied desk }
     requires packets { AreWalkable (store_name store.now) packets.now }
     requires workers { AreReady (store_name store.now) (length packets.now) job.now.job.workers
         workers.items }

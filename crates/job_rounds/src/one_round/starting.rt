@@ -1,10 +1,13 @@
 //! Starts the threads of a round.
-ghost use Rattle.std.specs.Prelude.{◌≡◌, ◌≤◌, length, IfOk};
+ghost use Rattle.std.specs.Prelude.{◌≡◌, ◌≤◌, length, IfOk, OnOk};
 ghost use Rattle.std.specs.List.{AllByRecursion, AllZip};
 ghost use Rattle.job_rounds.specs.OfRoundState.Rounds.{store_name};
 ghost use Rattle.job_rounds.specs.OfOneRound.Rounds.{IsNamedRound};
+ghost use Rattle.job_rounds.specs.OfOneRound.Controls.{WasThrough};
+ghost use Rattle.job_rounds.specs.OfOneRound.Numbers.{AreAll};
 ghost use Rattle.job_rounds.specs.OfOneRound.Hands.{AreWalkable, CanWork, HasWorked, IsStartedFor};
 
+use crate::one_round::begun::{Alone, Begun, NoThread, OfControl};
 use crate::one_round::bell::Bell;
 use crate::one_round::controls::{control_all, line_of};
 use crate::one_round::hands::{Ended, Hand, OfRound, Started, work_of};
@@ -12,6 +15,7 @@ use crate::round_state::{RoundName, RoundState};
 use hook_store_law::HookStore;
 use round_terms::LoadedJob;
 use std::alloc::Global;
+use std::marker::PhantomData;
 use std::snapshot::Snapshot;
 use std::sync::{Mutex, Wait};
 use std::thread::{Scope, Threads};
@@ -30,30 +34,48 @@ fn start_control<'s, 'e, N: RoundName + Send + Sync, E: Ear, G: Gate, R: Threads
     control: u32,
     gates: &'e G,
     bell: &'e Bell,
-)
+) -> Begun<N, E>
     requires named { IsNamedRound N.store N.job N.number (length N.before) N.ear.spare (store_name store.now)
         job.now round }
     requires control { (1 ≤ control) × (control ≤ job.now.job.controls) }
+    ensures { result ≡ control }
 {
-    if line_of(rt, lock, store, job, round, control).is_none() {
+    let Some(_) = line_of(rt, lock, store, job, round, control) else {
         bell.leave(rt);
-        return;
-    }
-    let refused = scope
-        .spawn(
-            move ||
-                requires { IsNamedRound N.store N.job N.number (length N.before) N.ear.spare
-                    (store_name store.now) job.now round × (1 ≤ control)
-                    × (control ≤ job.now.job.controls) }
-            { control_all(rt, lock, store, job, round, control, gates, bell) },
-        )
-        .is_err();
-    if refused {
-        bell.leave(rt);
+        return Begun {
+            control,
+            thread: Err(Alone::Idle),
+        };
+    };
+    let promise = OfControl {
+        control,
+        of: PhantomData,
+    };
+    match scope.spawn_with(
+        promise,
+        move || -> Result<(), NoMemory>
+            requires { IsNamedRound N.store N.job N.number (length N.before) N.ear.spare
+                (store_name store.now) job.now round × (1 ≤ control)
+                × (control ≤ job.now.job.controls) }
+            ensures { OnOk result (WasThrough E.name E.heard E.spare N.store N.job N.number N.before N.ear
+                control) }
+        { control_all(rt, lock, store, job, round, control, gates, bell) },
+    ) {
+        Ok(handle) => Begun {
+            control,
+            thread: Ok(handle),
+        },
+        Err(refused) => {
+            bell.leave(rt);
+            Begun {
+                control,
+                thread: Err(Alone::Refused(NoThread::of(&refused))),
+            }
+        }
     }
 }
 
-/// Starts a thread for each control that has a line to meet.
+/// Starts a thread for each control that has a line to meet, where the system doesn't refuse it.
 pub(crate) fn start_controls<
     's,
     'e,
@@ -64,19 +86,24 @@ pub(crate) fn start_controls<
 >(
     scope: &'s Scope<'s, &'e ()>,
     rt: &'e R,
+    alloc: Global,
     lock: &'e Mutex<RoundState<N, E>>,
     store: &'e HookStore,
     job: &'e LoadedJob,
     round: u32,
     gates: &'e G,
     bell: &'e Bell,
-)
+) -> Result<Vec<Begun<N, E>>, NoMemory>
     requires named { IsNamedRound N.store N.job N.number (length N.before) N.ear.spare (store_name store.now)
         job.now round }
+    ensures { IfOk result (λ all. AreAll job.now.job.controls all.items) }
 {
+    let mut all = Vec::with_capacity(alloc, job.job.controls as usize)?;
     for done in 0..job.job.controls {
-        start_control(scope, rt, lock, store, job, round, done + 1, gates, bell);
+        let begun = start_control(scope, rt, lock, store, job, round, done + 1, gates, bell);
+        all.push(begun)?;
     }
+    Ok(all)
 }
 
 // Starts the thread of a worker. One that can have no thread works here, and so does each where there are no
@@ -97,7 +124,8 @@ fn start_worker<'s, 'e, G: Gate, R: Threads + Wait + Sync>(
     let (store, claims, gates) = (round.store, round.claims, round.gates);
     let (hook, packets) = (round.hook, round.packets);
     if packets.is_empty() {
-        return Started::Here(work_of(rt, alloc, hand, store, claims, gates, hook, packets, bell));
+        let end = work_of(rt, alloc, hand, store, claims, gates, hook, packets, bell);
+        return Started::Here(end, Alone::Idle);
     }
     let promise = OfRound {
         hand: Snapshot::of(&hand),
@@ -114,7 +142,10 @@ fn start_worker<'s, 'e, G: Gate, R: Threads + Wait + Sync>(
         { work_of(rt, alloc, hand, store, claims, gates, hook, packets, bell) },
     ) {
         Ok(handle) => Started::There(handle),
-        Err(refused) => Started::Here((refused.value)()),
+        Err(refused) => {
+            let why = Alone::Refused(NoThread::of(&refused));
+            Started::Here((refused.value)(), why)
+        }
     }
 }
 

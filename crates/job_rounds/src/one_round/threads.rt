@@ -1,10 +1,12 @@
 //! The threads of a round, from their start to their end.
 ghost use Rattle.std.specs.Prelude.{◌≡◌, length, map, IfOk};
+ghost use Rattle.job_rounds.specs.OfOneRound.Numbers.{AreAll};
 ghost use Rattle.job_rounds.specs.OfRoundState.Rounds.{store_name};
 ghost use Rattle.job_rounds.specs.OfOneRound.Rounds.{IsNamedRound};
 ghost use Rattle.job_rounds.specs.OfOneRound.Hands.{AreClaimed, AreWalkable, IsBackFrom};
 ghost use Rattle.job_rounds.specs.OfOneRound.Ends.{IsRoundEnd};
 
+use crate::one_round::begun::Begun;
 use crate::one_round::bell::Bell;
 use crate::one_round::ending::end_round;
 use crate::one_round::hands::Hand;
@@ -34,20 +36,32 @@ fn run_in<'s, 'e, N: RoundName + Send + Sync, E: Ear, G: Gate, T: Tender, R: Thr
     round: &RoundWork<'e, G>,
     bell: &'e Bell,
     tender: &mut T,
-) -> Result<Back, NoMemory>
+) -> Result<(Back, Vec<Begun<N, E>>), NoMemory>
     requires named { IsNamedRound N.store N.job N.number (length N.before) N.ear.spare
         (store_name round.now.store.now) job.now number }
     requires packets { AreWalkable (store_name round.now.store.now) round.now.packets.now }
     requires hands { AreClaimed (store_name round.now.store.now) round.now.claims.now
         (length round.now.packets.now) hands.items }
     ensures tender { T.name tender.new ≡ T.name tender.old }
-    ensures back { IfOk result (IsBackFrom (store_name round.now.store.now) round.now.hook
-        round.now.packets.now hands.items) }
+    ensures back { IfOk result (λ r. IsBackFrom (store_name round.now.store.now) round.now.hook
+        round.now.packets.now hands.items r.0) }
+    ensures begun { IfOk result (λ r. AreAll job.now.job.controls r.1.items) }
 {
-    start_controls(scope, rt, lock, round.store, job, number, round.gates, bell);
+    let begun = start_controls(
+        scope,
+        rt,
+        alloc,
+        lock,
+        round.store,
+        job,
+        number,
+        round.gates,
+        bell,
+    )?;
     let all = start_workers(scope, rt, alloc, hands, round, bell)?;
     tend(rt, bell, tender);
-    join_workers(rt, alloc, all)
+    let back = join_workers(rt, alloc, all)?;
+    Ok((back, begun))
 }
 
 // Runs the threads of a round. When it returns, none of them is left.
@@ -60,15 +74,16 @@ fn run_threads<N: RoundName + Send + Sync, E: Ear, G: Gate, T: Tender, R: Thread
     hands: Vec<Hand>,
     round: &RoundWork<'_, G>,
     tender: &mut T,
-) -> Result<Back, NoMemory>
+) -> Result<(Back, Vec<Begun<N, E>>), NoMemory>
     requires named { IsNamedRound N.store N.job N.number (length N.before) N.ear.spare
         (store_name round.now.store.now) job.now number }
     requires packets { AreWalkable (store_name round.now.store.now) round.now.packets.now }
     requires hands { AreClaimed (store_name round.now.store.now) round.now.claims.now
         (length round.now.packets.now) hands.items }
     ensures tender { T.name tender.new ≡ T.name tender.old }
-    ensures back { IfOk result (IsBackFrom (store_name round.now.store.now) round.now.hook
-        round.now.packets.now hands.items) }
+    ensures back { IfOk result (λ r. IsBackFrom (store_name round.now.store.now) round.now.hook
+        round.now.packets.now hands.items r.0) }
+    ensures begun { IfOk result (λ r. AreAll job.now.job.controls r.1.items) }
 {
     let bell = Bell::new(job.job.controls.saturating_add(hands.len() as u32));
     let bell = &bell;
@@ -119,7 +134,9 @@ pub(crate) fn run_hands<
 {
     let before = Snapshot::of(&hands);
     let lock = Mutex::new(state);
-    let back = run_threads(rt, alloc, &lock, job, number, hands, round, tender)?;
+    let (back, begun) = run_threads(rt, alloc, &lock, job, number, hands, round, tender)?;
     let state = lock.into_inner();
-    end_round(rt, alloc, state, job, number, round, tender, before, back)
+    end_round(
+        rt, alloc, state, job, number, round, tender, before, back, begun,
+    )
 }

@@ -78,13 +78,13 @@ pub(crate) fn meet_line(
 {
     let edit = match line(alloc, text) {
         Ok(edit) => edit,
-        Err(LineFault::NoMemory) => return Err(Turned::NoMemory),
+        Err(LineFault::NoMemory(memory)) => return Err(Turned::NoMemory(memory)),
         Err(LineFault::Syntax { word }) => return Ok(EventKind::Syntax { word }),
     };
     match apply_named(desk, store, made, &edit) {
         Ok(done) => Ok(EventKind::Accepted(done)),
         Err(ApplyFault::Refused(refusal)) => match refusal {
-            Refusal::NoMemory => Err(Turned::NoMemory),
+            Refusal::NoMemory(memory) => Err(Turned::NoMemory(memory)),
             _ => Ok(EventKind::Refused(refusal)),
         },
         Err(

@@ -10,7 +10,7 @@ ghost use Rattle.round_terms.specs.Hearing.{ear_of};
 ghost use Rattle.shared_hook.specs.Views.{journal};
 ghost use Rattle.job_rounds.specs.declared.round_state.turned.Turned.TheVariants.{Over};
 ghost use Rattle.job_rounds.specs.OfRoundState.Rounds.{store_name, IsDeskOf, IsRoundOf};
-ghost use Rattle.job_rounds.specs.OfRoundState.Turns.{IsTurned};
+ghost use Rattle.job_rounds.specs.OfRoundState.Turns.{IsTurned, IsLineNumber};
 
 use crate::round_state::meeting::meet_line;
 use crate::round_state::naming::RoundName;
@@ -80,9 +80,12 @@ impl<N: RoundName, E: Ear> RoundState<N, E> {
         requires job { IsLoaded N.job }
         ensures begun { IfOk result (λ s. (s.desk ≡ desk) × (s.events ≡ []) × (s.made ≡ []) × (s.ear ≡ ear)) }
     {
-        let Ok(places) = vec![in alloc; Place::start(); controls as usize] else {
-            drop((desk, ear));
-            return Err(NoMemory);
+        let places = match vec![in alloc; Place::start(); controls as usize] {
+            Ok(places) => places,
+            Err(refused) => {
+                drop((desk, ear));
+                return Err(NoMemory::from(refused));
+            }
         };
         Ok(RoundState {
             desk,
@@ -103,12 +106,20 @@ impl<N: RoundName, E: Ear> RoundState<N, E> {
         &self.desk
     }
 
+    /// What holds whenever the lock is free.
+    pub fn attest(&self)
+        ensures { IsRoundOf E.name E.heard E.spare N.store N.job N.number N.before N.ear self.now }
+    {
+        let _desk = &self.desk;
+    }
+
     /// The number of the line that a control has to meet next, in its batch from 1. `None` exactly where it
     /// has no line left.
     pub fn next_line(&self, job: &LoadedJob, round: u32, control: u32) -> Option<u64>
         requires job { (job.now ≡ N.job) × IsLoaded job.now }
         requires round { (round ≡ N.number) × (1 ≤ round) × (round ≤ length job.now.job.rounds) }
         requires control { (1 ≤ control) × (control ≤ job.now.job.controls) }
+        ensures line { IfSome result (IsLineNumber (files_of N.job N.number) self.now.places control) }
         ensures over { IfNone result (IsThroughAll (files_of N.job N.number) control self.now.events) }
         ensures exact { IfSome result (λ _.
             IsThroughAll (files_of N.job N.number) control self.now.events → ⊥) }
@@ -150,8 +161,8 @@ impl<N: RoundName, E: Ear> RoundState<N, E> {
         let Some(next) = next_line(job, before, round, control, places.as_slice()) else {
             return Turned::Over;
         };
-        if reserve(events, made).is_err() {
-            return Turned::NoMemory;
+        if let Err(memory) = reserve(events, made) {
+            return Turned::NoMemory(memory);
         }
         let kind = match meet_line(*alloc, desk, store, made, next.text) {
             Ok(kind) => kind,

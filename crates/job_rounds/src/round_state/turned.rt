@@ -1,6 +1,7 @@
 //! What became of a control's turn.
 
 use desk_needs::Pool;
+use tc_base::NoMemory;
 
 /// What became of a control's turn.
 #[derive(Clone, Copy, Debug, PartialEq, Eq)]
@@ -20,5 +21,5 @@ pub enum Turned {
         free: u32,
     },
     /// Memory was refused. The line is still the next one.
-    NoMemory,
+    NoMemory(NoMemory),
 }

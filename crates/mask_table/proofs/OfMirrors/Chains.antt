@@ -3,6 +3,7 @@ use Rattle.std.proofs.Common.{◌≡◌, ◌∙◌, ℕ, zero, suc, ◌+◌, ◌
 use Rattle.std.proofs.lemmas.List.{length-map}
 use Rattle.store_history.specs.declared.history.Link.{Link}
 use Rattle.store_history.specs.History.{first_block, IsLinked}
+use Rattle.store_history.specs.declared.places.TheConstants.{POOL_BLOCKS}
 use Rattle.pin_store.specs.declared.shape.Shape.{Shape}
 use Rattle.pin_store.specs.Layout.{block_words, links_of, first_of, block_in}
 use Rattle.block_codec.specs.declared.filter.StoredFilter.{StoredFilter}
@@ -28,7 +29,7 @@ linked_number : (n : ℕ) → plus_one (block_in n) ≡ n
 linked_number zero = refl
 linked_number (suc n) = omega arith
 
-pub spelled_low : (next : List ℕ) (number : ℕ) (bs : List ℕ) → Spells next number bs → (place b : ℕ) → slice_get bs place ≡ Some b → b < 16384
+pub spelled_low : (next : List ℕ) (number : ℕ) (bs : List ℕ) → Spells next number bs → (place b : ℕ) → slice_get bs place ≡ Some b → b < POOL_BLOCKS
 spelled_low next number [] s place b e = absurd (cc e)
 spelled_low next number (c ∷ cs) s zero b e = let same : c ≡ b = cc in let low = s.1 in omega arith
 spelled_low next number (c ∷ cs) s (suc place) b e = spelled_low next (get_or next c 0) cs s.2 place b e

@@ -9,6 +9,7 @@ use Rattle.std.proofs.lemmas.List.FromFn.{map-range_with_len_more}
 use Rattle.std.proofs.lemmas.Map.Steps.{length-le_from_distinct_below}
 use Rattle.store_history.specs.declared.history.Link.{Link}
 use Rattle.store_history.specs.declared.history.Named.{Named}
+use Rattle.store_history.specs.declared.places.TheConstants.{MASK_SLOTS, POOL_BLOCKS}
 use Rattle.pin_store.specs.declared.shape.Shape.{Shape}
 use Rattle.pin_store.specs.Layout.{links_of}
 use Rattle.block_codec.specs.declared.filter.StoredFilter.{StoredFilter}
@@ -75,7 +76,7 @@ link_blocks shape cells (b ∷ bs) = ap (λ (xs : List ℕ). b ∷ xs) (link_blo
 -- blocks of the first k buckets, all different
 record AreGathered (roots : ℕ → Named) (mask : StoredMask) (k : ℕ) (xs : List ℕ) : Type 0 where
   different : IsDistinct eqb xs
-  low : (x : ℕ) → list_any (eqb x) xs ≡ true → x < 16384
+  low : (x : ℕ) → list_any (eqb x) xs ≡ true → x < POOL_BLOCKS
   from : (x : ℕ) → list_any (eqb x) xs ≡ true → (j : ℕ) × (j < k) × Names roots (bucket_root mask j) x
 
 module _ (mirror : Mirror) (shape : Shape) (cells : List ℕ) (roots : ℕ → Named) (slot : ℕ) (kept : KeptMask) (stands : Stands mirror slot kept) (keeps : IsKept mirror shape cells roots) where
@@ -113,7 +114,7 @@ module _ (mirror : Mirror) (shape : Shape) (cells : List ℕ) (roots : ℕ → N
           let both = keeps.apart (bucket_root kept.mask k) (record { slot = slot; bucket = j; kept = kept; stands = stands; within = low; same = sym same }) (at k less) in
           let is = both.1 in absurd (omega arith)
 
-      low_in : (x : ℕ) (t : Bool) → list_any (eqb x) xs ≡ t → (t || list_any (eqb x) (bucket k less).blocks) ≡ true → x < 16384
+      low_in : (x : ℕ) (t : Bool) → list_any (eqb x) xs ≡ t → (t || list_any (eqb x) (bucket k less).blocks) ≡ true → x < POOL_BLOCKS
       low_in x true is e = g.low x is
       low_in x false is e = all_low mirror.next.items _ (bucket k less).blocks (bucket k less).chain.spelled x e
 
@@ -127,11 +128,11 @@ module _ (mirror : Mirror) (shape : Shape) (cells : List ℕ) (roots : ℕ → N
       subst (λ (n : ℕ). AreGathered roots kept.mask n (bucket_blocks roots kept.mask n)) more
       (subst (AreGathered roots kept.mask (k + 1)) (sym (blocks_more k less)) (gather_more k less (bucket_blocks roots kept.mask k) (gathered k (omega arith))))
 
-  pub few_gathered : (k : ℕ) → k ≤ kept.mask.size → length (bucket_blocks roots kept.mask k) ≤ 16384
-  few_gathered k low = let g = gathered k low in length-le_from_distinct_below (bucket_blocks roots kept.mask k) 16384 g.different g.low
+  pub few_gathered : (k : ℕ) → k ≤ kept.mask.size → length (bucket_blocks roots kept.mask k) ≤ POOL_BLOCKS
+  few_gathered k low = let g = gathered k low in length-le_from_distinct_below (bucket_blocks roots kept.mask k) POOL_BLOCKS g.different g.low
 
 -- ---- the other masks
-module _ (mirror mirror2 : Mirror) (slot : ℕ) (small : slot < 8192) (slots : mirror2.slots.items ≡ set mirror.slots.items slot None) (first : mirror2.first.items ≡ mirror.first.items)
+module _ (mirror mirror2 : Mirror) (slot : ℕ) (small : slot < MASK_SLOTS) (slots : mirror2.slots.items ≡ set mirror.slots.items slot None) (first : mirror2.first.items ≡ mirror.first.items)
     (next : mirror2.next.items ≡ mirror.next.items) (filters : mirror2.filters.items ≡ mirror.filters.items) where
   stood : (other : ℕ) (kept : KeptMask) → Stands mirror2 other kept → Stands mirror other kept
   stood other kept s = pick (eqb other slot) refl

@@ -8,6 +8,7 @@ use Rattle.store_history.specs.declared.history.Named.{Named}
 use Rattle.store_history.specs.declared.history.Commit.{Commit}
 use Rattle.store_history.specs.History.{root_of}
 use Rattle.store_history.proofs.Histories.{root_own, root_other, named_at_end}
+use Rattle.store_history.specs.declared.places.TheConstants.{BUCKET_ROOTS, POOL_BLOCKS, BUCKETS}
 use Rattle.pin_store.specs.declared.shape.Shape.{Shape}
 use Rattle.pin_store.specs.declared.view.Sheet.{Sheet}
 use Rattle.pin_store.specs.Layout.{block_words, links_of, block_in}
@@ -34,11 +35,11 @@ same_kept mirror slot other kept more e s t =
     let both : Some kept ≡ Some more = sym s ∙ (ap (λ (k : ℕ). get_or mirror.slots.items k None) e ∙ t) in cc
 
 -- a bucket's root is as far behind the first of all as its place says
-pub at_root : (mask : StoredMask) (bucket : ℕ) → bucket_root mask bucket ≡ 10243 + bucket_at mask bucket
+pub at_root : (mask : StoredMask) (bucket : ℕ) → bucket_root mask bucket ≡ BUCKET_ROOTS + bucket_at mask bucket
 at_root mask bucket = omega arith
 
 -- and within those of all rows
-pub place_low : (mask : StoredMask) (bucket : ℕ) → IsStorableMask mask → bucket < mask.size → bucket_at mask bucket < 131072
+pub place_low : (mask : StoredMask) (bucket : ℕ) → IsStorableMask mask → bucket < mask.size → bucket_at mask bucket < BUCKETS
 place_low mask bucket is less = let rows = is.rows in let row = is.each_row (bucket / 16) 0 (omega arith) in omega arith
 
 -- a mask has buckets
@@ -71,7 +72,7 @@ abbrev pub bucket_with : (mirror mirror2 : Mirror) (root : ℕ) → mirror2.slot
 bucket_with mirror mirror2 root slots at = record { slot = at.slot; bucket = at.bucket; kept = at.kept; stands = ap (λ (xs : List (Option KeptMask)). get_or xs at.slot None) (sym slots) ∙ at.stands; within = at.within; same = at.same }
 
 -- ---- a block that no root names is filled
-pub filled_by : (mirror mirror2 : Mirror) (shape : Shape) (old new : List ℕ) (b number age : ℕ) (filter : Option StoredFilter) → 16384 ≤ shape.blocks
+pub filled_by : (mirror mirror2 : Mirror) (shape : Shape) (old new : List ℕ) (b number age : ℕ) (filter : Option StoredFilter) → POOL_BLOCKS ≤ shape.blocks
     → ((other : ℕ) → other ≢ b → other < shape.blocks → block_words shape new other ≡ block_words shape old other)
     → mirror2.slots.items ≡ mirror.slots.items → mirror2.first.items ≡ mirror.first.items → mirror2.next.items ≡ set mirror.next.items b number → mirror2.filters.items ≡ set mirror.filters.items b filter
     → mirror2.ages.items ≡ set mirror.ages.items b age → IsFilled mirror mirror2 shape old new b
@@ -86,7 +87,7 @@ filled_by mirror mirror2 shape old new b number age filter wide others slots fir
 }
 
 module _ (mirror mirror2 : Mirror) (shape : Shape) (old new : List ℕ) (b : ℕ) (f : IsFilled mirror mirror2 shape old new b) where
-  words_same : (bs : List ℕ) → ((place c : ℕ) → slice_get bs place ≡ Some c → c ≢ b) → ((place c : ℕ) → slice_get bs place ≡ Some c → c < 16384)
+  words_same : (bs : List ℕ) → ((place c : ℕ) → slice_get bs place ≡ Some c → c ≢ b) → ((place c : ℕ) → slice_get bs place ≡ Some c → c < POOL_BLOCKS)
       → (place c : ℕ) → slice_get bs place ≡ Some c → block_words shape new c ≡ block_words shape old c
   words_same bs apart low place c e = let less = low place c e in let wide = f.wide in f.others c (apart place c e) (omega arith)
 
@@ -98,7 +99,7 @@ module _ (mirror mirror2 : Mirror) (shape : Shape) (old new : List ℕ) (b : ℕ
   }
 
   -- and with it in front
-  pub chain_more : (size number : ℕ) (bs : List ℕ) (filter : StoredFilter) → b < 16384 → ((place c : ℕ) → slice_get bs place ≡ Some c → c ≢ b) → get_or mirror2.next.items b 0 ≡ number → get_or mirror2.filters.items b None ≡ Some filter
+  pub chain_more : (size number : ℕ) (bs : List ℕ) (filter : StoredFilter) → b < POOL_BLOCKS → ((place c : ℕ) → slice_get bs place ≡ Some c → c ≢ b) → get_or mirror2.next.items b 0 ≡ number → get_or mirror2.filters.items b None ≡ Some filter
       → IsFilterBlock (block_words shape new b) (filter, block_in number) → HoldsChain mirror shape old size (bucket_for size filter.key.words) number bs
       → HoldsChain mirror2 shape new size (bucket_for size filter.key.words) (b + 1) (b ∷ bs)
   chain_more size number bs filter pool apart next kept there s = let rest = chain_same size (bucket_for size filter.key.words) number bs apart s in record {
@@ -136,7 +137,7 @@ module _ (mirror mirror2 : Mirror) (shape : Shape) (old new : List ℕ) (b : ℕ
           there = subst (λ (ws : List ℕ). IsMaskBlock ws (kept.mask, None)) (sym (same 0 kept.block refl)) was.there;
         }
       where
-        only : kept.block < 16384 → (k c : ℕ) → slice_get (kept.block ∷ []) k ≡ Some c → c < 16384
+        only : kept.block < POOL_BLOCKS → (k c : ℕ) → slice_get (kept.block ∷ []) k ≡ Some c → c < POOL_BLOCKS
         only low zero c e = let is : kept.block ≡ c = cc in omega arith
         only low (suc k) c e = absurd (cc e)
 
@@ -150,7 +151,7 @@ module _ (mirror mirror2 : Mirror) (shape : Shape) (old new : List ℕ) (b : ℕ
 
 -- ---- the root of a bucket is given another chain
 module _ {E : Type 0} (mirror mirror2 : Mirror) (shape : Shape) (cells : List ℕ) (h : List (Commit E)) (c : Commit E) (place number : ℕ) (bs : List ℕ) (own : BucketAt mirror c.root)
-    (root : c.root ≡ 10243 + place) (renamed : IsRenamed mirror mirror2 place number) (keeps : IsKept mirror shape cells (root_of h))
+    (root : c.root ≡ BUCKET_ROOTS + place) (renamed : IsRenamed mirror mirror2 place number) (keeps : IsKept mirror shape cells (root_of h))
     (chain : HoldsChain mirror shape cells own.kept.mask.size own.bucket number bs) (named : c.named.chain ≡ links_of shape cells bs) (alone : AreOwn mirror (root_of h) c.root bs) where
   abbrev after : ℕ → Named
   after = root_of (h ++ c ∷ [])
@@ -188,7 +189,7 @@ module _ {E : Type 0} (mirror mirror2 : Mirror) (shape : Shape) (cells : List �
 
   other_bucket : (other : ℕ) (at : BucketAt mirror other) → other ≢ c.root → KeepsBucket mirror2 shape cells after at.kept.mask at.bucket
   other_bucket other at apart = let was = keeps.buckets other at in let start = bucket_at at.kept.mask at.bucket in
-      let away : start ≢ place = λ e. apart (at.same ∙ (at_root at.kept.mask at.bucket ∙ (ap (λ (k : ℕ). 10243 + k) e ∙ sym root))) in
+      let away : start ≢ place = λ e. apart (at.same ∙ (at_root at.kept.mask at.bucket ∙ (ap (λ (k : ℕ). BUCKET_ROOTS + k) e ∙ sym root))) in
       let same = ap (λ (xs : List ℕ). get_or xs start 0) renamed.first ∙ get_or-set_other mirror.first.items place start number 0 away in record {
         blocks = was.blocks;
         chain = subst (λ (k : ℕ). HoldsChain mirror2 shape cells at.kept.mask.size at.bucket k was.blocks) (sym same) (chain_kept at.kept.mask.size at.bucket (get_or mirror.first.items start 0) was.blocks was.chain);

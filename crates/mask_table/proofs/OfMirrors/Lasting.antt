@@ -2,6 +2,7 @@
 use Rattle.std.proofs.Common.{◌≡◌, ◌≢◌, ◌∙◌, ℕ, suc, ◌+◌, ◌<◌, Bool, true, false, eqb, List, [], ◌∷◌, map, get_or, slice_get, Option, Some, None, refl, sym, ap, subst, eqb-true, get_or-set_other}
 use Rattle.std.proofs.lemmas.Bool.{eqb-false}
 use Rattle.store_history.specs.declared.history.Named.{Named}
+use Rattle.store_history.specs.declared.places.TheConstants.{BUCKET_ROOTS}
 use Rattle.pin_store.specs.declared.shape.Shape.{Shape}
 use Rattle.block_codec.specs.declared.filter.StoredFilter.{StoredFilter}
 use Rattle.mask_table.specs.Buckets.{bucket_root}
@@ -60,9 +61,9 @@ module _ (mirror mirror2 : Mirror) (shape : Shape) (old new : List ℕ) (b : ℕ
 -- ---- the root of a bucket is given another chain
 module _ (mirror mirror2 : Mirror) (place number : ℕ) (renamed : IsRenamed mirror mirror2 place number) (shape : Shape) (cells : List ℕ) (roots : ℕ → Named) (keeps : IsKept mirror shape cells roots) where
   -- the chain of another bucket
-  pub chain_renamed : (root : ℕ) (at : BucketAt mirror root) → root ≢ 10243 + place → SameChain mirror mirror2 (bucket_at at.kept.mask at.bucket)
+  pub chain_renamed : (root : ℕ) (at : BucketAt mirror root) → root ≢ BUCKET_ROOTS + place → SameChain mirror mirror2 (bucket_at at.kept.mask at.bucket)
   chain_renamed root at apart = let was = keeps.buckets root at in let start = bucket_at at.kept.mask at.bucket in
-      let away : start ≢ place = λ e. apart (at.same ∙ (at_root at.kept.mask at.bucket ∙ ap (λ (k : ℕ). 10243 + k) e)) in
+      let away : start ≢ place = λ e. apart (at.same ∙ (at_root at.kept.mask at.bucket ∙ ap (λ (k : ℕ). BUCKET_ROOTS + k) e)) in
       let first = ap (λ (xs : List ℕ). get_or xs start 0) renamed.first ∙ get_or-set_other mirror.first.items place start number 0 away in record {
         blocks = was.blocks;
         before = was.chain.spelled;
@@ -71,11 +72,11 @@ module _ (mirror mirror2 : Mirror) (place number : ℕ) (renamed : IsRenamed mir
       }
 
   -- the masks at other slots have their filters
-  pub lists_renamed : (own : BucketAt mirror (10243 + place)) (slot last : ℕ) (fs : List StoredFilter) → slot ≢ own.slot → HasFilters mirror slot last fs → HasFilters mirror2 slot last fs
+  pub lists_renamed : (own : BucketAt mirror (BUCKET_ROOTS + place)) (slot last : ℕ) (fs : List StoredFilter) → slot ≢ own.slot → HasFilters mirror slot last fs → HasFilters mirror2 slot last fs
   lists_renamed own slot last fs away has = has_same mirror mirror2 slot last fs has (ap (λ (xs : List (Option KeptMask)). get_or xs slot None) renamed.slots ∙ has.stands)
       (λ bucket less. let this = bucket_root has.kept.mask bucket in let at : BucketAt mirror this = record { slot = slot; bucket = bucket; kept = has.kept; stands = has.stands; within = less; same = refl } in
-      chain_renamed this at (λ e. let again : BucketAt mirror (10243 + place) = record { slot = slot; bucket = bucket; kept = has.kept; stands = has.stands; within = less; same = sym e } in
-      away ((keeps.apart (10243 + place) again own).0)))
+      chain_renamed this at (λ e. let again : BucketAt mirror (BUCKET_ROOTS + place) = record { slot = slot; bucket = bucket; kept = has.kept; stands = has.stands; within = less; same = sym e } in
+      away ((keeps.apart (BUCKET_ROOTS + place) again own).0)))
 
 -- a mask has other filters where the chain of one bucket is other, and the others have theirs
 pub has_rewritten : (mirror mirror2 : Mirror) (slot last later : ℕ) (fs : List StoredFilter) (has : HasFilters mirror slot last fs) (dated : List Dated) (bucket : ℕ) (blocks : List ℕ) → Stands mirror2 slot has.kept

@@ -5,6 +5,7 @@ use Rattle.std.specs.List.{list_any, IsDistinct, AllByRecursion}
 use Rattle.std.proofs.lemmas.Bool.{ne_eqb}
 use Rattle.std.proofs.lemmas.Map.Steps.{length-le_from_distinct_below}
 use Rattle.std.proofs.lemmas.Option.{slice_get_within}
+use Rattle.store_history.specs.declared.places.TheConstants.{POOL_BLOCKS}
 use Rattle.mask_table.specs.OfMirrors.Kept.{Spells}
 
 -- there is one list
@@ -42,17 +43,17 @@ unfolding IsDistinct
 all_different next number [] s = tt
 all_different next number (b ∷ bs) s = (all_others b bs (not_again next number b bs s), all_different next (get_or next b 0) bs s.2)
 
-pub all_low : (next : List ℕ) (number : ℕ) (bs : List ℕ) → Spells next number bs → (q : ℕ) → list_any (eqb q) bs ≡ true → q < 16384
+pub all_low : (next : List ℕ) (number : ℕ) (bs : List ℕ) → Spells next number bs → (q : ℕ) → list_any (eqb q) bs ≡ true → q < POOL_BLOCKS
 all_low next number [] s q e = absurd (cc e)
 all_low next number (b ∷ bs) s q e = pick (all_low next (get_or next b 0) bs s.2 q) (eqb q b) refl e
   where
-    pick : (list_any (eqb q) bs ≡ true → q < 16384) → (t : Bool) → eqb q b ≡ t → (t || list_any (eqb q) bs) ≡ true → q < 16384
+    pick : (list_any (eqb q) bs ≡ true → q < POOL_BLOCKS) → (t : Bool) → eqb q b ≡ t → (t || list_any (eqb q) bs) ≡ true → q < POOL_BLOCKS
     pick rest true is e = let same = eqb-true q b is in let low = s.1 in omega arith
     pick rest false is e = rest e
 
 -- and there are no more than the pool has
-pub few_blocks : (next : List ℕ) (number : ℕ) (bs : List ℕ) → Spells next number bs → length bs ≤ 16384
-few_blocks next number bs s = length-le_from_distinct_below bs 16384 (all_different next number bs s) (all_low next number bs s)
+pub few_blocks : (next : List ℕ) (number : ℕ) (bs : List ℕ) → Spells next number bs → length bs ≤ POOL_BLOCKS
+few_blocks next number bs s = length-le_from_distinct_below bs POOL_BLOCKS (all_different next number bs s) (all_low next number bs s)
 
 -- behind 0 there are none
 pub none_at_zero : (next : List ℕ) (number : ℕ) (bs : List ℕ) → Spells next number bs → number ≡ 0 → bs ≡ []
@@ -77,7 +78,7 @@ ahead_first next start before blocks s few = record {
 
 -- one block further on
 pub record IsStep (next : List ℕ) (start number : ℕ) (before done : List ℕ) : Type 0 where
-  pub low : number ≤ 16384
+  pub low : number ≤ POOL_BLOCKS
   pub room : length done < 16385
   pub ahead : IsAhead next start (get_or next (number - 1) 0) before (done ++ (number - 1) ∷ [])
 

@@ -1,5 +1,5 @@
 -- What the steps of an edit change of what is kept (this project's own).
-use Rattle.block_codec.specs.declared.places.TheConstants.{POOL_BLOCKS}
+use Rattle.store_history.specs.declared.places.TheConstants.{POOL_BLOCKS}
 use Rattle.std.specs.Prelude.{◌≡◌, ◌≢◌, ℕ, ◌<◌, ◌≤◌, List, slice_index, slice_index_or, slice_set, None}
 use Rattle.pin_store.specs.declared.shape.Shape.{Shape}
 use Rattle.pin_store.specs.Layout.{block_words}

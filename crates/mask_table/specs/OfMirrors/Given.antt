@@ -1,5 +1,5 @@
 -- What a call may use (this project's own): blocks and rows that were made free before.
-use Rattle.block_codec.specs.declared.places.TheConstants.{POOL_BLOCKS, ROWS}
+use Rattle.store_history.specs.declared.places.TheConstants.{POOL_BLOCKS, ROWS}
 use Rattle.std.specs.Prelude.{◌≡◌, ℕ, ◌<◌, List, Some, slice_get, All}
 use Rattle.std.specs.List.{IsDistinct}
 use Rattle.std.specs.Prelude.{eqb}

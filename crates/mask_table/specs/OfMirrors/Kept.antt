@@ -1,6 +1,6 @@
 -- What a writer of masks keeps of them, and that it is what the roots name (this project's own). `roots`
 -- tells what each root names at the end of all commits, `cells` are the words of all blocks.
-use Rattle.block_codec.specs.declared.places.TheConstants.{POOL_BLOCKS, MASK_SLOTS}
+use Rattle.store_history.specs.declared.places.TheConstants.{POOL_BLOCKS, MASK_SLOTS}
 use Rattle.std.specs.Prelude.{◌≡◌, ℕ, ◌+◌, ◌*◌, ◌/◌, ◌%◌, ◌<◌, List, [], ◌∷◌, slice_get, slice_index}
 use Rattle.std.specs.Prelude.{slice_index_or, Option, Some, None}
 use Rattle.store_history.specs.declared.history.Link.{Link}

@@ -1,5 +1,5 @@
 //! The places of buckets.
-ghost use Rattle.block_codec.specs.declared.places.TheConstants.{BUCKETS, MASK_SLOTS};
+ghost use Rattle.store_history.specs.declared.places.TheConstants.{BUCKETS, MASK_SLOTS};
 ghost use Rattle.std.specs.Prelude.{◌≡◌, ◌<◌};
 ghost use Rattle.block_codec.specs.Masks.{IsStorableMask};
 ghost use Rattle.mask_table.specs.Buckets.{bucket_for};
@@ -8,9 +8,9 @@ ghost use Rattle.mask_table.specs.OfMirrors.Kept.{bucket_at, Stands};
 
 use crate::mirrors::mirror::Mirror;
 use block_codec::StoredMask;
-use block_codec::places::ROW_BUCKETS;
 use flow_fields::Key;
 use flow_mask::hash;
+use store_history::places::ROW_BUCKETS;
 
 /// Where a bucket of a mask stands among those of all rows.
 pub fn place_of(mask: &StoredMask, bucket: u32) -> u32

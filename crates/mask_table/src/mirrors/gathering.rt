@@ -1,5 +1,5 @@
 //! The blocks of a chain, followed along the numbers that are kept.
-ghost use Rattle.block_codec.specs.declared.places.TheConstants.{MASK_SLOTS, POOL_BLOCKS};
+ghost use Rattle.store_history.specs.declared.places.TheConstants.{MASK_SLOTS, POOL_BLOCKS};
 ghost use Rattle.std.specs.Prelude.{◌≡◌, ℕ, ◌+◌, ◌<◌, ◌≤◌, ◌++◌, ◌∷◌, [], List, length};
 ghost use Rattle.store_history.specs.declared.history.Named.{Named};
 ghost use Rattle.pin_store.specs.declared.shape.Shape.{Shape};

@@ -1,10 +1,10 @@
 //! What a writer of masks keeps of what it committed.
-ghost use Rattle.block_codec.specs.declared.places.TheConstants.{BUCKETS, MASK_SLOTS, POOL_BLOCKS};
+ghost use Rattle.store_history.specs.declared.places.TheConstants.{BUCKETS, MASK_SLOTS, POOL_BLOCKS};
 ghost use Rattle.std.specs.Prelude.{◌≡◌, ℕ, length, slice_index_or, None, IfOk};
 
-use block_codec::places::{MASK_SLOTS, POOL_BLOCKS, ROW_BUCKETS, ROWS};
 use block_codec::{StoredFilter, StoredMask};
 use std::alloc::Global;
+use store_history::places::{MASK_SLOTS, POOL_BLOCKS, ROW_BUCKETS, ROWS};
 use tc_base::NoMemory;
 
 /// A mask that stands, with the block of its record.
@@ -47,7 +47,7 @@ fn empty_places<T: Drop>(alloc: Global, count: usize) -> Result<Vec<Option<T>>, 
 }
 
 impl Mirror {
-    ghost use Rattle.block_codec.specs.declared.places.TheConstants.{BUCKETS, MASK_SLOTS, POOL_BLOCKS};
+    ghost use Rattle.store_history.specs.declared.places.TheConstants.{BUCKETS, MASK_SLOTS, POOL_BLOCKS};
     ghost use Rattle.std.specs.Prelude.{◌<◌, slice_set, Some};
 
     /// The mirror of a store without masks. No other call takes memory.

@@ -1,5 +1,5 @@
 //! A filter put in front of a chain that is kept.
-ghost use Rattle.block_codec.specs.declared.places.TheConstants.{POOL_BLOCKS};
+ghost use Rattle.store_history.specs.declared.places.TheConstants.{POOL_BLOCKS};
 ghost use Rattle.std.specs.Prelude.{◌≡◌, ◌≢◌, ℕ, ◌+◌, ◌<◌, ◌≤◌, ◌∷◌, List, slice_get, Some};
 ghost use Rattle.store_history.specs.History.{root_of};
 ghost use Rattle.pin_store.specs.Layout.{block_words, block_in};

@@ -27,14 +27,6 @@ impl StoredFilters {
         StoredFilters { items }
     }
 
-    /// The items, in the `Vec` that they stand in.
-    pub fn into_vec(self) -> Vec<StoredFilter>
-        ensures { result.items ≡ self }
-    {
-        let StoredFilters { items } = self;
-        items
-    }
-
     /// The items, in order.
     pub fn as_slice(&self) -> &[StoredFilter]
         ensures { result.now ≡ self.now }

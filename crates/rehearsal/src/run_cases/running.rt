@@ -7,12 +7,12 @@ use crate::run_cases::trouble::Trouble;
 use job_files::load_job;
 use job_rounds::{make_hooks, run_job_heard};
 use lawful_runs::LoadedJob;
-use report_check::{Check, recheck};
 use run_report::{RunRecord, write_report};
 use std::alloc::Global;
 use std::sync::Wait;
 use std::thread::Threads;
 use tc_base::{Gate, MemShelf, MemSink, NoEar, Numbers, Tender};
+use tool_run::{Check, recheck};
 
 /// A run, its report, and whether `recheck` finds that lawful.
 #[derive(Drop)]

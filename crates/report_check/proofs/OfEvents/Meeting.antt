@@ -18,6 +18,7 @@ use Rattle.lawful_runs.specs.Lawful.{made_by}
 use Rattle.round_terms.specs.Underway.{made_behind}
 use Rattle.round_terms.proofs.Making.{few_from, one_behind, made_further}
 use Rattle.state_past.specs.Remembering.{IsFollowed}
+use Rattle.tc_base.specs.Memory.{no_memory}
 
 -- ---- before the step
 pub may_step : (journal : List Edit) (lists : Kept) → Spells lists (state_from no_state journal) → length journal ≤ 262144 → MayStep lists
@@ -43,7 +44,7 @@ pub record HasRefused (old new : Kept) (refusal : Refusal) (it : Stepped) : Type
   pub steps : it ≡ Err refusal
   pub stays : Stays old new
 
-pub followed_err : (old new : Kept) (refusal : Refusal) (it : Stepped) → IsFollowed old new (Err refusal) it → refusal ≢ refusals.NoMemory → HasRefused old new refusal it
+pub followed_err : (old new : Kept) (refusal : Refusal) (it : Stepped) → IsFollowed old new (Err refusal) it → refusal ≢ refusals.NoMemory no_memory → HasRefused old new refusal it
 followed_err old new refusal (Ok next) is other = absurd (other is)
 followed_err old new refusal (Err said) (inl want) other = absurd (other want)
 followed_err old new refusal (Err said) (inr is) other = record { steps = ap (λ (r : Refusal). Err r) (sym is.0); stays = is.1 }

@@ -59,6 +59,8 @@ impl Cursor {
             → IsAt loaded report.now self.old stand → Takes loaded stand text.now next
             → IsAt loaded report.now self.new next }
         ensures further { result ≡ true → self.new.line ≡ self.old.line + 1 }
+        ensures next { result ≡ true → IsNextLine report.now self.old text.now }
+        ensures stays { result ≡ false → self.new ≡ self.old }
         ensures stuck { result ≡ false → (loaded : LoadedJob) (stand : Stand)
             → IsAt loaded report.now self.old stand → IsOpen stand
             → MustBe loaded report.now self.old stand text.now → IsStuck loaded report.now self.new }

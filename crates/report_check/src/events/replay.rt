@@ -28,6 +28,7 @@ impl Replay {
     ghost use Rattle.std.specs.Prelude.{IfOk, IfErr, OnOk, if◌then◌else◌};
     ghost use Rattle.tc_words.specs.Lines.{words_of};
     ghost use Rattle.filter_state.specs.declared.refusal.Refusal.TheVariants as refusals;
+    ghost use Rattle.tc_base.specs.Memory.{no_memory};
     ghost use Rattle.filter_state.specs.Lines.{IsLine};
     ghost use Rattle.filter_state.specs.States.{no_state};
     ghost use Rattle.filter_state.specs.Steps.{step};
@@ -68,7 +69,7 @@ impl Replay {
     {
         let edit = match line(alloc, text) {
             Ok(edit) => edit,
-            Err(LineFault::NoMemory) => return Err(NoMemory),
+            Err(LineFault::NoMemory(memory)) => return Err(memory),
             Err(LineFault::Syntax { word }) => {
                 self.refused += 1;
                 return Ok(EventKind::Syntax { word });
@@ -77,7 +78,7 @@ impl Replay {
         match self.apply(edit) {
             Ok(done) => Ok(EventKind::Accepted(done)),
             Err(refusal) => match refusal {
-                Refusal::NoMemory => Err(NoMemory),
+                Refusal::NoMemory(memory) => Err(memory),
                 _ => {
                     self.refused += 1;
                     Ok(EventKind::Refused(refusal))
@@ -93,10 +94,10 @@ impl Replay {
         requires line { IsLine edit }
         requires short { length self.old.journal.items ≤ COMMANDS_MAX }
         ensures accepted { IfOk result (IsAccepted self.old.journal.items self.new.journal.items edit) }
-        ensures refused { IfErr result (λ refusal. refusal ≢ refusals.NoMemory
+        ensures refused { IfErr result (λ refusal. refusal ≢ refusals.NoMemory no_memory
             → step (state_from no_state self.old.journal.items) edit ≡ Err refusal) }
         ensures kept { OnOk result (IsKept self.new) }
-        ensures stays { IfErr result (λ refusal. refusal ≢ refusals.NoMemory
+        ensures stays { IfErr result (λ refusal. refusal ≢ refusals.NoMemory no_memory
             → IsKept self.new × (self.new.journal.items ≡ self.old.journal.items)) }
         ensures count { self.new.refused ≡ self.old.refused }
     {
@@ -105,12 +106,10 @@ impl Replay {
             Ok(done) => done,
             Err(refusal) => return Err(refusal),
         };
-        if log_made(&mut self.made, self.lists.actions().entries(), before).is_err() {
-            return Err(Refusal::NoMemory);
-        }
+        log_made(&mut self.made, self.lists.actions().entries(), before)?;
         match self.journal.push(edit) {
             Ok(()) => Ok(done),
-            Err(_) => Err(Refusal::NoMemory),
+            Err(refused) => Err(Refusal::from(NoMemory::from(refused))),
         }
     }
 }

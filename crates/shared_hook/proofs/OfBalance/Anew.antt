@@ -4,7 +4,7 @@ use Rattle.std.specs.Prelude.{if◌then◌else◌, not, sum_by}
 use Rattle.std.proofs.lemmas.Bool.{eqb-false}
 use Rattle.std.proofs.lemmas.List.Sums.{sum_by-cons}
 use Rattle.flow_mask.specs.Sizes.{size_of}
-use Rattle.block_codec.specs.declared.places.TheConstants.{ROW_BUCKETS}
+use Rattle.store_history.specs.declared.places.TheConstants.{ROW_BUCKETS}
 use Rattle.desk_needs.specs.OfEditNeeds.Told.{rows_anew, laid, laid_rows, laid_masks}
 
 -- a mask that had some filters and has some

@@ -17,7 +17,7 @@ use Rattle.filter_state.specs.Steps.{Stepped, step, taken_out}
 use Rattle.filter_state.specs.Journals.{state_after}
 use Rattle.hook_law.specs.Meaning.{IsLive}
 use Rattle.hook_law.specs.Standing.{IsIn}
-use Rattle.hook_meaning.specs.Stated.{hook_meaning}
+use Rattle.hook_store_law.specs.Stated.{hook_meaning}
 use Rattle.hook_store_law.specs.OfEdits.Premises.{now, next, IsAccepted, IsOfFilters}
 use Rattle.hook_store_law.proofs.OfEdits.Accepted.{leads, sound, at_next}
 use Rattle.hook_store_law.proofs.OfEdits.Stepping.{unless_refused}

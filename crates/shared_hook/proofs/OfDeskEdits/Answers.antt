@@ -7,7 +7,7 @@ use Rattle.filter_state.specs.declared.refusal.Done.{Done}
 use Rattle.filter_state.specs.declared.refusal.Done.TheVariants as dones
 use Rattle.filter_state.specs.States.{Row, State}
 use Rattle.filter_state.specs.Steps.{step, pref_for}
-use Rattle.hook_meaning.proofs.OfEffects.Replacing.{replaces}
+use Rattle.hook_store_law.proofs.OfEffects.Replacing.{replaces}
 use Rattle.desk_parts.proofs.OfWays.Needed as told
 use Rattle.hook_store_law.specs.OfEdits.Premises.{IsAddOf, named_row}
 

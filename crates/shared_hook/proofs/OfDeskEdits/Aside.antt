@@ -4,6 +4,7 @@ use Rattle.tc_base.specs.declared.hook.Hook.{Hook}
 use Rattle.store_history.specs.declared.history.Named.{Named}
 use Rattle.store_history.specs.declared.history.Commit.{Commit}
 use Rattle.store_history.specs.History.{root_of}
+use Rattle.store_history.specs.declared.places.TheConstants.{ACTION_SLOTS}
 use Rattle.pin_store.specs.declared.shape.Shape.{Shape}
 use Rattle.pin_store.specs.Layout.{block_words}
 use Rattle.filter_state.specs.declared.edit.Edit.{Edit}
@@ -16,8 +17,8 @@ use Rattle.hook_law.specs.Places as places
 use Rattle.hook_law.specs.Meaning.{point_of, state_at}
 use Rattle.hook_law.specs.Standing.{IsSlotOf}
 use Rattle.hook_law.proofs.Standing.{slot_longer}
-use Rattle.hook_meaning.specs.Stated.{hook_meaning, filters_at}
-use Rattle.hook_meaning.specs.Blocks.{hook_codec}
+use Rattle.hook_store_law.specs.Stated.{hook_meaning, filters_at}
+use Rattle.hook_store_law.specs.Blocks.{hook_codec}
 use Rattle.hook_store_law.specs.Kept.{IsKeptAt}
 use Rattle.hook_store_law.specs.OfEdits.Premises.{now, next}
 use Rattle.desk_parts.specs.OfLineActions.Put.{ArePut}
@@ -34,7 +35,7 @@ module _ (h k : List (Commit Edit)) (b point : ℕ) (y : Edit) (put : ArePut h k
   pub next_put : next k y ≡ next h y
   next_put = ap (λ (s : State). hook_meaning.step s y) now_put
 
-  at_slot : (slot : ℕ) → slot < 2048 → IsAside h (places.action_root slot)
+  at_slot : (slot : ℕ) → slot < ACTION_SLOTS → IsAside h (places.action_root slot)
   at_slot slot small = inr (inl (omega arith, omega (arith, small)))
 
   same_heads : (hook : ℕ) → hook < 2 → root_of k (places.head_root hook) ≡ root_of h (places.head_root hook)

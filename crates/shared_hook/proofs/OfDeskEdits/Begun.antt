@@ -11,6 +11,7 @@ use Rattle.store_history.specs.declared.history.Link.{Link}
 use Rattle.store_history.specs.declared.history.Commit.{Commit}
 use Rattle.store_history.specs.History.{root_of}
 use Rattle.store_history.proofs.Histories.{root_other}
+use Rattle.store_history.specs.declared.places.TheConstants.{MASK_ROOTS}
 use Rattle.pin_store.specs.declared.shape.Shape.{Shape}
 use Rattle.flow_mask.specs.Sizes.{size_of}
 use Rattle.filter_state.specs.declared.edit.Edit.{Edit}
@@ -20,7 +21,7 @@ use Rattle.block_codec.specs.declared.mask.StoredMask.{StoredMask}
 use Rattle.block_codec.specs.declared.table.StoredTable.{StoredTable}
 use Rattle.block_codec.specs.OfReadings.Read.{mask_of_words}
 use Rattle.filter_state.specs.Order.{of_mask}
-use Rattle.hook_meaning.specs.OfEffects.Parts.{Stands, filter_of}
+use Rattle.hook_store_law.specs.OfEffects.Parts.{Stands, filter_of}
 use Rattle.std.proofs.lemmas.List.{length-map}
 use Rattle.mask_table.specs.Buckets.{bucket_root}
 use Rattle.mask_table.specs.declared.mirrors.mirror.KeptMask.{KeptMask}
@@ -34,9 +35,9 @@ use Rattle.hook_law.specs.Places as places
 use Rattle.hook_law.specs.Standing.{IsIn, IsMaskAt, Names}
 use Rattle.hook_law.specs.Keeping.{Present}
 use Rattle.hook_law.proofs.Standing.{present_end}
-use Rattle.hook_meaning.specs.Stated.{hook_meaning, tables_at, filters_at, filter_stated}
-use Rattle.hook_meaning.specs.Blocks.{mask_record, hook_codec}
-use Rattle.hook_meaning.proofs.Reading.{first_maps}
+use Rattle.hook_store_law.specs.Stated.{hook_meaning, tables_at, filters_at, filter_stated}
+use Rattle.hook_store_law.specs.Blocks.{mask_record, hook_codec}
+use Rattle.hook_store_law.proofs.Reading.{first_maps}
 use Rattle.hook_store_law.specs.Kept.{KeepsHook}
 use Rattle.hook_store_law.specs.OfEdits.Premises.{now, next}
 use Rattle.hook_store_law.proofs.OfEdits.Accepted.{sound, next_sound}
@@ -75,11 +76,11 @@ hook_of (suc zero) less = (hooks.Egress, refl)
 hook_of (suc (suc n)) less = absurd (omega (arith, less))
 
 -- ---- roots of buckets with a head's commit
-head_low : (hook : Hook) → head_root hook < 3
+head_low : (hook : Hook) → head_root hook < MASK_ROOTS
 head_low hooks.Ingress = omega arith
 head_low hooks.Egress = omega arith
 
-bucket_same : (h : List (Commit Edit)) (c : Commit Edit) → c.root < 3 → (mask : StoredMask) (ks : List ℕ) → blocks_of (root_of (h ++ c ∷ [])) (map (bucket_root mask) ks) ≡ blocks_of (root_of h) (map (bucket_root mask) ks)
+bucket_same : (h : List (Commit Edit)) (c : Commit Edit) → c.root < MASK_ROOTS → (mask : StoredMask) (ks : List ℕ) → blocks_of (root_of (h ++ c ∷ [])) (map (bucket_root mask) ks) ≡ blocks_of (root_of h) (map (bucket_root mask) ks)
 bucket_same h c low mask [] = refl
 bucket_same h c low mask (k ∷ ks) = let rest = bucket_same h c low mask ks in let one = root_other h c (bucket_root mask k) (λ same. omega (arith, low, same)) in
     λ t. map (λ (l : Link). l.block) (one t).chain ++ rest t

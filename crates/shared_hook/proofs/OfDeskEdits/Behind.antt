@@ -1,6 +1,7 @@
 -- Actions that are live no more have left, and the rest of a desk is as it was.
 use Rattle.std.proofs.Common.{◌≡◌, ◌∙◌, ℕ, List, ap}
 use Rattle.store_history.specs.declared.history.Commit.{Commit}
+use Rattle.store_history.specs.declared.places.TheConstants.{ACTION_SLOTS, POOL_BLOCKS}
 use Rattle.filter_state.specs.declared.edit.Edit.{Edit}
 use Rattle.hook_lists.specs.declared.kept.Kept.{Kept}
 use Rattle.hook_law.specs.Standing.{IsIn}
@@ -13,7 +14,7 @@ use Rattle.desk_parts.specs.Desk.{IsDesk}
 
 pub desk_dropped : (old : Parts) (pools : Pools) (placed : Placed) (serials : List ℕ) → IsDesk old
     → AreDropped old.pools pools old.actions placed (commits old.ledger) (base old.ledger) serials
-    → pools.blocks.size ≡ 16384 → pools.actions.size ≡ 2048 → IsDesk (record old { pools = pools; actions = placed })
+    → pools.blocks.size ≡ POOL_BLOCKS → pools.actions.size ≡ ACTION_SLOTS → IsDesk (record old { pools = pools; actions = placed })
 desk_dropped old pools placed serials d a blocks actions = record {
   shaped = d.shaped;
   whole = d.whole;

@@ -10,13 +10,13 @@ use Rattle.filter_state.specs.declared.edit.Edit.TheVariants as edits
 use Rattle.filter_state.specs.declared.refusal.Done.{Done}
 use Rattle.filter_state.specs.States.{State}
 use Rattle.block_codec.specs.declared.table.StoredTable.{StoredTable}
-use Rattle.hook_meaning.specs.OfEffects.Parts.{Stands}
+use Rattle.hook_store_law.specs.OfEffects.Parts.{Stands}
 use Rattle.mask_table.specs.declared.mirrors.mirror.KeptMask.{KeptMask}
 use Rattle.mask_writer.specs.Masks.{Masks}
 use Rattle.miniq_pair.specs.Pairs.{swap_commit}
 use Rattle.hook_law.specs.Standing.{IsIn, IsMaskAt}
-use Rattle.hook_meaning.specs.Stated.{filters_at}
-use Rattle.hook_meaning.specs.Blocks.{hook_codec}
+use Rattle.hook_store_law.specs.Stated.{filters_at}
+use Rattle.hook_store_law.specs.Blocks.{hook_codec}
 use Rattle.hook_store_law.specs.OfEdits.Premises.{now, next, IsAccepted, LeavesOtherHook}
 use Rattle.hook_store_law.proofs.OfEdits.Heading.{mask_gone_after, table_gone_after}
 use Rattle.hook_store_law.proofs.OfEdits.OneMask.{loses_after}

@@ -7,6 +7,7 @@ use Rattle.store_history.specs.declared.history.Named.{Named}
 use Rattle.store_history.specs.declared.history.Commit.{Commit}
 use Rattle.store_history.specs.History.{empty_named, named_after, root_of}
 use Rattle.store_history.proofs.Histories.{named_after-append}
+use Rattle.store_history.specs.declared.places.TheConstants.{MASK_SLOTS}
 use Rattle.filter_state.specs.declared.edit.Edit.{Edit}
 use Rattle.block_codec.specs.declared.mask.StoredMask.{StoredMask}
 use Rattle.block_codec.specs.declared.table.StoredTable.{StoredTable}
@@ -37,7 +38,7 @@ aside_map stamp f (k ∷ ks) each zero c e = let same : f k ≡ c = cc e in subs
 aside_map stamp f (k ∷ ks) each (suc place) c e = aside_map stamp f ks each place c e
 
 -- those of a whole mask
-pub raise_aside : (slot : ℕ) (mask : StoredMask) (blk : ℕ) (ps : List Placed) (stamp : ℕ) → slot < 8192 → AreAside stamp (raise_commits slot mask blk ps stamp)
+pub raise_aside : (slot : ℕ) (mask : StoredMask) (blk : ℕ) (ps : List Placed) (stamp : ℕ) → slot < MASK_SLOTS → AreAside stamp (raise_commits slot mask blk ps stamp)
 raise_aside slot mask blk ps stamp small = aside_append stamp (map (bucket_commit mask ps stamp) (range_with_len 0 mask.size)) (mask_commit slot mask blk stamp ∷ [])
     (aside_map stamp (bucket_commit mask ps stamp) (range_with_len 0 mask.size) (λ k. record { no_slot = λ other less same. omega (arith, less, same); stamp_is = refl }))
     (aside_one stamp (mask_commit slot mask blk stamp) (record { no_slot = λ other less same. omega (arith, small, same); stamp_is = refl }))

@@ -14,8 +14,8 @@ use Rattle.miniq_pair.specs.Pairs.{other_place}
 use Rattle.hook_law.specs.Meaning.{state_at, IsLive}
 use Rattle.hook_law.proofs.Growing.{state_pushed}
 use Rattle.hook_law.proofs.Standing.{present_end}
-use Rattle.hook_meaning.specs.Stated.{hook_meaning}
-use Rattle.hook_meaning.specs.Blocks.{hook_codec}
+use Rattle.hook_store_law.specs.Stated.{hook_meaning}
+use Rattle.hook_store_law.specs.Blocks.{hook_codec}
 use Rattle.hook_store_law.specs.OfEdits.Premises.{now, next, IsAccepted}
 use Rattle.desk_pools.specs.declared.pools.Pools.{Pools}
 use Rattle.desk_pools.specs.declared.pools.IdlePlace.{IdlePlace}

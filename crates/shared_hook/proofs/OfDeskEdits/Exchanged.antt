@@ -10,8 +10,8 @@ use Rattle.filter_state.specs.States.{Row, State}
 use Rattle.flow_mask.specs.Sizes.{size_of}
 use Rattle.block_codec.specs.declared.filter.StoredFilter.{StoredFilter}
 use Rattle.hook_law.specs.Standing.{IsMaskAt}
-use Rattle.hook_meaning.specs.Stated.{filters_at}
-use Rattle.hook_meaning.specs.Blocks.{hook_codec}
+use Rattle.hook_store_law.specs.Stated.{filters_at}
+use Rattle.hook_store_law.specs.Blocks.{hook_codec}
 use Rattle.hook_store_law.specs.OfEdits.Premises.{now, next, IsAccepted, Swaps, named_row, filter_of_line}
 use Rattle.hook_store_law.proofs.OfEdits.OneMask.{swaps_after}
 use Rattle.desk_actions.specs.OfLedgers.Kept.{commits, base}

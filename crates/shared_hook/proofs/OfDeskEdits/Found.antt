@@ -7,14 +7,14 @@ use Rattle.filter_state.specs.declared.edit.Edit.{Edit}
 use Rattle.filter_state.specs.declared.refusal.Done.{Done}
 use Rattle.filter_state.specs.States.{Row, State}
 use Rattle.flow_mask.specs.Sizes.{size_of}
-use Rattle.hook_meaning.specs.OfEffects.Parts.{filters_of}
+use Rattle.hook_store_law.specs.OfEffects.Parts.{filters_of}
 use Rattle.mask_table.specs.declared.mirrors.mirror.KeptMask.{KeptMask}
 use Rattle.mask_writer.specs.Masks.{Masks}
 use Rattle.mask_writer.specs.Standing.{StandsAt}
 use Rattle.hook_law.specs.Meaning.{state_at}
 use Rattle.hook_law.specs.Standing.{IsMaskAt}
-use Rattle.hook_meaning.specs.Stated.{hook_meaning, filter_stated, filters_at}
-use Rattle.hook_meaning.specs.Blocks.{hook_codec}
+use Rattle.hook_store_law.specs.Stated.{hook_meaning, filter_stated, filters_at}
+use Rattle.hook_store_law.specs.Blocks.{hook_codec}
 use Rattle.hook_store_law.specs.OfEdits.Premises.{now, next}
 use Rattle.desk_needs.specs.Live.{count_of}
 use Rattle.desk_needs.proofs.OfEditNeeds.Counted.{counted}

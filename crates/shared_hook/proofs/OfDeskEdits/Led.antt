@@ -16,8 +16,8 @@ use Rattle.filter_lists.specs.Edits.{IsFinished}
 use Rattle.filter_lists.specs.Spells.{Spells}
 use Rattle.hook_law.specs.Meaning.{IsLive}
 use Rattle.hook_law.specs.Numbered.{PutsActions}
-use Rattle.hook_meaning.specs.Stated.{hook_meaning}
-use Rattle.hook_meaning.specs.Blocks.{hook_codec}
+use Rattle.hook_store_law.specs.Stated.{hook_meaning}
+use Rattle.hook_store_law.specs.Blocks.{hook_codec}
 use Rattle.hook_store_law.specs.Kept.{KeepsHook}
 use Rattle.hook_store_law.specs.OfEdits.Premises.{now, next, IsAccepted}
 use Rattle.hook_store_law.proofs.OfEdits.Accepted.{leads, sound}

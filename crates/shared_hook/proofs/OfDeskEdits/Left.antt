@@ -2,6 +2,7 @@
 use Rattle.std.proofs.Common.{◌≡◌, ◌∙◌, ℕ, ◌+◌, ◌≤◌, List, [], ◌++◌, length, sym, ap, subst, arith, length-append}
 use Rattle.std.specs.List.{IsDistinct}
 use Rattle.store_history.specs.declared.history.Commit.{Commit}
+use Rattle.store_history.specs.declared.places.TheConstants.{POOL_BLOCKS}
 use Rattle.pin_store.specs.Calls.{IsUnnamed}
 use Rattle.filter_state.specs.declared.edit.Edit.{Edit}
 use Rattle.hook_law.specs.Standing.{IsIn}
@@ -15,22 +16,22 @@ use Rattle.desk_actions.specs.Effects.{IsCounted}
 use Rattle.desk_masks.specs.OfFilterCommits.Blocks.{AreOut}
 
 pub may_leave : (pools : Pools) (k : List (Commit Edit)) (left told : List ℕ) → AreOut k left → ((block : ℕ) → IsIn block left → IsInPool block pools.blocks → ⊥) → told ≡ left
-    → MayLeave 16384 (IsLeft (gone_roots pools) k) pools.blocks told
-may_leave pools k left told out apart is = subst (MayLeave 16384 (IsLeft (gone_roots pools) k) pools.blocks) (sym is) (record {
+    → MayLeave POOL_BLOCKS (IsLeft (gone_roots pools) k) pools.blocks told
+may_leave pools k left told out apart is = subst (MayLeave POOL_BLOCKS (IsLeft (gone_roots pools) k) pools.blocks) (sym is) (record {
   different = out.different;
   small = out.small;
   left = λ x at root has. absurd (out.none root x at has);
   apart = apart;
 })
 
-pub room_for : (pools : Pools) (k : List (Commit Edit)) (b : ℕ) (left : List ℕ) → ArePools pools k b → MayLeave 16384 (IsLeft (gone_roots pools) k) pools.blocks left → pools.blocks.size ≡ 16384
+pub room_for : (pools : Pools) (k : List (Commit Edit)) (b : ℕ) (left : List ℕ) → ArePools pools k b → MayLeave POOL_BLOCKS (IsLeft (gone_roots pools) k) pools.blocks left → pools.blocks.size ≡ POOL_BLOCKS
     → length pools.blocks.free + length pools.blocks.left + length left ≤ pools.blocks.size
-room_for pools k b left p may size = let room = have_room 16384 (IsUnnamed b k) (IsLeft (gone_roots pools) k) pools.blocks left p.blocks may in omega (arith, room, size)
+room_for pools k b left p may size = let room = have_room POOL_BLOCKS (IsUnnamed b k) (IsLeft (gone_roots pools) k) pools.blocks left p.blocks may in omega (arith, room, size)
 
 -- there are no more free blocks than blocks
-pub few_free : (pools : Pools) (k : List (Commit Edit)) (b : ℕ) → ArePools pools k b → length pools.blocks.free ≤ 16384
+pub few_free : (pools : Pools) (k : List (Commit Edit)) (b : ℕ) → ArePools pools k b → length pools.blocks.free ≤ POOL_BLOCKS
 unfolding IsDistinct
-few_free pools k b p = let room = have_room 16384 (IsUnnamed b k) (IsLeft (gone_roots pools) k) pools.blocks [] p.blocks (record {
+few_free pools k b p = let room = have_room POOL_BLOCKS (IsUnnamed b k) (IsLeft (gone_roots pools) k) pools.blocks [] p.blocks (record {
   different = tt;
   small = λ x at. let e = at.1 in absurd (cc e);
   left = λ x at. let e = at.1 in absurd (cc e);

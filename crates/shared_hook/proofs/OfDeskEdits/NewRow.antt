@@ -10,8 +10,8 @@ use Rattle.filter_state.specs.Steps.{filter_add}
 use Rattle.filter_state.specs.Tables.{first_where, hook_eq, in_table, has_mask, mask_row, mask_or_next}
 use Rattle.state_laws.proofs.Tests.{bytes_eq_from}
 use Rattle.row_laws.proofs.OfLookups.Found.{hook_self}
-use Rattle.hook_meaning.proofs.OfEffects.Accepted.{same_filter}
-use Rattle.hook_meaning.proofs.OfEffects.Adding.{new_row, handle_in, added_state, adds}
+use Rattle.hook_store_law.proofs.OfEffects.Accepted.{same_filter}
+use Rattle.hook_store_law.proofs.OfEffects.Adding.{new_row, handle_in, added_state, adds}
 use Rattle.hook_store_law.specs.OfEdits.Premises.{now, next, IsAccepted, IsAddOf}
 use Rattle.hook_store_law.proofs.OfEdits.Accepted.{at_next}
 use Rattle.hook_store_law.proofs.OfEdits.OneMask.{adds_line}

@@ -6,6 +6,7 @@ use Rattle.std.proofs.lemmas.Option.{slice_get-get_or}
 use Rattle.std.proofs.lemmas.List.Elements.{All-cons, All-nil}
 use Rattle.store_history.specs.declared.history.Commit.{Commit}
 use Rattle.store_history.specs.History.{root_of}
+use Rattle.store_history.specs.declared.places.TheConstants.{ROWS, ROW_BUCKETS, BUCKET_ROOTS}
 use Rattle.flow_mask.specs.Sizes.{is_size, size_of}
 use Rattle.filter_state.specs.declared.edit.Edit.{Edit}
 use Rattle.filter_state.specs.declared.edit.FilterLine.{FilterLine}
@@ -17,13 +18,13 @@ use Rattle.block_codec.specs.declared.mask.StoredMask.{StoredMask}
 use Rattle.mask_table.specs.OfMirrors.Given.{AreGiven}
 use Rattle.mask_order.specs.Fitting.{FitsBlock}
 use Rattle.mask_table.specs.Buckets.{mask_root, bucket_root}
-use Rattle.hook_meaning.specs.OfEffects.Parts.{words_of, Stands}
+use Rattle.hook_store_law.specs.OfEffects.Parts.{words_of, Stands}
 use Rattle.hook_law.specs.Records.{StatedFilter}
 use Rattle.hook_law.specs.Meaning.{point_of}
 use Rattle.hook_law.specs.Standing.{IsUnused}
-use Rattle.hook_meaning.specs.Stated.{hook_meaning, filters_at}
-use Rattle.hook_meaning.specs.Blocks.{hook_codec}
-use Rattle.hook_meaning.specs.Told.{with_slots}
+use Rattle.hook_store_law.specs.Stated.{hook_meaning, filters_at}
+use Rattle.hook_store_law.specs.Blocks.{hook_codec}
+use Rattle.hook_store_law.specs.Told.{with_slots}
 use Rattle.hook_store_law.specs.OfEdits.Premises.{now, next, IsAccepted, IsAddOf, filter_of_line, IsMask, LeavesOtherHook}
 use Rattle.hook_store_law.proofs.OfEdits.Accepted.{next_sound}
 use Rattle.hook_store_law.proofs.OfEdits.Heading.{new_mask_after}
@@ -58,7 +59,7 @@ module _ (parts : Parts) (y : Edit) (done : Done) (ahead : IsAhead parts y done)
   spare_row : (pools : Pools) (slot : ℕ) (blocks rows : List ℕ) → IsMaskRoom pools (commits parts.ledger) (base parts.ledger) slot blocks rows → (mask : StoredMask) → mask.rows ≡ rows
       → (bucket : ℕ) → bucket / 16 < length rows → IsSpareRoot (commits parts.ledger) (base parts.ledger) (bucket_root mask bucket)
   spare_row pools slot blocks rows r mask same bucket less = let row = get_or rows (bucket / 16) 0 in
-      let is : 10243 + 16 * row + bucket % 16 ≡ bucket_root mask bucket = ap (λ (rs : List ℕ). 10243 + 16 * get_or rs (bucket / 16) 0 + bucket % 16) (sym same) in record {
+      let is : BUCKET_ROOTS + ROW_BUCKETS * row + bucket % 16 ≡ bucket_root mask bucket = ap (λ (rs : List ℕ). BUCKET_ROOTS + ROW_BUCKETS * get_or rs (bucket / 16) 0 + bucket % 16) (sym same) in record {
         unused = subst (IsUnused hook_meaning hook_codec (base parts.ledger) (commits parts.ledger)) is ((r.rows_taken.each row (bucket / 16, slice_get-get_or rows (bucket / 16) 0 less)).free (bucket % 16) (omega arith));
         early = early (bucket_root mask bucket) (λ other small also. omega (arith, small, also));
       }
@@ -88,7 +89,7 @@ module _ (parts : Parts) (y : Edit) (done : Done) (ahead : IsAhead parts y done)
       storable = record {
         size = proper;
         rows = many ∙ ap (λ (rs : List ℕ). 16 * length rs) (sym same);
-        each_row = subst (All (λ (row : ℕ). row < 8192)) (sym same) (λ i d less. (r.rows_taken.each (get_or rows i d) (i, slice_get-get_or rows i d less)).small);
+        each_row = subst (All (λ (row : ℕ). row < ROWS)) (sym same) (λ i d less. (r.rows_taken.each (get_or rows i d) (i, slice_get-get_or rows i d less)).small);
       };
       serial = serial;
       key = key;

@@ -7,12 +7,13 @@ use Rattle.mask_table.specs.declared.mirrors.mirror.KeptMask.{KeptMask}
 use Rattle.mask_table.specs.OfMirrors.Forgetting.{bucket_blocks}
 use Rattle.store_history.specs.declared.history.Commit.{Commit}
 use Rattle.store_history.specs.History.{root_of}
+use Rattle.store_history.specs.declared.places.TheConstants.{MASK_SLOTS, ROWS, ROW_BUCKETS, MASK_ROOTS, BUCKET_ROOTS, POOL_BLOCKS}
 use Rattle.pin_store.specs.declared.shape.Shape.{Shape}
 use Rattle.filter_state.specs.declared.edit.Edit.{Edit}
 use Rattle.mask_writer.specs.Masks.{Masks}
 use Rattle.mask_writer.specs.Standing.{masks_of, StandsAt}
 use Rattle.hook_law.specs.Standing.{IsIn, IsMaskAt}
-use Rattle.hook_meaning.specs.Blocks.{hook_codec}
+use Rattle.hook_store_law.specs.Blocks.{hook_codec}
 use Rattle.desk_pools.specs.OfNumbers.Numbers.{PoolNumbers}
 use Rattle.root_pool_laws.proofs.Apart.{in_append, in_right}
 use Rattle.desk_pools.specs.declared.pools.Pools.{Pools}
@@ -42,7 +43,7 @@ module _ (masks : Masks) (pools : Pools) (slot : ℕ) (m : MayPart masks pools s
   pub one : IsToGo masks pools m.h m.count m.name
   one = let p = m.parting in p.each 0 m.name refl m.gone
 
-  pub small_one : slot < 8192
+  pub small_one : slot < MASK_SLOTS
   small_one = let small = one.small in let is = m.slot_is in omega (arith, small, is)
 
   pub stands_one : StandsAt masks slot one.kept
@@ -64,35 +65,35 @@ module _ (masks : Masks) (pools : Pools) (slot : ℕ) (m : MayPart masks pools s
       (let p = m.parting in told m.shape m.cells m.h m.b pools p.holds gone_one p.low p.are slot_apart (subst (λ (rs : List ℕ). (row : ℕ) → IsIn row rs → IsInPool row pools.rows → ⊥) (sym own) one.rows_apart)))
 
   module _ (rows blocks : List ℕ) (leaves : MayAllLeave pools m.h slot rows blocks) where
-    slot_leaves : MayLeave 8192 (IsLeftAt m.h 3 1) pools.masks (slot ∷ [])
+    slot_leaves : MayLeave MASK_SLOTS (IsLeftAt m.h MASK_ROOTS 1) pools.masks (slot ∷ [])
     unfolding IsDistinct
     slot_leaves = record {
       different = (tt, tt);
-      small = λ x at. subst (λ (n : ℕ). n < 8192) (sym (only_one x slot at)) small_one;
-      left = λ x at. subst (IsLeftAt m.h 3 1) (sym (only_one x slot at)) leaves.slot_left;
+      small = λ x at. subst (λ (n : ℕ). n < MASK_SLOTS) (sym (only_one x slot at)) small_one;
+      left = λ x at. subst (IsLeftAt m.h MASK_ROOTS 1) (sym (only_one x slot at)) leaves.slot_left;
       apart = λ x at in_. slot_apart (subst (λ (n : ℕ). IsInPool n pools.masks) (only_one x slot at) in_);
     }
 
     pub room_slot : AreSized pools → length pools.masks.free + length pools.masks.left < pools.masks.size
-    room_slot sized = let room = have_room 8192 _ _ pools.masks (slot ∷ []) m.parting.are.masks slot_leaves in let size = sized.2 in omega (arith, room, size)
+    room_slot sized = let room = have_room MASK_SLOTS _ _ pools.masks (slot ∷ []) m.parting.are.masks slot_leaves in let size = sized.2 in omega (arith, room, size)
 
     -- ---- one pool after the other
     module _ (p1 : Pools) (e1 : p1 ≡ record pools { masks = p1.masks }) (free1 : p1.masks.free ≡ pools.masks.free) (left1 : p1.masks.left ≡ pools.masks.left ++ slot ∷ []) (size1 : p1.masks.size ≡ pools.masks.size)
-        (go1 : ArePools pools m.h m.b → slot < 8192 → IsLeftAt m.h 3 1 slot → (IsInPool slot pools.masks → ⊥) → ArePools p1 m.h m.b) where
+        (go1 : ArePools pools m.h m.b → slot < MASK_SLOTS → IsLeftAt m.h MASK_ROOTS 1 slot → (IsInPool slot pools.masks → ⊥) → ArePools p1 m.h m.b) where
       pub are1 : ArePools p1 m.h m.b
       are1 = go1 m.parting.are small_one leaves.slot_left slot_apart
 
       rows1 : p1.rows ≡ pools.rows
       rows1 = ap (λ (q : Pools). q.rows) e1
 
-      pub rows_leave : MayLeave 8192 (IsLeftAt m.h 10243 16) p1.rows rows
-      rows_leave = subst (λ (q : PoolNumbers). MayLeave 8192 (IsLeftAt m.h 10243 16) q rows) (sym rows1) leaves.rows_leave
+      pub rows_leave : MayLeave ROWS (IsLeftAt m.h BUCKET_ROOTS ROW_BUCKETS) p1.rows rows
+      rows_leave = subst (λ (q : PoolNumbers). MayLeave ROWS (IsLeftAt m.h BUCKET_ROOTS ROW_BUCKETS) q rows) (sym rows1) leaves.rows_leave
 
       pub room_rows : AreSized pools → length p1.rows.free + length p1.rows.left + length rows ≤ p1.rows.size
-      room_rows sized = let room = have_room 8192 _ _ p1.rows rows are1.rows rows_leave in let size = sized.1 in let same = ap (λ (q : PoolNumbers). q.size) rows1 in omega (arith, room, size, same)
+      room_rows sized = let room = have_room ROWS _ _ p1.rows rows are1.rows rows_leave in let size = sized.1 in let same = ap (λ (q : PoolNumbers). q.size) rows1 in omega (arith, room, size, same)
 
       module _ (p2 : Pools) (e2 : p2 ≡ record p1 { rows = p2.rows }) (free2 : p2.rows.free ≡ p1.rows.free) (left2 : p2.rows.left ≡ p1.rows.left ++ rows) (size2 : p2.rows.size ≡ p1.rows.size)
-          (go2 : ArePools p1 m.h m.b → MayLeave 8192 (IsLeftAt m.h 10243 16) p1.rows rows → ArePools p2 m.h m.b) where
+          (go2 : ArePools p1 m.h m.b → MayLeave ROWS (IsLeftAt m.h BUCKET_ROOTS ROW_BUCKETS) p1.rows rows → ArePools p2 m.h m.b) where
         pub are2 : ArePools p2 m.h m.b
         are2 = go2 are1 rows_leave
 
@@ -108,11 +109,11 @@ module _ (masks : Masks) (pools : Pools) (slot : ℕ) (m : MayPart masks pools s
         rows_left : (row : ℕ) → IsIn row rows → IsIn row p2.rows.left
         rows_left row at = subst (IsIn row) (sym left2) (in_right p1.rows.left rows row at)
 
-        pub blocks_leave : MayLeave 16384 (IsLeft (gone_roots p2) m.h) p2.blocks blocks
+        pub blocks_leave : MayLeave POOL_BLOCKS (IsLeft (gone_roots p2) m.h) p2.blocks blocks
         blocks_leave = leaves.blocks_leave p2 blocks2 slot_left rows_left
 
         pub room_blocks : AreSized pools → length p2.blocks.free + length p2.blocks.left + length blocks ≤ p2.blocks.size
-        room_blocks sized = let room = have_room 16384 _ _ p2.blocks blocks are2.blocks blocks_leave in let size = sized.0 in let same = ap (λ (q : PoolNumbers). q.size) blocks2 in omega (arith, room, size, same)
+        room_blocks sized = let room = have_room POOL_BLOCKS _ _ p2.blocks blocks are2.blocks blocks_leave in let size = sized.0 in let same = ap (λ (q : PoolNumbers). q.size) blocks2 in omega (arith, room, size, same)
 
         -- ---- all have left
         module _ (p3 : Pools) (e3 : p3 ≡ record p2 { blocks = p3.blocks }) (free3 : p3.blocks.free ≡ p2.blocks.free) (left3 : p3.blocks.left ≡ p2.blocks.left ++ blocks) (size3 : p3.blocks.size ≡ p2.blocks.size)

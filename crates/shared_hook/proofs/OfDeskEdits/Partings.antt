@@ -10,7 +10,7 @@ use Rattle.block_codec.specs.declared.table.StoredTable.{StoredTable}
 use Rattle.mask_table.specs.declared.mirrors.mirror.KeptMask.{KeptMask}
 use Rattle.mask_writer.specs.Masks.{Masks}
 use Rattle.hook_law.specs.Standing.{IsIn, IsMaskAt}
-use Rattle.hook_meaning.specs.Blocks.{hook_codec}
+use Rattle.hook_store_law.specs.Blocks.{hook_codec}
 use Rattle.desk_pools.specs.declared.pools.Pools.{Pools}
 use Rattle.shared_hook.specs.OfDeskEdits.Parting.{is_named, names_in, gone_of, rows_for, HaveLeft, IsParting, MayPart, MayAllPart}
 

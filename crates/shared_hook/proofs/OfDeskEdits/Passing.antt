@@ -1,6 +1,7 @@
 -- What is known of actions while the lists are ahead goes on with the commits of the edit.
 use Rattle.std.proofs.Common.{◌≡◌, ◌∙◌, inl, ℕ, ◌≤◌, List, ◌++◌, length, take, sym, ap, subst, arith, append_assoc, length-append, le_refl}
 use Rattle.std.proofs.lemmas.List.{take-append-le, take_all}
+use Rattle.act_registry.specs.declared.limits.TheConstants.{MADE_MAX}
 use Rattle.store_history.specs.declared.history.Commit.{Commit}
 use Rattle.store_history.specs.History.{edits_of}
 use Rattle.filter_state.specs.declared.edit.Edit.{Edit}
@@ -9,8 +10,8 @@ use Rattle.filter_state.specs.States.{State}
 use Rattle.filter_state.specs.Sound.{Sound}
 use Rattle.hook_law.specs.Meaning.{point_of, state_at, IsLive}
 use Rattle.hook_law.specs.Standing.{IsIn}
-use Rattle.hook_meaning.specs.Stated.{hook_meaning}
-use Rattle.hook_meaning.proofs.States.{state_is, sound_after}
+use Rattle.hook_store_law.specs.Stated.{hook_meaning}
+use Rattle.hook_store_law.proofs.States.{state_is, sound_after}
 use Rattle.hook_store_law.specs.OfEdits.Premises.{now}
 use Rattle.desk_pools.specs.OfNumbers.Numbers.{PoolNumbers}
 use Rattle.desk_pools.specs.Steps.{IsInPool}
@@ -64,7 +65,7 @@ module _ (before ahead after : Parts) (y : Edit) (done : Done) (d : IsDesk befor
   was_live : (action : ℕ) → IsIn action gone → IsLive hook_meaning (now h) action
   was_live action at = gone_were_live (now h) y action sound at
 
-  low_serial : (action : ℕ) → IsIn action gone → action ≤ 16384
+  low_serial : (action : ℕ) → IsIn action gone → action ≤ MADE_MAX
   low_serial action at = let given = d.actions.made action (slot_of before.actions action) (d.actions.slots action (was_live action at)) in let most = sound.made in omega (arith, given, most)
 
   live_ahead : (action : ℕ) → IsIn action gone → IsLive hook_meaning (now k) action

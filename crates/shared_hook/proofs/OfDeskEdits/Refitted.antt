@@ -5,6 +5,7 @@ use Rattle.tc_base.specs.declared.hook.Hook.{Hook}
 use Rattle.tc_base.specs.declared.hook.Hook.TheVariants.{Ingress, Egress}
 use Rattle.store_history.specs.declared.history.Commit.{Commit}
 use Rattle.store_history.specs.History.{root_of, edits_of}
+use Rattle.store_history.specs.declared.places.TheConstants.{MASK_SLOTS, ACTION_SLOTS, ROWS, ROW_BUCKETS, MASK_ROOTS, ACTION_ROOTS, BUCKET_ROOTS, POOL_BLOCKS}
 use Rattle.pin_store.specs.Calls.{IsUnnamed}
 use Rattle.filter_state.specs.declared.edit.Edit.{Edit}
 use Rattle.filter_state.specs.States.{State}
@@ -17,8 +18,8 @@ use Rattle.root_pool_laws.proofs.Apart.{in_right}
 use Rattle.hook_law.specs.Standing.{IsIn}
 use Rattle.hook_law.specs.Keeping.{IsAtRest}
 use Rattle.hook_law.proofs.Lists.{root_of_none}
-use Rattle.hook_meaning.specs.Stated.{hook_meaning}
-use Rattle.hook_meaning.specs.Blocks.{hook_codec}
+use Rattle.hook_store_law.specs.Stated.{hook_meaning}
+use Rattle.hook_store_law.specs.Blocks.{hook_codec}
 use Rattle.hook_store_law.specs.Kept.{IsKeptAt}
 use Rattle.hook_store_law.specs.OfEdits.Premises.{now}
 use Rattle.desk_pools.specs.declared.pools.IdlePlace.{IdlePlace}
@@ -42,8 +43,8 @@ use Rattle.shared_hook.specs.OfDeskEdits.Ahead.{IsUnsettled, GoesOnAside}
 -- ---- before
 module _ (parts : Parts) (mask slot : ℕ) (u : IsUnsettled parts mask slot) (pools : Pools) (others : pools ≡ record parts.pools { blocks = pools.blocks; rows = pools.rows }) (size : ℕ) (blocks rows : List ℕ)
     (proper : IsTrue (is_size size)) (fits : size ≡ size_of (count_now (commits parts.ledger) mask)) (many_rows : size ≡ 16 * length rows) (many_blocks : length blocks ≡ count_now (commits parts.ledger) mask + 1)
-    (taken_blocks : AreTaken 16384 (IsUnnamed (base parts.ledger) (commits parts.ledger)) pools.blocks blocks)
-    (taken_rows : AreTaken 8192 (IsFreeAt (commits parts.ledger) (base parts.ledger) 10243 16) pools.rows rows)
+    (taken_blocks : AreTaken POOL_BLOCKS (IsUnnamed (base parts.ledger) (commits parts.ledger)) pools.blocks blocks)
+    (taken_rows : AreTaken ROWS (IsFreeAt (commits parts.ledger) (base parts.ledger) BUCKET_ROOTS ROW_BUCKETS) pools.rows rows)
     (rows_were : parts.pools.rows.free ≡ pools.rows.free ++ rows) where
   abbrev h : List (Commit Edit)
   h = commits parts.ledger
@@ -78,7 +79,7 @@ module _ (parts : Parts) (mask slot : ℕ) (u : IsUnsettled parts mask slot) (po
 
 -- ---- after
 pub record IsRefitted (old : Parts) (ledger : Ledger) (pools : Pools) (masks : Masks) (slot : ℕ) (rows : List ℕ) : Type 0 where
-  pub small : slot < 8192
+  pub small : slot < MASK_SLOTS
   pub goes_on : GoesOn (commits old.ledger) (commits ledger) slot rows
   pub kept : IsKeptAt (commits ledger) (base ledger) ledger.point
   pub rest : IsAtRest hook_meaning hook_codec (commits ledger)
@@ -92,12 +93,12 @@ pub record IsRefitted (old : Parts) (ledger : Ledger) (pools : Pools) (masks : M
   pub masks_are : HasMasks masks hook_shape (cells ledger) (commits ledger)
 
 -- the roots of a mask laid anew
-refit_high : (slot : ℕ) (rows : List ℕ) (root : ℕ) → slot < 8192 → IsOfRefit slot rows root → (3 ≤ root) × ((root < 8195) ⊎ (10243 ≤ root))
+refit_high : (slot : ℕ) (rows : List ℕ) (root : ℕ) → slot < MASK_SLOTS → IsOfRefit slot rows root → (MASK_ROOTS ≤ root) × ((root < ACTION_ROOTS) ⊎ (BUCKET_ROOTS ≤ root))
 refit_high slot rows root small (inl own) = (omega (arith, own), inl (omega (arith, own, small)))
 refit_high slot rows root small (inr own) = let is = own.4 in (omega (arith, is), inr (omega (arith, is)))
 
-module _ (h k : List (Commit Edit)) (slot : ℕ) (rows : List ℕ) (small : slot < 8192) (g : GoesOn h k slot rows) where
-  no_slot : (root : ℕ) → (3 ≤ root) × ((root < 8195) ⊎ (10243 ≤ root)) → (s : ℕ) → s < 2048 → root ≡ places.action_root s → ⊥
+module _ (h k : List (Commit Edit)) (slot : ℕ) (rows : List ℕ) (small : slot < MASK_SLOTS) (g : GoesOn h k slot rows) where
+  no_slot : (root : ℕ) → (MASK_ROOTS ≤ root) × ((root < ACTION_ROOTS) ⊎ (BUCKET_ROOTS ≤ root)) → (s : ℕ) → s < ACTION_SLOTS → root ≡ places.action_root s → ⊥
   no_slot root (above, inl low) s less same = absurd (omega (arith, low, same))
   no_slot root (above, inr high) s less same = absurd (omega (arith, high, same, less))
 

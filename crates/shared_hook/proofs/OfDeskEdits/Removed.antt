@@ -6,7 +6,7 @@ use Rattle.filter_state.specs.declared.edit.Edit.TheVariants as edits
 use Rattle.filter_state.specs.declared.refusal.Done.{Done}
 use Rattle.hook_lists.specs.declared.kept.Kept.{Kept}
 use Rattle.hook_law.specs.Meaning.{IsLive}
-use Rattle.hook_meaning.specs.Stated.{hook_meaning}
+use Rattle.hook_store_law.specs.Stated.{hook_meaning}
 use Rattle.hook_store_law.specs.OfEdits.Premises.{now, next, IsAccepted, IsOfFilters, NoneComes}
 use Rattle.hook_store_law.proofs.OfEdits.OfFilters.{deletion_makes_none}
 use Rattle.desk_pools.specs.Steps.{IsInPool}

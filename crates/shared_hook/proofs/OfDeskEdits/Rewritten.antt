@@ -6,6 +6,7 @@ use Rattle.store_history.specs.declared.history.Named.{Named}
 use Rattle.store_history.specs.declared.history.Commit.{Commit}
 use Rattle.store_history.specs.History.{root_of, edits_of}
 use Rattle.store_history.proofs.Histories.{root_other}
+use Rattle.store_history.specs.declared.places.TheConstants.{ACTION_SLOTS, BUCKET_ROOTS}
 use Rattle.filter_state.specs.declared.edit.Edit.{Edit}
 use Rattle.filter_state.specs.declared.refusal.Done.{Done}
 use Rattle.filter_state.specs.States.{State}
@@ -21,8 +22,8 @@ use Rattle.hook_law.specs.Standing.{Role, Bucket, IsMaskAt, Stands, region_of}
 use Rattle.hook_law.specs.Keeping.{IsAtRestBut}
 use Rattle.hook_law.proofs.Growing.{edits_more, now_next}
 use Rattle.hook_law.proofs.Standing.{mask_back, unused_end}
-use Rattle.hook_meaning.specs.Stated.{hook_meaning}
-use Rattle.hook_meaning.specs.Blocks.{mask_record, hook_codec}
+use Rattle.hook_store_law.specs.Stated.{hook_meaning}
+use Rattle.hook_store_law.specs.Blocks.{mask_record, hook_codec}
 use Rattle.hook_store_law.specs.Kept.{KeepsHook}
 use Rattle.hook_store_law.specs.OfEdits.Premises.{now, next}
 use Rattle.desk_pools.specs.declared.pools.Pools.{Pools}
@@ -70,7 +71,7 @@ one_commit c d zero e = cc e
 one_commit c d (suc place) e = absurd (cc e)
 
 -- a commit to the root of a bucket is to no slot of actions
-no_slots : (c : Commit Edit) → 10243 ≤ c.root → HaveNoSlots (c ∷ [])
+no_slots : (c : Commit Edit) → BUCKET_ROOTS ≤ c.root → HaveNoSlots (c ∷ [])
 no_slots c high place d e s small same = let is : c.root ≡ d.root = ap (λ (x : Commit Edit). x.root) (one_commit c d place e) in absurd (omega (arith, high, is, same, small))
 
 pub goes_on_aside : (h k : List (Commit Edit)) (c : Commit Edit) (mask : StoredMask) (bucket : ℕ) → c.root ≡ bucket_root mask bucket → k ≡ h ++ c ∷ [] → GoesOnAside h k
@@ -100,7 +101,7 @@ module _ (old : Parts) (ledger : Ledger) (pools : Pools) (masks : Masks) (slot :
   its_bucket = record { slot = slot; bucket = w.bucket; kept = w.kept; stands = w.stands; within = w.within; same = w.root }
 
   -- ---- the root is that of a bucket that stands
-  high : 10243 ≤ c.root
+  high : BUCKET_ROOTS ≤ c.root
   high = let is = w.root in omega (arith, is)
 
   heads : (hook : ℕ) → hook < 2 → root_of (h ++ c ∷ []) (places.head_root hook) ≡ root_of h (places.head_root hook)
@@ -155,7 +156,7 @@ module _ (old : Parts) (ledger : Ledger) (pools : Pools) (masks : Masks) (slot :
       (list_early h (c ∷ []) root (old.ledger.point + 1) (a.recent root) (λ j d e. let same = ap (λ (x : Commit Edit). x.named.stamp) (one_commit c d j e) in let stamp = w.stamp in omega (arith, same, stamp))))
 
   -- another root that is of no slot of actions has an older stamp
-  older_at : (root : ℕ) → c.root ≢ root → ((s : ℕ) → s < 2048 → root ≢ places.action_root s) → (root_of (commits ledger) root).stamp < ledger.point
+  older_at : (root : ℕ) → c.root ≢ root → ((s : ℕ) → s < ACTION_SLOTS → root ≢ places.action_root s) → (root_of (commits ledger) root).stamp < ledger.point
   older_at root other no_slot = subst (λ (l : List (Commit Edit)). (root_of l root).stamp < ledger.point) (sym w.seen)
       (subst (λ (n : Named). n.stamp < ledger.point) (sym (root_other h c root other)) (let early = a.early root no_slot in let point = w.point in omega (arith, early, point)))
 

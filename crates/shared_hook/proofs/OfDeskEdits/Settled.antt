@@ -18,9 +18,9 @@ use Rattle.hook_law.specs.Standing.{IsMaskAt}
 use Rattle.hook_law.specs.Chains as chains
 use Rattle.hook_law.specs.Keeping.{HasItsSize, IsAtRest}
 use Rattle.hook_law.proofs.Standing.{present_end}
-use Rattle.hook_meaning.specs.Stated.{hook_meaning, filters_at}
-use Rattle.hook_meaning.specs.Blocks.{mask_record, hook_codec}
-use Rattle.hook_meaning.proofs.Reading.{first_maps}
+use Rattle.hook_store_law.specs.Stated.{hook_meaning, filters_at}
+use Rattle.hook_store_law.specs.Blocks.{mask_record, hook_codec}
+use Rattle.hook_store_law.proofs.Reading.{first_maps}
 use Rattle.hook_store_law.specs.OfEdits.Premises.{now}
 use Rattle.desk_actions.specs.OfLedgers.Kept.{commits, base}
 use Rattle.desk_masks.specs.Masks.{HasMasks}

@@ -10,8 +10,8 @@ use Rattle.filter_state.specs.declared.edit.Edit.{Edit}
 use Rattle.mask_table.proofs.OfMirrors.Keeping.{same_base}
 use Rattle.miniq_pair.specs.Pairs.{first_block_of, other_place}
 use Rattle.hook_law.specs.Keeping.{IsAtRest}
-use Rattle.hook_meaning.specs.Stated.{hook_meaning}
-use Rattle.hook_meaning.specs.Blocks.{hook_codec}
+use Rattle.hook_store_law.specs.Stated.{hook_meaning}
+use Rattle.hook_store_law.specs.Blocks.{hook_codec}
 use Rattle.hook_store_law.specs.Kept.{KeepsHook, IsKeptAt}
 use Rattle.desk_pools.specs.declared.pools.Pools.{Pools}
 use Rattle.desk_pools.specs.Pools.{IsIdle, ArePools}

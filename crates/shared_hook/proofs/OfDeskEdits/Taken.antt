@@ -2,6 +2,7 @@
 use Rattle.std.proofs.Common.{◌≡◌, ◌∙◌, inr, ℕ, ◌+◌, List, [], ◌∷◌, ◌++◌, length, ap, subst, arith, length-append}
 use Rattle.pin_store.specs.Calls.{IsUnnamed}
 use Rattle.store_history.specs.declared.history.Commit.{Commit}
+use Rattle.store_history.specs.declared.places.TheConstants.{POOL_BLOCKS}
 use Rattle.filter_state.specs.declared.edit.Edit.{Edit}
 use Rattle.filter_state.specs.declared.edit.FilterLine.{FilterLine}
 use Rattle.filter_state.specs.declared.refusal.Done.{Done}
@@ -10,8 +11,8 @@ use Rattle.mask_table.specs.OfMirrors.Given.{AreGiven}
 use Rattle.hook_law.specs.Records.{StatedFilter}
 use Rattle.hook_law.specs.Standing.{IsIn}
 use Rattle.hook_law.proofs.Standing.{present_end}
-use Rattle.hook_meaning.specs.Stated.{hook_meaning, filters_at}
-use Rattle.hook_meaning.specs.Blocks.{hook_codec}
+use Rattle.hook_store_law.specs.Stated.{hook_meaning, filters_at}
+use Rattle.hook_store_law.specs.Blocks.{hook_codec}
 use Rattle.hook_store_law.specs.OfEdits.Premises.{now, next, IsAccepted, Loses, filter_of_line}
 use Rattle.hook_store_law.proofs.OfEdits.Accepted.{next_sound}
 use Rattle.desk_pools.specs.declared.pools.Pools.{Pools}
@@ -49,7 +50,7 @@ module _ (parts : Parts) (y : Edit) (done : Done) (a : IsAhead parts y done) whe
     slots = a.actions.slots;
   }
 
-  module _ (pools : Pools) (others : pools ≡ record parts.pools { blocks = pools.blocks }) (p : ArePools pools h b) (given : List ℕ) (taken : steps.AreTaken 16384 (IsUnnamed b h) pools.blocks given) where
+  module _ (pools : Pools) (others : pools ≡ record parts.pools { blocks = pools.blocks }) (p : ArePools pools h b) (given : List ℕ) (taken : steps.AreTaken POOL_BLOCKS (IsUnnamed b h) pools.blocks given) where
     pub are_given : AreGiven b h given
     are_given = record {
       different = taken.different;

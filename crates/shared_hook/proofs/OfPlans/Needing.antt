@@ -14,7 +14,7 @@ use Rattle.filter_state.specs.Actions.{is_named, is_live}
 use Rattle.filter_state.specs.Refusals.{or_else, no_such_action, action_bound}
 use Rattle.filter_state.specs.Steps.{Stepped, step}
 use Rattle.state_laws.proofs.Answers.{not_refused, not_not, neither}
-use Rattle.hook_meaning.proofs.OfEffects.Accepted.{not_unless}
+use Rattle.hook_store_law.proofs.OfEffects.Accepted.{not_unless}
 use Rattle.filter_state.specs.Journals.{state_after}
 use Rattle.hook_store_law.specs.OfEdits.Premises.{now, IsAccepted}
 use Rattle.desk_needs.proofs.OfLiveCounts.NoFilter.{made_by_change, changed}

@@ -17,8 +17,8 @@ use Rattle.desk_parts.specs.OfLineActions.Gone.{NamesGone}
 use Rattle.shared_hook.proofs.OfDeskEdits.Found.{same_state}
 use Rattle.filter_state.specs.States.{Row, State}
 use Rattle.filter_state.specs.Tables.{mask_row, filter_row}
-use Rattle.hook_meaning.specs.Stated.{filters_at}
-use Rattle.hook_meaning.specs.Blocks.{hook_codec}
+use Rattle.hook_store_law.specs.Stated.{filters_at}
+use Rattle.hook_store_law.specs.Blocks.{hook_codec}
 use Rattle.hook_law.specs.Standing.{IsMaskAt}
 use Rattle.hook_store_law.specs.OfEdits.Premises.{now, IsAddOf, named_row}
 use Rattle.desk_actions.specs.OfLedgers.Kept.{commits}

@@ -9,15 +9,15 @@ use Rattle.filter_state.specs.declared.refusal.Done.{Done}
 use Rattle.filter_state.specs.Lines.{IsLine}
 use Rattle.filter_state.specs.Steps.{step}
 use Rattle.filter_lists.specs.Spells.{Spells}
-use Rattle.block_codec.specs.declared.places.TheConstants.{ROW_BUCKETS}
+use Rattle.store_history.specs.declared.places.TheConstants.{ROW_BUCKETS}
 use Rattle.miniq_pair.specs.Pairs.{other_place}
 use Rattle.hook_law.specs.Places.{mask_root, bucket_root}
 use Rattle.hook_law.specs.Meaning.{point_of, IsLive}
 use Rattle.hook_law.specs.Standing.{IsMaskAt}
 use Rattle.hook_law.specs.Keeping.{IsAtRest, IsAtRestBut}
 use Rattle.hook_law.specs.Numbered.{PutsActions}
-use Rattle.hook_meaning.specs.Stated.{hook_meaning}
-use Rattle.hook_meaning.specs.Blocks.{hook_codec}
+use Rattle.hook_store_law.specs.Stated.{hook_meaning}
+use Rattle.hook_store_law.specs.Blocks.{hook_codec}
 use Rattle.hook_store_law.specs.Kept.{KeepsHook}
 use Rattle.hook_store_law.specs.OfEdits.Premises.{now, next}
 use Rattle.desk_pools.specs.Pools.{ArePools}

@@ -2,7 +2,7 @@
 use Rattle.std.specs.Prelude.{ℕ, List, eqb}
 use Rattle.std.specs.List.{IsDistinct}
 use Rattle.filter_state.specs.States.{State}
-use Rattle.hook_meaning.specs.OfEffects.Parts.{Stands}
+use Rattle.hook_store_law.specs.OfEffects.Parts.{Stands}
 use Rattle.hook_law.specs.Standing.{IsIn}
 
 -- the masks that stood before and don't after, each once

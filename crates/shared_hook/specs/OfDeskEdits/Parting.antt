@@ -11,13 +11,13 @@ use Rattle.flow_mask.specs.Sizes.{size_of}
 use Rattle.visit_room.specs.declared.names.MaskName.{MaskName}
 use Rattle.filter_state.specs.declared.edit.Edit.{Edit}
 use Rattle.block_codec.specs.declared.table.StoredTable.{StoredTable}
-use Rattle.block_codec.specs.declared.places.TheConstants.{MASK_SLOTS, ROW_BUCKETS}
+use Rattle.store_history.specs.declared.places.TheConstants.{MASK_SLOTS, ROW_BUCKETS}
 use Rattle.mask_table.specs.declared.mirrors.mirror.KeptMask.{KeptMask}
 use Rattle.mask_table.specs.OfMirrors.Forgetting.{bucket_blocks}
 use Rattle.mask_writer.specs.Masks.{Masks}
 use Rattle.mask_writer.specs.Standing.{StandsAt}
 use Rattle.hook_law.specs.Standing.{IsIn, IsMaskAt}
-use Rattle.hook_meaning.specs.Blocks.{hook_codec}
+use Rattle.hook_store_law.specs.Blocks.{hook_codec}
 use Rattle.desk_pools.specs.declared.pools.Pools.{Pools}
 use Rattle.desk_pools.specs.Pools.{ArePools}
 use Rattle.desk_pools.specs.Steps.{IsInPool}

@@ -5,7 +5,7 @@ use Rattle.store_history.specs.declared.history.Commit.{Commit}
 use Rattle.filter_state.specs.declared.edit.Edit.{Edit}
 use Rattle.hook_law.specs.Meaning.{IsLive}
 use Rattle.hook_law.specs.Standing.{IsIn}
-use Rattle.hook_meaning.specs.Stated.{hook_meaning}
+use Rattle.hook_store_law.specs.Stated.{hook_meaning}
 use Rattle.hook_store_law.specs.OfEdits.Premises.{now, next}
 use Rattle.desk_needs.specs.declared.needs.Needs.{Needs}
 use Rattle.desk_needs.specs.Needs.{made}

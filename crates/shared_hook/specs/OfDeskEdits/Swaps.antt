@@ -10,8 +10,8 @@ use Rattle.filter_state.specs.declared.edit.Edit.{Edit}
 use Rattle.filter_lists.specs.Spells.{Spells}
 use Rattle.miniq_pair.specs.Pairs.{other_place}
 use Rattle.hook_law.specs.Keeping.{IsAtRest}
-use Rattle.hook_meaning.specs.Stated.{hook_meaning}
-use Rattle.hook_meaning.specs.Blocks.{hook_codec}
+use Rattle.hook_store_law.specs.Stated.{hook_meaning}
+use Rattle.hook_store_law.specs.Blocks.{hook_codec}
 use Rattle.hook_store_law.specs.Kept.{IsKeptAt}
 use Rattle.hook_store_law.specs.OfEdits.Premises.{next}
 use Rattle.desk_pools.specs.declared.pools.Pools.{Pools}

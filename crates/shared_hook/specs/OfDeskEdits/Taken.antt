@@ -3,8 +3,8 @@ use Rattle.std.specs.Prelude.{ℕ, List}
 use Rattle.store_history.specs.declared.history.Commit.{Commit}
 use Rattle.pin_store.specs.Calls.{IsUnnamed}
 use Rattle.filter_state.specs.declared.edit.Edit.{Edit}
-use Rattle.block_codec.specs.declared.places.TheConstants.{POOL_BLOCKS, ROWS, ROW_BUCKETS, BUCKET_ROOTS}
-use Rattle.block_codec.specs.declared.places.TheConstants.{MASK_SLOTS, MASK_ROOTS}
+use Rattle.store_history.specs.declared.places.TheConstants.{POOL_BLOCKS, ROWS, ROW_BUCKETS, BUCKET_ROOTS}
+use Rattle.store_history.specs.declared.places.TheConstants.{MASK_SLOTS, MASK_ROOTS}
 use Rattle.desk_pools.specs.declared.pools.Pools.{Pools}
 use Rattle.desk_pools.specs.Pools.{IsFreeAt}
 use Rattle.desk_pools.specs.Steps.{IsTaken, AreTaken}

@@ -11,7 +11,7 @@ ghost use Rattle.flow_mask.specs.Sizes.{size_of};
 ghost use Rattle.mask_table.specs.declared.mirrors.mirror.KeptMask.{KeptMask};
 ghost use Rattle.mask_writer.specs.Standing.{StandsAt};
 ghost use Rattle.hook_law.specs.Standing.{IsMaskAt};
-ghost use Rattle.hook_meaning.specs.Blocks.{hook_codec};
+ghost use Rattle.hook_store_law.specs.Blocks.{hook_codec};
 ghost use Rattle.hook_store_law.specs.OfEdits.Premises.{now, IsAddOf};
 ghost use Rattle.desk_actions.specs.OfLedgers.Kept.{commits};
 ghost use Rattle.desk_actions.specs.Effects.{IsCounted};

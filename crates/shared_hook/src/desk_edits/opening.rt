@@ -22,7 +22,6 @@ ghost use Rattle.shared_hook.specs.OfDeskEdits.Swaps.{tables_of, with_tables, Ma
 use crate::desk_edits::room::Room;
 use crate::desk_edits::serials::serial_of;
 use crate::desk_edits::taking::take_for_mask;
-use block_codec::places::ROW_BUCKETS;
 use block_codec::{StoredFilter, StoredMask};
 use desk_actions::ledgers::Ledger;
 use desk_heads::open_mask;
@@ -37,6 +36,7 @@ use mask_build::rows_of;
 use mask_writer::{Blocks, MaskWriter};
 use miniq_pair::StoredTables;
 use store_history::EditName;
+use store_history::places::ROW_BUCKETS;
 use tc_base::Hook;
 
 // The words of a key: there are fourteen.

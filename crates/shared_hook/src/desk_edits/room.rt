@@ -3,8 +3,8 @@ ghost use Rattle.std.specs.Prelude.{◌≡◌, ◌≤◌, ◌++◌, ℕ, List, [
 ghost use Rattle.store_history.specs.declared.history.Commit.{Commit};
 ghost use Rattle.pin_store.specs.Calls.{IsUnnamed};
 ghost use Rattle.filter_state.specs.declared.edit.Edit.{Edit};
-ghost use Rattle.block_codec.specs.declared.places.TheConstants.{POOL_BLOCKS, ROWS, ROW_BUCKETS};
-ghost use Rattle.block_codec.specs.declared.places.TheConstants.{BUCKET_ROOTS};
+ghost use Rattle.store_history.specs.declared.places.TheConstants.{POOL_BLOCKS, ROWS, ROW_BUCKETS};
+ghost use Rattle.store_history.specs.declared.places.TheConstants.{BUCKET_ROOTS};
 ghost use Rattle.desk_pools.specs.Pools.{IsFreeAt, ArePools};
 ghost use Rattle.desk_pools.specs.Steps.{AreTaken};
 ghost use Rattle.desk_actions.specs.Effects.{IsCounted};

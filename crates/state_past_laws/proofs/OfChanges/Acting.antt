@@ -24,13 +24,13 @@ use Rattle.filter_state.specs.Steps.{made_of, with_actions, with_params, taken_o
 use Rattle.filter_state.proofs.Pairs.{each_weaker, each_map, each_append, each_passing, pairs_weaker}
 use Rattle.state_laws.proofs.Answers.{same_ok, err_ok, and_then_ok}
 use Rattle.state_laws.proofs.Tests.{named}
-use Rattle.hook_meaning.specs.OfEffects.Parts.{params_at}
-use Rattle.hook_meaning.proofs.OfEffects.Accepted.{not_unless, same_step}
-use Rattle.hook_meaning.proofs.OfEffects.Params.{params_in, params_none, params_before, params_spared, Rise}
-use Rattle.hook_meaning.proofs.OfEffects.Rising.{AreRising, list_grows}
-use Rattle.hook_meaning.proofs.OfEffects.Adding.{adds}
-use Rattle.hook_meaning.proofs.OfEffects.Replacing.{is_there, replaces}
-use Rattle.hook_meaning.proofs.OfEffects.Shared.{deleted_action}
+use Rattle.edit_effects.specs.OfEffects.Parts.{params_at}
+use Rattle.edit_effects.proofs.OfEffects.Accepted.{not_unless, same_step}
+use Rattle.edit_effects.proofs.OfEffects.Params.{params_in, params_none, params_before, params_spared, Rise}
+use Rattle.edit_effects.proofs.OfEffects.Rising.{AreRising, list_grows}
+use Rattle.edit_effects.proofs.OfEffects.Adding.{adds}
+use Rattle.edit_effects.proofs.OfEffects.Replacing.{is_there, replaces}
+use Rattle.edit_effects.proofs.OfEffects.Shared.{deleted_action}
 use Rattle.state_past_laws.specs.OfChanges.Among.{Has, listed}
 use Rattle.state_past_laws.specs.OfChanges.Going.{rows_going}
 use Rattle.state_past_laws.specs.OfChanges.Serials.{serial_named, serials_going}

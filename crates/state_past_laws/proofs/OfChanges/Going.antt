@@ -24,9 +24,9 @@ use Rattle.state_laws.proofs.Answers.{err_ok}
 use Rattle.state_laws.proofs.Tests.{row_in_table, bytes_eq_true}
 use Rattle.state_laws.proofs.Fits.{MaskFits}
 use Rattle.state_laws.proofs.Old.{is_old, IsOld, old_found}
-use Rattle.hook_meaning.proofs.OfEffects.Accepted.{not_unless, same_step}
-use Rattle.hook_meaning.proofs.OfEffects.Adding.{new_row, adds}
-use Rattle.hook_meaning.proofs.OfEffects.Replacing.{replaces, is_there, moved_row, fit}
+use Rattle.edit_effects.proofs.OfEffects.Accepted.{not_unless, same_step}
+use Rattle.edit_effects.proofs.OfEffects.Adding.{new_row, adds}
+use Rattle.edit_effects.proofs.OfEffects.Replacing.{replaces, is_there, moved_row, fit}
 use Rattle.state_past_laws.specs.OfChanges.Among.{Has, listed}
 use Rattle.state_past_laws.specs.OfChanges.Going.{rows_going, line_in, IsComing, Comes, GoesOn}
 use Rattle.state_past_laws.proofs.OfChanges.Among.{has_left, has_right, has_append, each_has, pair_has, has_filter, filter_has, first_has, has_first, has_map, map_has}

@@ -9,7 +9,7 @@ use Rattle.filter_state.specs.Tables.{in_table, has_mask, first_where, mask_row}
 use Rattle.state_laws.proofs.OfOrder.Same.{same_sym}
 use Rattle.state_laws.proofs.Tests.{row_in_table, row_in_table_from, bytes_eq_true, bytes_eq_from}
 use Rattle.state_laws.proofs.Fits.{Akin, all_akin}
-use Rattle.hook_meaning.specs.OfEffects.Parts.{words_in, words_of}
+use Rattle.edit_effects.specs.OfEffects.Parts.{words_in, words_of}
 use Rattle.state_past_laws.specs.Slots.{is_slot, actions_or, slot_in}
 use Rattle.state_past_laws.specs.OfChanges.Among.{Has}
 use Rattle.state_past_laws.specs.OfChanges.Going.{GoesOn}

@@ -5,7 +5,7 @@ ghost use Rattle.filter_state.specs.declared.refusal.Done.{Done};
 ghost use Rattle.filter_state.specs.States.{Row, State};
 ghost use Rattle.filter_state.specs.Sound.{Sound};
 ghost use Rattle.filter_state.specs.Steps.{step};
-ghost use Rattle.hook_meaning.specs.OfEffects.Parts.{params_at};
+ghost use Rattle.edit_effects.specs.OfEffects.Parts.{params_at};
 ghost use Rattle.state_past_laws.specs.OfChanges.Among.{Has};
 ghost use Rattle.state_past_laws.specs.OfChanges.Going.{rows_going, line_in, GoesOn, Comes};
 ghost use Rattle.state_past_laws.specs.OfChanges.Serials.{serials_going};

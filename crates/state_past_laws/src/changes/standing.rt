@@ -4,7 +4,7 @@ ghost use Rattle.filter_state.specs.States.{Row, State};
 ghost use Rattle.filter_state.specs.Order.{of_mask, SameState};
 ghost use Rattle.filter_state.specs.Sound.{Sound};
 ghost use Rattle.filter_state.specs.Tables.{mask_row};
-ghost use Rattle.hook_meaning.specs.OfEffects.Parts.{words_of, params_at};
+ghost use Rattle.edit_effects.specs.OfEffects.Parts.{words_of, params_at};
 ghost use Rattle.state_past_laws.specs.Slots.{is_slot, slot_in};
 ghost use Rattle.state_past_laws.specs.OfChanges.Among.{Has};
 ghost use Rattle.state_past_laws.specs.OfChanges.Going.{GoesOn};

@@ -3,6 +3,8 @@ ghost use Rattle.std.specs.Prelude.{◌≡◌, ◌≤◌, drop, IfOk, IfErr, OnO
 ghost use Rattle.lawful_runs.specs.Given.{IsLoaded, capture_count};
 ghost use Rattle.lawful_runs.specs.Lawful.{IsLawfulRun};
 ghost use Rattle.tool_run.specs.OfOutputs.Outputs.{output_of, outputs_from, outputs_of};
+ghost use Rattle.tc_base.specs.Outside.{AsksFor, AppendsUpTo};
+ghost use Rattle.tool_run.specs.Asks.{output_name, output_names};
 ghost use Rattle.tool_run.specs.Parts.{PutFails};
 ghost use Rattle.tool_run.specs.OfOutputs.Puts.{ArePut, ArePutUpTo};
 ghost use Rattle.tool_run.specs.OfOutputs.Ready.{IsReady, AreReady};
@@ -34,6 +36,9 @@ pub fn put_outputs<S: Shelf>(
     ensures up_to { ArePutUpTo (S.held shelf.old) (S.held shelf.new) (outputs_of loaded.now run.now) }
     ensures later { S.write_faults shelf.old ≤ S.write_faults shelf.new }
     ensures cause { IfErr result (PutFails S.write_faults shelf.old shelf.new) }
+    ensures fetched { S.fetched shelf.new ≡ S.fetched shelf.old }
+    ensures put_names { AppendsUpTo (S.put_names shelf.old) (S.put_names shelf.new)
+        (output_names loaded.now.job.rounds) }
 {
     let rounds = loaded.job.rounds.as_slice();
     let captures = loaded.captures.as_slice();
@@ -55,6 +60,8 @@ fn put_rounds<S: Shelf>(
         (outputs_from rounds.now captures.now records.now) }
     ensures later { S.write_faults shelf.old ≤ S.write_faults shelf.new }
     ensures cause { IfErr result (PutFails S.write_faults shelf.old shelf.new) }
+    ensures fetched { S.fetched shelf.new ≡ S.fetched shelf.old }
+    ensures put_names { AppendsUpTo (S.put_names shelf.old) (S.put_names shelf.new) (output_names rounds.now) }
 {
     let mut left = captures;
     for index in 0..rounds.len() {
@@ -80,6 +87,9 @@ fn put_round<'a, S: Shelf>(
         (output_of round.now.capture captures.now it.now) }
     ensures later { S.write_faults shelf.old ≤ S.write_faults shelf.new }
     ensures cause { IfErr result (PutFails S.write_faults shelf.old shelf.new) }
+    ensures fetched { S.fetched shelf.new ≡ S.fetched shelf.old }
+    ensures put_names { AsksFor (S.put_names shelf.old) (S.put_names shelf.new) (output_name round.now.capture)
+        result }
 {
     match &round.capture {
         None => Ok(captures),

@@ -7,12 +7,13 @@ use Rattle.std.proofs.lemmas.Option.{none-some, same_Some}
 use Rattle.store_history.specs.declared.history.Commit.{Commit}
 use Rattle.store_history.specs.History.{root_of}
 use Rattle.store_history.proofs.Histories.{prefix_take}
+use Rattle.store_history.specs.declared.places.TheConstants.{MASK_SLOTS}
 use Rattle.pin_store.specs.Calls.{seen_by, floor_start}
 use Rattle.filter_state.specs.declared.edit.Edit.{Edit}
 use Rattle.tc_base.specs.declared.hook.Hook.{Hook}
 use Rattle.walk_rules.specs.Questions.{Question, heads_of, filter_of, params_of, Answer}
 use Rattle.hook_law.specs.Places.{action_root}
-use Rattle.hook_meaning.specs.Told.{stands_at}
+use Rattle.hook_store_law.specs.Told.{stands_at}
 use Rattle.hook_store_law.specs.OfVisits.Known.{ActionLived}
 use Rattle.hook_reader.specs.Seats.{FirstHead, HookSeat, IsHeadOf}
 use Rattle.hook_reader.specs.Told.{head_point, first_of, IsMaskPoint, WalkTold}
@@ -85,7 +86,7 @@ module _ (old new : HookSeat) (visits : List Visit) (point : ℕ) (has : HasVisi
     no_head : (hook : Hook) → filter_of table mask values ≢ heads_of hook
     no_head hook e = absurd (cc e)
 
-    kept_slot : (slot n : ℕ) → slot < 8192 → n ≤ slice_index old.points slot → n ≤ slice_index new.points slot
+    kept_slot : (slot n : ℕ) → slot < MASK_SLOTS → n ≤ slice_index old.points slot → n ≤ slice_index new.points slot
     kept_slot slot n small low = let p = t.pointed in let wide = t.before.wide in let is = p.is in
         subst (λ (ps : List ℕ). n ≤ slice_index ps slot) (sym p.points) (dite (ℕ_discrete slot p.slot)
         (λ (here : slot ≡ p.slot). let now : slice_index (slice_set old.points p.slot point) slot ≡ point =

@@ -17,9 +17,9 @@ use Rattle.hook_law.specs.Slots.{slot_of}
 use Rattle.hook_law.proofs.Standing.{slot_longer}
 use Rattle.hook_law.proofs.Slots.{slot_is}
 use Rattle.hook_law.proofs.Rising.{stamps_rise_behind}
-use Rattle.hook_meaning.specs.Stated.{hook_meaning}
-use Rattle.hook_meaning.specs.Blocks.{hook_codec}
-use Rattle.hook_meaning.specs.Told.{stands_at}
+use Rattle.hook_store_law.specs.Stated.{hook_meaning}
+use Rattle.hook_store_law.specs.Blocks.{hook_codec}
+use Rattle.hook_store_law.specs.Told.{stands_at}
 use Rattle.hook_store_law.specs.OfVisits.Known.{ActionLived}
 use Rattle.hook_store_law.proofs.OfVisits.Names.{one_slot, action_longer}
 use Rattle.hook_reader.specs.Seats.{HookSeat, IsHeadOf, IsReading}

@@ -7,7 +7,7 @@ use Rattle.pin_store.specs.Calls.{seen_by, floor_start}
 use Rattle.walk_rules.specs.Questions.{heads_of, filter_of, params_of}
 use Rattle.walk_rules.specs.OfPoints.Points.{Visit}
 use Rattle.hook_law.specs.Places.{action_root}
-use Rattle.hook_meaning.specs.Told.{stands_at}
+use Rattle.hook_store_law.specs.Told.{stands_at}
 use Rattle.hook_store_law.specs.OfVisits.Known.{ActionLived}
 use Rattle.hook_reader.specs.Seats.{FirstHead, HookSeat}
 use Rattle.hook_reader.specs.Told.{head_point}

@@ -1,5 +1,5 @@
 //! The walk of a packet.
-ghost use Rattle.block_codec.specs.declared.places.TheConstants.{ROOTS};
+ghost use Rattle.store_history.specs.declared.places.TheConstants.{ROOTS};
 ghost use Rattle.frame_edit.specs.declared.limits.TheConstants.{FRAME_MAX};
 ghost use Rattle.std.specs.Prelude.{◌≡◌, ◌≤◌, ◌<◌, ◌+◌, ◌^◌, length, None};
 ghost use Rattle.pin_store.specs.Calls.{IsInside, IsOutside, IsSeatOf, number_of, pin_of};

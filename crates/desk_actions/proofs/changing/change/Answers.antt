@@ -4,6 +4,7 @@ use Rattle.store_history.specs.declared.history.Commit.{Commit}
 use Rattle.pin_store.specs.Calls.{seen_by, sheet_of}
 use Rattle.filter_state.specs.declared.edit.Edit.{Edit}
 use Rattle.store_history.specs.History.{edits_of}
+use Rattle.store_history.specs.declared.places.TheConstants.{POOL_BLOCKS}
 use Rattle.hook_law.proofs.Growing.{edits_more}
 use Rattle.desk_actions.proofs.Counted.{took, gave, counted_then, blocks_kept}
 use Rattle.filter_state.specs.States.{Action}
@@ -134,7 +135,7 @@ returns-clause-pools g c = let old = c.args.ledger.now in let h = commits old in
     let before_is : c.block-before.result ≡ block_of c.args.places.now (slot_of c.args.places.now c.serial_of-serial.result) = c.block-before.ensures ∙ ap (block_of c.args.places.now) slot_is in
     let low = (alone h b old.lists c.finish-done.new.self old.point y line l c.requires.edit.1 c.requires.changing c.finish-done.result f c.serial_of-serial.result c.changed-action.result.params c.changed-action.ensures.params named c.args.places.now c.requires.places).0 in
     let all = c.leave_block.ensures.pools k b (change_pools h b old.lists c.finish-done.new.self old.point y line l c.requires.edit.1 c.requires.changing c.finish-done.result f c.serial_of-serial.result c.changed-action.result.params c.changed-action.ensures.params named c.args.places.now c.requires.places blk pools p taken)
-    (subst (λ (n : ℕ). n < 16384) (sym before_is) low)
+    (subst (λ (n : ℕ). n < POOL_BLOCKS) (sym before_is) low)
     (subst (IsLeft (gone_roots pools) k) (sym before_is) (old_left h b old.lists c.finish-done.new.self old.point y line l c.requires.edit.1 c.requires.changing c.finish-done.result f c.serial_of-serial.result c.changed-action.result.params c.changed-action.ensures.params named c.args.places.now c.requires.places blk pools p taken))
     (subst (λ (n : ℕ). IsInPool n pools.blocks → ⊥) (sym before_is) (old_apart h b old.lists c.finish-done.new.self old.point y line l c.requires.edit.1 c.requires.changing c.finish-done.result f c.serial_of-serial.result c.changed-action.result.params c.changed-action.ensures.params named c.args.places.now c.requires.places blk pools p taken)) in
     subst (ArePools c.leave_block.new.self (seen_by c.put_action.new.writer.place)) based

@@ -2,6 +2,7 @@ use Rattle.std.proofs.Common.{◌≡◌, ◌∙◌, ℕ, ◌+◌, ◌<◌, List,
 use Rattle.store_history.specs.declared.history.Commit.{Commit}
 use Rattle.filter_state.specs.declared.edit.Edit.{Edit}
 use Rattle.store_history.specs.History.{edits_of}
+use Rattle.store_history.specs.declared.places.TheConstants.{ACTION_SLOTS, ACTION_ROOTS, POOL_BLOCKS}
 use Rattle.hook_law.proofs.Growing.{edits_more}
 use Rattle.desk_pools.specs.OfNumbers.Numbers.{PoolNumbers}
 use Rattle.desk_actions.specs.Effects.{IsCounted}
@@ -51,15 +52,15 @@ returns-clause-pools g c = let old = c.args.ledger.now in let h = commits old in
     let live = named_live (now h) c.args.kind c.args.index serial named in
     let pools = c.args.pools.now in let k = h ++ mark_at (old.point + 1) y ∷ [] in let slot_is = c.slot-slot.ensures.slot in let left_one = c.leave_action.new.self in
     let first = c.leave_action.ensures.pools k b (delete_pools h b y _ c.mark-done.result c.args.kind c.args.index serial accepted c.requires.edit.2 named live l.rest c.args.places.now c.requires.places (old.point + 1) (ap (λ (n : ℕ). n + 1) l.kept.point_is) pools c.requires.pools)
-    (subst (λ (s : ℕ). s < 2048) (sym slot_is) (slot_small h b y _ c.mark-done.result c.args.kind c.args.index serial accepted c.requires.edit.2 named live l.rest c.args.places.now c.requires.places (old.point + 1) (ap (λ (n : ℕ). n + 1) l.kept.point_is)))
-    (subst (IsLeftAt k 8195 1) (sym slot_is) (slot_left h b y _ c.mark-done.result c.args.kind c.args.index serial accepted c.requires.edit.2 named live l.rest c.args.places.now c.requires.places (old.point + 1) (ap (λ (n : ℕ). n + 1) l.kept.point_is)))
+    (subst (λ (s : ℕ). s < ACTION_SLOTS) (sym slot_is) (slot_small h b y _ c.mark-done.result c.args.kind c.args.index serial accepted c.requires.edit.2 named live l.rest c.args.places.now c.requires.places (old.point + 1) (ap (λ (n : ℕ). n + 1) l.kept.point_is)))
+    (subst (IsLeftAt k ACTION_ROOTS 1) (sym slot_is) (slot_left h b y _ c.mark-done.result c.args.kind c.args.index serial accepted c.requires.edit.2 named live l.rest c.args.places.now c.requires.places (old.point + 1) (ap (λ (n : ℕ). n + 1) l.kept.point_is)))
     (subst (λ (s : ℕ). IsInPool s pools.actions → ⊥) (sym slot_is) (slot_apart h b y _ c.mark-done.result c.args.kind c.args.index serial accepted c.requires.edit.2 named live l.rest c.args.places.now c.requires.places (old.point + 1) (ap (λ (n : ℕ). n + 1) l.kept.point_is) pools c.requires.pools)) in
     let block_is : c.block.result ≡ block_of c.args.places.now (slot_of c.args.places.now serial) = c.block.ensures ∙ ap (block_of c.args.places.now) slot_is in
     let in_left : IsIn (slot_of c.args.places.now serial) left_one.actions.left = subst (λ (s : ℕ). IsIn s left_one.actions.left) slot_is
     (subst (IsIn c.slot-slot.result) (sym c.leave_action.ensures.left) (in_right pools.actions.left (c.slot-slot.result ∷ []) c.slot-slot.result (0, refl))) in
     let same_blocks : pools.blocks ≡ left_one.blocks = ap (λ (q : Pools). q.blocks) (sym c.leave_action.ensures.others) in
     let all = c.leave_block.ensures.pools k b first
-    (subst (λ (n : ℕ). n < 16384) (sym block_is) (alone h b y _ c.mark-done.result c.args.kind c.args.index serial accepted c.requires.edit.2 named live l.rest c.args.places.now c.requires.places (old.point + 1) (ap (λ (n : ℕ). n + 1) l.kept.point_is)).0)
+    (subst (λ (n : ℕ). n < POOL_BLOCKS) (sym block_is) (alone h b y _ c.mark-done.result c.args.kind c.args.index serial accepted c.requires.edit.2 named live l.rest c.args.places.now c.requires.places (old.point + 1) (ap (λ (n : ℕ). n + 1) l.kept.point_is)).0)
     (subst (IsLeft (gone_roots left_one) k) (sym block_is) (block_left h b y _ c.mark-done.result c.args.kind c.args.index serial accepted c.requires.edit.2 named live l.rest c.args.places.now c.requires.places (old.point + 1) (ap (λ (n : ℕ). n + 1) l.kept.point_is) pools c.requires.pools left_one in_left))
     (subst (λ (n : ℕ). IsInPool n left_one.blocks → ⊥) (sym block_is) (subst (λ q. IsInPool (block_of c.args.places.now (slot_of c.args.places.now serial)) q → ⊥) same_blocks (block_apart h b y _ c.mark-done.result c.args.kind c.args.index serial accepted c.requires.edit.2 named live l.rest c.args.places.now c.requires.places (old.point + 1) (ap (λ (n : ℕ). n + 1) l.kept.point_is) pools c.requires.pools))) in
     subst (λ (d : Sheet). ArePools c.leave_block.new.self (commits c.mark-done.new.self) (base_of d)) (sym c.mark-done.ensures.sheet)

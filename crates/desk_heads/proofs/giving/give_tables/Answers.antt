@@ -5,7 +5,7 @@ use Rattle.pin_store.specs.Calls.{seen_by, sheet_of, IsUnnamed}
 use Rattle.block_codec.specs.declared.table.StoredTable.{StoredTable}
 use Rattle.miniq_pair.specs.Pairs.{first_block_of, other_place, swap_commit}
 use Rattle.hook_law.specs.Records.{StatedTable}
-use Rattle.hook_meaning.specs.Stated.{TableNames}
+use Rattle.hook_store_law.specs.Stated.{TableNames}
 use Rattle.hook_store_law.specs.OfEdits.Premises.{next}
 use Rattle.desk_heads.specs.OfHeadCommits.Listed.{HasSerial}
 use Rattle.desk_heads.specs.OfHeadCommits.Built.{IsGiven}

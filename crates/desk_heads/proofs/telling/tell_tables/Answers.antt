@@ -5,7 +5,7 @@ use Rattle.std.proofs.lemmas.Option.{slice_get-get_or}
 use Rattle.block_codec.specs.declared.table.StoredTable.{StoredTable}
 use Rattle.filter_tables.specs.Plain.{PlainTable}
 use Rattle.head_laws.specs.Heads.{head_of}
-use Rattle.hook_meaning.specs.Stated.{table_stated}
+use Rattle.hook_store_law.specs.Stated.{table_stated}
 use Rattle.desk_masks.specs.OfHeadChains.Chains.{stated_of}
 use Rattle.desk_heads.specs.Slots.{AreInSlots, FitsNumbers}
 use Rattle.desk_heads.proofs.Told.{all_more, tables_fit, masks_fit, told, told_more, told_count, mask_told}

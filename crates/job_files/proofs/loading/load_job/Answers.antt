@@ -1,10 +1,15 @@
-use Rattle.std.proofs.Common.{List, Ok, Err, sym, subst}
+use Rattle.std.proofs.Common.{List, Ok, Err, sym, ap, subst}
 use Rattle.std.proofs.lemmas.Result.{err_from_is_err_and}
+use Rattle.tc_base.specs.Outside.{Appended}
+use Rattle.lawful_runs.specs.declared.loaded.LoadedJob.{LoadedJob}
+use Rattle.job_lines.specs.declared.job.Job.{Job}
 use Rattle.job_lines.specs.declared.job.Round.{Round}
+use Rattle.job_files.specs.Inputs.{input_names}
 use Rattle.job_files.specs.Named.{AreNames, rounds_files}
 use Rattle.job_files.specs.Holdings.{HasJob}
 use Rattle.job_files.specs.Loaded.{Loaded}
 use Rattle.job_files.specs.Growing.{Grows}
+use Rattle.job_files.proofs.Asking.{some_asked, all_asked, whole_asked}
 use Rattle.job_files.proofs.Exact.{due_or_outside}
 use Rattle.job_files.proofs.Numbers.{job_is_loaded}
 use Rattle.job_files.proofs.Said.{job_names}
@@ -67,3 +72,29 @@ pub returns-clause-due : goal.returns-clause-due
 returns-clause-due g c =
     due_or_outside g.S.Shelf.held g.S.Shelf.read_faults g.S.Shelf.failed_name c.args.shelf.now
     c.add_rounds.new.shelf c.args.name.now (Ok c.of.result) (is_whole g c) tt
+
+pub returns-in_err-add_rounds-clause-fetched_up_to : goal.returns-in_err-add_rounds-clause-fetched_up_to
+returns-in_err-add_rounds-clause-fetched_up_to g c =
+    some_asked (g.S.Shelf.held c.args.shelf.now) (g.S.Shelf.fetched c.args.shelf.now)
+    (g.S.Shelf.fetched c.load_job_file.new.shelf) (g.S.Shelf.fetched c.add_rounds.new.shelf) c.args.name.now
+    c.in_ok-job.job c.as_slice.result.now c.in_ok-job.ensures.job c.as_slice.ensures
+    c.in_ok-job.ensures.fetched c.in_err-add_rounds.ensures.fetched
+
+-- all of the job's input was fetched
+is_fetched : (g : given.Over) (c : goal.After-of g)
+    → Appended (g.S.Shelf.fetched c.args.shelf.now) (g.S.Shelf.fetched c.add_rounds.new.shelf)
+    (input_names c.args.name.now c.of.result.job)
+is_fetched g c =
+    subst (λ (job : Job). Appended (g.S.Shelf.fetched c.args.shelf.now) (g.S.Shelf.fetched c.add_rounds.new.shelf)
+    (input_names c.args.name.now job)) (sym (ap (λ (loaded : LoadedJob). loaded.job) c.of.ensures))
+    (all_asked (g.S.Shelf.fetched c.args.shelf.now) (g.S.Shelf.fetched c.load_job_file.new.shelf)
+    (g.S.Shelf.fetched c.add_rounds.new.shelf) c.args.name.now c.in_ok-job.job c.as_slice.result.now
+    c.as_slice.ensures c.in_ok-job.ensures.fetched c.in_ok-add_rounds.ensures.fetched)
+
+pub returns-clause-fetched : goal.returns-clause-fetched
+returns-clause-fetched g c = is_fetched g c
+
+pub returns-clause-fetched_up_to : goal.returns-clause-fetched_up_to
+returns-clause-fetched_up_to g c =
+    whole_asked (g.S.Shelf.held c.args.shelf.now) (g.S.Shelf.fetched c.args.shelf.now)
+    (g.S.Shelf.fetched c.add_rounds.new.shelf) c.args.name.now c.of.result.job (is_whole g c).job (is_fetched g c)

@@ -11,6 +11,7 @@ abbrev pub invariant-loop-worker : goal.invariant-loop-worker
 invariant-loop-worker l = record {
   desk : IsSeatOf l.store l.desk.place;
   same_journal : journal l.desk ≡ journal l.initial.desk;
+  same : (l.desk.place.me ≡ l.initial.desk.place.me) × (l.desk.left ≡ l.initial.desk.left);
   many : length l.workers ≡ length l.initial.workers;
   taught : (at : ℕ) (d : Worker) → at < l.worker-index → IsTaught (store_name l.store) (length (journal l.initial.desk)) (get_or l.initial.workers at d) (get_or l.workers at d);
   others : (at : ℕ) (d : Worker) → l.worker-index ≤ at → get_or l.workers at d ≡ get_or l.initial.workers at d;

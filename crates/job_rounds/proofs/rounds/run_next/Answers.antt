@@ -1,4 +1,4 @@
-use Rattle.block_codec.specs.declared.places.TheConstants.{ROOTS}
+use Rattle.store_history.specs.declared.places.TheConstants.{ROOTS}
 use Rattle.std.proofs.Common.{◌∙◌, ◌-◌, ◌≤◌, List, length, map, take, drop, ◌++◌, Vec, Global, sym, ap, subst, arith}
 use Rattle.std.proofs.lemmas.List.{length-take}
 use Rattle.std.specs.Prelude.{All}
@@ -61,6 +61,9 @@ run_round-requires-clause-workers g c κs within =
     subst (AreReady store (length c.packets_of-round.result.packets.now) c.args.job.now.job.workers) (sym (written c.args.course.workers.len c.make_ready.new.workers c.args.course.workers.items (omega arith)))
     (are_ready store (packets_left c.args.job.now (c.args.number - 1)) (outcomes_in c.args.course.past.rounds.items) c.args.course.workers.items far.workers edits c.make_ready.new.workers taught
     (length c.packets_of-round.result.packets.now) (packets_left c.args.job.now c.args.number) c.args.job.now.job.workers c.packets_of-round.ensures.left far.many)
+
+pub run_round-requires-clause-tidied : goal.run_round-requires-clause-tidied
+run_round-requires-clause-tidied g c κs within = c.make_ready.ensures.tidied
 
 pub overflow_add-captures : goal.overflow_add-captures
 overflow_add-captures g c =

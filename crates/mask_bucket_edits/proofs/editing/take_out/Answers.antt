@@ -2,6 +2,7 @@ use mathlib.Core.List.{append-nil}
 use Rattle.std.proofs.Common.{◌∙◌, ◌+◌, [], ◌∷◌, ◌++◌, length, refl, sym, ap, subst, arith}
 use Rattle.store_history.specs.declared.history.Commit.{Commit}
 use Rattle.store_history.specs.History.{root_of}
+use Rattle.store_history.specs.declared.places.TheConstants.{BUCKET_ROOTS}
 use Rattle.pin_store.specs.Sheets.{base_of}
 use Rattle.pin_store.specs.Calls.{seen_by, sheet_of}
 use Rattle.mask_table.specs.Buckets.{IsAmong}
@@ -22,15 +23,15 @@ pub rewrite-requires-clause-many : goal.rewrite-requires-clause-many
 rewrite-requires-clause-many g c =
     let h = seen_by c.args.writer.now.place in let old = sheet_of c.args.writer.now.place in let shape = c.args.store.now.shape in let found = c.find-found.result in let w = c.requires.there in
     let f = c.find-found.ensures.found w.0 shape old.cells (root_of h) w.4 c.requires.kept in
-    let many = c.requires.many w.0 (10243 + found.place) f.front f.filter w.4 f.there in let same = ap length c.as_slice-2.ensures in let count = f.counted in omega arith
+    let many = c.requires.many w.0 (BUCKET_ROOTS + found.place) f.front f.filter w.4 f.there in let same = ap length c.as_slice-2.ensures in let count = f.counted in omega arith
 
 pub rewrite-requires-clause-lawful : goal.rewrite-requires-clause-lawful
 rewrite-requires-clause-lawful g c = λ front read.
     let h = seen_by c.args.writer.now.place in let old = sheet_of c.args.writer.now.place in let shape = c.args.store.now.shape in let found = c.find-found.result in let w = c.requires.there in
     let f = c.find-found.ensures.found w.0 shape old.cells (root_of h) w.4 c.requires.kept in
     let same = front_is (root_of h) w.0.mask c.args.handle found.place found.front c.find-found.new.room f front read in
-    let one = same_commit h (10243 + found.place) (10243 + found.place) c.as_slice-2.result.now c.args.given.now (front ++ []) f.front found.front (length f.front) c.args.edit g.E.EditName.edit refl c.as_slice-2.ensures (append-nil front ∙ same) (sym f.counted) in
-    subst (λ (k : Commit g.row.L-Entry.Denot). g.L.Law.keeps (h ++ k ∷ []) (base_of old)) (sym one) (c.requires.lawful w.0 (10243 + found.place) f.front f.filter w.4 f.there)
+    let one = same_commit h (BUCKET_ROOTS + found.place) (BUCKET_ROOTS + found.place) c.as_slice-2.result.now c.args.given.now (front ++ []) f.front found.front (length f.front) c.args.edit g.E.EditName.edit refl c.as_slice-2.ensures (append-nil front ∙ same) (sym f.counted) in
+    subst (λ (k : Commit g.row.L-Entry.Denot). g.L.Law.keeps (h ++ k ∷ []) (base_of old)) (sym one) (c.requires.lawful w.0 (BUCKET_ROOTS + found.place) f.front f.filter w.4 f.there)
 
 pub overflow_add-found : goal.overflow_add-found
 overflow_add-found g c =
@@ -43,8 +44,8 @@ returns-clause-done g c = λ kept stands.
     let h = seen_by c.args.writer.now.place in let old = sheet_of c.args.writer.now.place in let shape = c.args.store.now.shape in let found = c.find-found.result in
     let f = c.find-found.ensures.found kept shape old.cells (root_of h) stands c.requires.kept in
     let seen = c.rewrite.ensures.seen f.front (front_read (root_of h) kept.mask c.args.handle found.place found.front c.find-found.new.room f) in
-    let one = same_commit h (10243 + found.place) (10243 + found.place) c.as_slice-2.result.now c.args.given.now (f.front ++ []) f.front found.front (length f.front) c.args.edit g.E.EditName.edit refl c.as_slice-2.ensures (append-nil f.front) (sym f.counted) in
-    (10243 + found.place, f.front, f.filter, f.there, seen ∙ ap (λ (k : Commit g.row.L-Entry.Denot). h ++ k ∷ []) one, blocks_left (root_of h) kept.mask c.args.handle found.place found.front c.find-found.new.room f c.truncate.new.self c.truncate.ensures)
+    let one = same_commit h (BUCKET_ROOTS + found.place) (BUCKET_ROOTS + found.place) c.as_slice-2.result.now c.args.given.now (f.front ++ []) f.front found.front (length f.front) c.args.edit g.E.EditName.edit refl c.as_slice-2.ensures (append-nil f.front) (sym f.counted) in
+    (BUCKET_ROOTS + found.place, f.front, f.filter, f.there, seen ∙ ap (λ (k : Commit g.row.L-Entry.Denot). h ++ k ∷ []) one, blocks_left (root_of h) kept.mask c.args.handle found.place found.front c.find-found.new.room f c.truncate.new.self c.truncate.ensures)
 
 pub returns-clause-others : goal.returns-clause-others
 returns-clause-others g c = λ other out less.

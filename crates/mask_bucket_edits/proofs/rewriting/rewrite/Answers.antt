@@ -2,6 +2,7 @@ use Rattle.std.proofs.Common.{◌∙◌, ℕ, ◌+◌, ◌<◌, List, [], ◌∷
 use Rattle.std.proofs.lemmas.List.{get_or_default, length-take-le}
 use Rattle.store_history.specs.declared.history.Commit.{Commit}
 use Rattle.store_history.specs.History.{root_of}
+use Rattle.store_history.specs.declared.places.TheConstants.{BUCKET_ROOTS}
 use Rattle.pin_store.specs.declared.view.Sheet.{Sheet}
 use Rattle.pin_store.specs.Layout.{block_words, commit_of}
 use Rattle.pin_store.specs.Sheets.{base_of}
@@ -55,7 +56,7 @@ pub put_edited-number-requires-clause-apart : goal.put_edited-number-requires-cl
 put_edited-number-requires-clause-apart g c = λ x i j.
     let mirror = c.args.mirror.now in let shape = c.args.store.now.shape in let h = seen_by c.args.writer.now.place in let old = sheet_of c.args.writer.now.place in let blocks = c.args.blocks.now in let count = c.args.found.front in
     let place = c.args.found.place in let given = c.args.given.now in let w = c.requires.found in let b = get_or blocks count 0 in
-    unnamed_now (base_of old) h x (base_low old c.args.writer.now.sound) (c.requires.given.free j.0 x j.1) (10243 + place) (names mirror shape old.cells (root_of h) w.0 w.2 w.3 c.requires.kept w.1 place count blocks w.4 i.0 x (among_take x count blocks i.0 i.1))
+    unnamed_now (base_of old) h x (base_low old c.args.writer.now.sound) (c.requires.given.free j.0 x j.1) (BUCKET_ROOTS + place) (names mirror shape old.cells (root_of h) w.0 w.2 w.3 c.requires.kept w.1 place count blocks w.4 i.0 x (among_take x count blocks i.0 i.1))
 
 pub rename-requires-clause-chain : goal.rename-requires-clause-chain
 rename-requires-clause-chain g c =
@@ -67,8 +68,8 @@ rename-requires-clause-chain g c =
     let put = subst (λ (n : ℕ). ArePut mirror mirror1 shape old.cells new.cells given (map (kept_in mirror) (take count blocks) ++ aged age more) n number) is p.put in
     let free = λ (x : ℕ) (i : IsAmong x given). unnamed_now (base_of old) h x (base_low old c.args.writer.now.sound) (c.requires.given.free i.0 x i.1) in
     let of = λ (f : StoredFilter) (i : IsAmong f more). in_bucket mirror shape old.cells (root_of h) w.0 w.2 w.3 c.requires.kept w.1 place count blocks w.4 f (w.5 f i) in
-    subst (λ (seen : List (Commit g.row.L-Entry.Denot)). (own : BucketAt mirror1 (10243 + place)) × (bs : List ℕ) × HoldsChain mirror1 shape new.cells own.kept.mask.size own.bucket number bs
-    × AreOwn mirror1 (root_of seen) (10243 + place) bs) (sym p.seen)
+    subst (λ (seen : List (Commit g.row.L-Entry.Denot)). (own : BucketAt mirror1 (BUCKET_ROOTS + place)) × (bs : List ℕ) × HoldsChain mirror1 shape new.cells own.kept.mask.size own.bucket number bs
+    × AreOwn mirror1 (root_of seen) (BUCKET_ROOTS + place) bs) (sym p.seen)
     (chain_ready mirror mirror1 shape old.cells new.cells (root_of h) w.0 w.2 w.3 c.requires.kept w.1 place count blocks w.4 given more age number free put of)
 
 pub rename-requires-clause-lawful : goal.rename-requires-clause-lawful
@@ -84,7 +85,7 @@ rename-requires-clause-lawful g c = λ bs s.
     let read = front_read (root_of h) w.2.mask w.1 place count blocks w.4 in
     let links = links_new mirror mirror1 shape old.cells new.cells (root_of h) w.0 w.2 w.3 c.requires.kept w.1 place count blocks w.4 given more age number free put c.requires.shape.1 of w.4.front read bs s in
     let one = commit_is h shape new.cells place count given bs (w.4.front ++ more) c.args.edit g.E.EditName.edit links in
-    subst (g.L.Law.keeps (seen_by c.put_edited-number.new.writer.place ++ commit_of shape new.cells (10243 + place) bs c.args.edit (Some c.args.edit) g.E.EditName.edit ∷ [])) (sym (base_same old new p.sheet))
+    subst (g.L.Law.keeps (seen_by c.put_edited-number.new.writer.place ++ commit_of shape new.cells (BUCKET_ROOTS + place) bs c.args.edit (Some c.args.edit) g.E.EditName.edit ∷ [])) (sym (base_same old new p.sheet))
     (subst (λ (k : List (Commit g.row.L-Entry.Denot)). g.L.Law.keeps k (base_of old)) (λ t. sym p.seen t ++ sym one t ∷ []) (c.requires.lawful w.4.front read))
 
 pub returns-clause-seen : goal.returns-clause-seen

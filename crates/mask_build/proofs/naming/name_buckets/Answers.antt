@@ -1,5 +1,6 @@
 use Rattle.std.proofs.Common.{◌∙◌, ◌+◌, List, ◌++◌, ◌∷◌, [], None, sym, ap, subst, arith}
 use Rattle.store_history.specs.declared.history.Commit.{Commit}
+use Rattle.store_history.specs.declared.places.TheConstants.{BUCKET_ROOTS}
 use Rattle.pin_store.specs.declared.view.Sheet.{Sheet}
 use Rattle.pin_store.specs.Layout.{commit_of}
 use Rattle.pin_store.specs.Sheets.{base_of}
@@ -16,7 +17,7 @@ name_chain-requires-clause-lawful g c = λ blocks spelled.
     let w = c.requires.lawful in let ps = places w.0 in let less = c.loop-bucket-test.true in
     let was = first_read mirror place number c.place_of-place.ensures.small c.index-number.ensures in
     let one = bucket_commit_is mirror shape old.cells mask w.0 w.1 k place number less c.place_of-place.ensures.place was blocks spelled stamp edit in
-    subst (λ (d : Sheet). g.L.Law.keeps (seen_by c.loop-bucket.writer.place ++ commit_of shape d.cells (10243 + place) blocks stamp None edit ∷ []) (base_of d)) (sym i.sheet)
+    subst (λ (d : Sheet). g.L.Law.keeps (seen_by c.loop-bucket.writer.place ++ commit_of shape d.cells (BUCKET_ROOTS + place) blocks stamp None edit ∷ []) (base_of d)) (sym i.sheet)
     (subst (λ (cs : List (Commit g.row.L-Entry.Denot)). g.L.Law.keeps cs (base_of old)) (commits_more h mask ps stamp k ∙ (λ t. sym (i.seen w.0 w.1) t ++ sym one t ∷ [])) (w.2 (k + 1) (omega arith)))
 
 pub loop-bucket-preserved : goal.loop-bucket-preserved
@@ -29,7 +30,7 @@ loop-bucket-preserved g c =
       store = c.name_chain.ensures.store;
       seen = λ xs laid. let spelled = spelled_at mirror shape old.cells mask xs laid k place number less at was in
           let one = bucket_commit_is mirror shape old.cells mask xs laid k place number less at was _ spelled stamp edit in
-          c.name_chain.ensures.seen _ spelled ∙ ((λ t. i.seen xs laid t ++ (ap (λ (d : Sheet). commit_of shape d.cells (10243 + place) (blocks_in mask.size k xs) stamp None edit) i.sheet ∙ one) t ∷ [])
+          c.name_chain.ensures.seen _ spelled ∙ ((λ t. i.seen xs laid t ++ (ap (λ (d : Sheet). commit_of shape d.cells (BUCKET_ROOTS + place) (blocks_in mask.size k xs) stamp None edit) i.sheet ∙ one) t ∷ [])
           ∙ sym (commits_more h mask (places xs) stamp k));
       sheet = c.name_chain.ensures.sheet ∙ i.sheet;
     }

@@ -2,6 +2,7 @@ use Rattle.std.proofs.Common.{ℕ, ◌+◌, ◌<◌, ◌∙◌, ◌++◌, List, 
 use Rattle.std.specs.List.{All}
 use Rattle.std.specs.List.Sorted.{IsPermutation, IsNonDecreasingBy}
 use Rattle.std.proofs.lemmas.List.Sorted.{All-permutation}
+use Rattle.store_history.specs.declared.places.TheConstants.{POOL_BLOCKS}
 use Rattle.mask_table.specs.OfMirrors.Lists.{age_of, kept_as, kept_in}
 use Rattle.mask_table.proofs.OfMirrors.Forgetting.{few_gathered}
 use Rattle.mask_order.proofs.Orders.{sorted_as}
@@ -25,5 +26,5 @@ returns-clause-order c = λ last fs has. let w = c.requires.kept in let mirror =
 pub returns-clause-pool : goal.returns-clause-pool
 returns-clause-pool c = let w = c.requires.kept in let blocks = c.args.blocks.now in
     let there = c.push_all.ensures ∙ ap (λ (xs : List ℕ). xs ++ blocks) c.clear.ensures in
-    All-permutation (λ b. b < 16384) c.push_all.new.self c.sort_by_age.new.self c.sort_by_age.ensures.permutation
-    (subst (All (λ b. b < 16384)) (sym (there ∙ w.6)) (all_low c.args.mirror.now w.1 w.2 w.3 c.args.slot w.0 w.4 w.5))
+    All-permutation (λ b. b < POOL_BLOCKS) c.push_all.new.self c.sort_by_age.new.self c.sort_by_age.ensures.permutation
+    (subst (All (λ b. b < POOL_BLOCKS)) (sym (there ∙ w.6)) (all_low c.args.mirror.now w.1 w.2 w.3 c.args.slot w.0 w.4 w.5))

@@ -2,6 +2,7 @@ use Rattle.std.proofs.Common.{◌≡◌, ◌∙◌, ℕ, ◌+◌, ◌<◌, List,
 use Rattle.std.proofs.lemmas.List.{get_or_default}
 use Rattle.store_history.specs.declared.history.Commit.{Commit}
 use Rattle.store_history.specs.History.{root_of}
+use Rattle.store_history.specs.declared.places.TheConstants.{BUCKET_ROOTS}
 use Rattle.pin_store.specs.Layout.{commit_of}
 use Rattle.pin_store.specs.Sheets.{base_of}
 use Rattle.pin_store.specs.Calls.{seen_by, sheet_of, IsUnnamed}
@@ -28,8 +29,8 @@ rename-requires-clause-chain g c =
     let inside : place < length mirror.first.items = (let long = mirror.first_long in let small = c.place_in-place.ensures.small in omega arith) in
     let was = c.index-next.ensures ∙ get_or_default mirror.first.items place next 0 inside in
     let p = c.put_in_front.ensures in let mirror2 = c.put_in_front.new.mirror in let new = sheet_of c.put_in_front.new.writer.place in
-    subst (λ (more : List (Commit g.row.L-Entry.Denot)). (own : BucketAt mirror2 (10243 + place)) × (blocks : List ℕ) × HoldsChain mirror2 shape new.cells own.kept.mask.size own.bucket (b + 1) blocks
-    × AreOwn mirror2 (root_of more) (10243 + place) blocks) (sym p.seen)
+    subst (λ (more : List (Commit g.row.L-Entry.Denot)). (own : BucketAt mirror2 (BUCKET_ROOTS + place)) × (blocks : List ℕ) × HoldsChain mirror2 shape new.cells own.kept.mask.size own.bucket (b + 1) blocks
+    × AreOwn mirror2 (root_of more) (BUCKET_ROOTS + place) blocks) (sym p.seen)
     (chain_ready mirror mirror2 shape old.cells new.cells h c.args.slot b kept filter place next c.requires.kept stands free at was p.filled p.chain)
 
 pub rename-requires-clause-lawful : goal.rename-requires-clause-lawful
@@ -43,7 +44,7 @@ rename-requires-clause-lawful g c = λ blocks s.
     let was = c.index-next.ensures ∙ get_or_default mirror.first.items place next 0 inside in
     let p = c.put_in_front.ensures in let mirror2 = c.put_in_front.new.mirror in let new = sheet_of c.put_in_front.new.writer.place in
     let one = commit_is mirror mirror2 shape old.cells new.cells h c.args.slot b kept filter place next c.requires.kept stands free at was p.filled p.words p.chain blocks s c.args.edit g.E.EditName.edit ∙ ap (λ (k : ℕ). insert_at h (root_for kept.mask filter) k filter c.args.edit g.E.EditName.edit) (sym given) in
-    subst (g.L.Law.keeps (seen_by c.put_in_front.new.writer.place ++ commit_of shape new.cells (10243 + place) blocks c.args.edit (Some c.args.edit) g.E.EditName.edit ∷ [])) (sym (same_base old new p.sheet))
+    subst (g.L.Law.keeps (seen_by c.put_in_front.new.writer.place ++ commit_of shape new.cells (BUCKET_ROOTS + place) blocks c.args.edit (Some c.args.edit) g.E.EditName.edit ∷ [])) (sym (same_base old new p.sheet))
     (subst (λ (k : List (Commit g.row.L-Entry.Denot)). g.L.Law.keeps k (base_of old)) (λ t. sym p.seen t ++ sym one t ∷ []) (c.requires.lawful kept stands))
 
 pub returns-clause-seen : goal.returns-clause-seen

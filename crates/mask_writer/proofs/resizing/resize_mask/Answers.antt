@@ -2,6 +2,7 @@ use Rattle.std.proofs.Common.{rules, ◌∙◌, ℕ, ◌+◌, ◌≤◌, List, �
 use Rattle.std.proofs.lemmas.Option.{slice_get-get_or}
 use Rattle.store_history.specs.declared.history.Commit.{Commit}
 use Rattle.store_history.specs.History.{root_of}
+use Rattle.store_history.specs.declared.places.TheConstants.{POOL_BLOCKS}
 use Rattle.pin_store.specs.Sheets.{base_of}
 use Rattle.pin_store.specs.Calls.{seen_by, sheet_of}
 use Rattle.block_codec.specs.declared.mask.StoredMask.{StoredMask}
@@ -29,7 +30,7 @@ raise-requires-clause-rows g c = let w = c.requires.there in let rows = ap (λ (
 pub offset_bounds-blocks-count : goal.offset_bounds-blocks-count
 offset_bounds-blocks-count g c = let w = c.requires.there in let count = c.relay-count.ensures.count w.1 w.2 w.4 in let all = c.requires.many w.1 w.2 w.4 in
     let few = few_given (base_of (sheet_of c.args.writer.now.place)) (seen_by c.args.writer.now.place) c.args.given.now.blocks c.requires.given in
-    let low : c.relay-count.result ≤ 16384 = omega arith in search rules
+    let low : c.relay-count.result ≤ POOL_BLOCKS = omega arith in search rules
 
 pub raise-requires-clause-lawful : goal.raise-requires-clause-lawful
 raise-requires-clause-lawful g c =

@@ -2,6 +2,7 @@ use Rattle.std.proofs.Common.{◌≡◌, ◌∙◌, Option, Some, sym, ap, subst
 use Rattle.tool_words.specs.declared.command.Command.{Command}
 use Rattle.tool_words.specs.Command.{Request, Run, Gen, texts, request_of}
 use Rattle.tool_words.specs.Requests.{request}
+use Rattle.tool_run.specs.Asks.{FetchesIn, PutsIn}
 use Rattle.tool_run.specs.Causes.{CausedIn}
 use Rattle.tool_run.proofs.Exact.{exact, complete}
 use Rattle.rehearsal.proofs.commands.tool.Given as given
@@ -61,3 +62,27 @@ returns-in-Some-Gen-clause-complete g c =
     c.args.shelf.now c.serve_gen.new.shelf c.args.out.now c.serve_gen.new.out
     (request_of (texts c.args.words.now)) (Gen c.in-Some-Gen.count c.in-Some-Gen.front.now) c.serve_gen.result
     (made g at.In-Some-Gen) c.serve_gen.ensures.cause
+
+pub returns-in-Some-Run-clause-fetched : goal.returns-in-Some-Run-clause-fetched
+returns-in-Some-Run-clause-fetched g c =
+    let at = goal.at.returns-in-Some-Run-clause-fetched g c in
+    subst (λ (it : Option Request). FetchesIn (g.S.Shelf.held c.args.shelf.now) (g.S.Shelf.fetched c.args.shelf.now)
+    (g.S.Shelf.fetched c.serve_run.new.shelf) it) (asked g at.In-Some-Run) c.serve_run.ensures.fetched
+
+pub returns-in-Some-Run-clause-put_names : goal.returns-in-Some-Run-clause-put_names
+returns-in-Some-Run-clause-put_names g c =
+    let at = goal.at.returns-in-Some-Run-clause-put_names g c in
+    subst (λ (it : Option Request). PutsIn (g.S.Shelf.held c.args.shelf.now) (g.S.Shelf.put_names c.args.shelf.now)
+    (g.S.Shelf.put_names c.serve_run.new.shelf) it) (asked g at.In-Some-Run) c.serve_run.ensures.put_names
+
+pub returns-in-Some-Gen-clause-fetched : goal.returns-in-Some-Gen-clause-fetched
+returns-in-Some-Gen-clause-fetched g c =
+    let at = goal.at.returns-in-Some-Gen-clause-fetched g c in
+    subst (λ (it : Option Request). FetchesIn (g.S.Shelf.held c.args.shelf.now) (g.S.Shelf.fetched c.args.shelf.now)
+    (g.S.Shelf.fetched c.serve_gen.new.shelf) it) (made g at.In-Some-Gen) c.serve_gen.ensures.fetched
+
+pub returns-in-Some-Gen-clause-put_names : goal.returns-in-Some-Gen-clause-put_names
+returns-in-Some-Gen-clause-put_names g c =
+    let at = goal.at.returns-in-Some-Gen-clause-put_names g c in
+    subst (λ (it : Option Request). PutsIn (g.S.Shelf.held c.args.shelf.now) (g.S.Shelf.put_names c.args.shelf.now)
+    (g.S.Shelf.put_names c.serve_gen.new.shelf) it) (made g at.In-Some-Gen) c.serve_gen.ensures.put_names

@@ -31,7 +31,7 @@ returns-in_default-clause-stuck c = λ is told it.
     let points = c.read_next.new.points.items in
     let none : c.in_ok-worker.field-0 ≡ None = search rules in
     stuck_unless told.loaded r cursor (stand_with told it.walked.outcomes) c.requires.cursor it.walked.is_at (is_open told r cursor c.args.replay.now c.args.walkers.now c.args.least c.args.place c.args.hook c.args.frame.now it)
-    (none_shown told r cursor c.args.replay.now c.args.walkers.now c.args.least c.args.place c.args.hook c.args.frame.now it points (subst (λ (o : Option ℕ). ShowsWalk r cursor o points) none c.in_ok-worker.ensures))
+    (none_shown told r cursor c.args.replay.now c.args.walkers.now c.args.least c.args.place c.args.hook c.args.frame.now it points (subst (λ (o : Option ℕ). ShowsWalk r cursor o points) none c.in_ok-worker.ensures.shows))
 
 pub returns-then-worker-eq0-clause-stuck : goal.returns-then-worker-eq0-clause-stuck
 returns-then-worker-eq0-clause-stuck c = λ is told it.
@@ -45,7 +45,7 @@ returns-then-worker-eq0-clause-stuck c = λ is told it.
       | then-worker-eq0-via-else-worker-eq0+then-worker-len w ↦ (let past = w.if-worker-len.true in let len = w.len.ensures in omega (arith, high, past, len, ok, many))
     ] in
     stuck_unless told.loaded r cursor (stand_with told it.walked.outcomes) c.requires.cursor it.walked.is_at (is_open told r cursor c.args.replay.now c.args.walkers.now c.args.least c.args.place c.args.hook c.args.frame.now it)
-    (no_worker told r cursor c.args.replay.now c.args.walkers.now c.args.least c.args.place c.args.hook c.args.frame.now it c.in-Some.worker points (subst (λ (o : Option ℕ). ShowsWalk r cursor o points) c.in-Some.is c.in_ok-worker.ensures) never)
+    (no_worker told r cursor c.args.replay.now c.args.walkers.now c.args.least c.args.place c.args.hook c.args.frame.now it c.in-Some.worker points (subst (λ (o : Option ℕ). ShowsWalk r cursor o points) c.in-Some.is c.in_ok-worker.ensures.shows) never)
 
 pub walk_again-requires-clause-few : goal.walk_again-requires-clause-few
 walk_again-requires-clause-few c =
@@ -84,7 +84,7 @@ returns-then-not-branch-clause-stuck c = λ is told it.
     let low : 1 ≤ worker = (let nonzero = c.if-worker-eq0.false in omega (arith, nonzero)) in
     let less : worker - 1 < length c.args.walkers.now.each.items = (let test = c.if-worker-len.false in let len = c.len.ensures in let ok = c.args.walkers.now.each.ok.0 in omega (arith, low, test, len, ok)) in
     let there = there_at c.args.walkers.now.each.items c.args.walkers.now.each.items (worker - 1) walker refl less ∙ ap (λ w. Some w) (sym c.index_mut-walker.ensures.value) in
-    let shows : ShowsWalk r cursor (Some worker) points = subst (λ (o : Option ℕ). ShowsWalk r cursor o points) c.in-Some.is c.in_ok-worker.ensures in
+    let shows : ShowsWalk r cursor (Some worker) points = subst (λ (o : Option ℕ). ShowsWalk r cursor o points) c.in-Some.is c.in_ok-worker.ensures.shows in
     let same = it.of.journal_is in
     let no : c.in_ok-walk_again.field-0 ≡ false = search rules in
     stuck_unless told.loaded r cursor (stand_with told it.walked.outcomes) c.requires.cursor it.walked.is_at (is_open told r cursor c.args.replay.now c.args.walkers.now c.args.least c.args.place c.args.hook c.args.frame.now it)
@@ -104,7 +104,7 @@ returns-then-not-take-clause-stuck c = λ is told it.
     let low : 1 ≤ worker = (let nonzero = c.if-worker-eq0.false in omega (arith, nonzero)) in
     let less : worker - 1 < length c.args.walkers.now.each.items = (let test = c.if-worker-len.false in let len = c.len.ensures in let ok = c.args.walkers.now.each.ok.0 in omega (arith, low, test, len, ok)) in
     let there = there_at c.args.walkers.now.each.items c.args.walkers.now.each.items (worker - 1) walker refl less ∙ ap (λ w. Some w) (sym c.index_mut-walker.ensures.value) in
-    let shows : ShowsWalk r cursor (Some worker) points = subst (λ (o : Option ℕ). ShowsWalk r cursor o points) c.in-Some.is c.in_ok-worker.ensures in
+    let shows : ShowsWalk r cursor (Some worker) points = subst (λ (o : Option ℕ). ShowsWalk r cursor o points) c.in-Some.is c.in_ok-worker.ensures.shows in
     let same = it.of.journal_is in
     let yes : c.in_ok-walk_again.field-0 ≡ true = search rules in
     let no : c.take.result ≡ false = search rules in

@@ -8,4 +8,4 @@ returns-in-None c = λ loaded run journal is at. is_lawful loaded c.args.report.
 
 pub returns-in-Some : goal.returns-in-Some
 returns-in-Some c = λ loaded run journal is at.
-    c.stuck_at.ensures loaded is (too_many loaded c.args.report.now c.args.cursor run journal c.in-Some.field-0.now (cut (drop (c.args.cursor.at + length c.in-Some.field-0.now) c.args.report.now)) at c.in-Some.ensures.some.first)
+    c.stuck_at.ensures.check loaded is (too_many loaded c.args.report.now c.args.cursor run journal c.in-Some.field-0.now (cut (drop (c.args.cursor.at + length c.in-Some.field-0.now) c.args.report.now)) at c.in-Some.ensures.some.first)

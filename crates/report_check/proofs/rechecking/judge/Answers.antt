@@ -7,4 +7,4 @@ returns c =
     let yes : c.in_ok-check_closing.field-0 ≡ true = search rules in
     let between = c.in_ok-check_rounds.ensures.through (ap (λ (t : Bool). Ok t) went) in
     let end = c.in_ok-check_closing.ensures.through (ap (λ (t : Bool). Ok t) yes) c.args.job.now between in
-    c.ended_at.ensures c.args.job.now end.0 end.1 c.requires.loaded end.2
+    c.closed_at.ensures c.args.job.now end.0 end.1 c.requires.loaded end.2

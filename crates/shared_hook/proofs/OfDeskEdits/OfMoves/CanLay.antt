@@ -6,6 +6,7 @@ use Rattle.std.proofs.lemmas.List.{length-map}
 use Rattle.std.proofs.lemmas.Option.{slice_get-get_or}
 use Rattle.visit_room.specs.declared.names.MaskName.{MaskName}
 use Rattle.store_history.specs.declared.history.Commit.{Commit}
+use Rattle.store_history.specs.declared.places.TheConstants.{ROWS, ROW_BUCKETS, BUCKET_ROOTS}
 use Rattle.flow_mask.specs.Sizes.{is_size, size_of}
 use Rattle.filter_state.specs.declared.edit.Edit.{Edit}
 use Rattle.block_codec.specs.declared.filter.StoredFilter.{StoredFilter}
@@ -14,12 +15,12 @@ use Rattle.block_codec.proofs.Masking.{sized}
 use Rattle.mask_table.specs.OfMirrors.Given.{AreGiven}
 use Rattle.mask_order.specs.Fitting.{FitsBlock}
 use Rattle.mask_table.specs.Buckets.{mask_root, bucket_root}
-use Rattle.hook_meaning.specs.OfEffects.Parts.{words_of}
+use Rattle.hook_store_law.specs.OfEffects.Parts.{words_of}
 use Rattle.hook_law.specs.Places as places
 use Rattle.hook_law.specs.Standing.{IsIn, IsUnused}
-use Rattle.hook_meaning.specs.Stated.{hook_meaning, filters_at}
-use Rattle.hook_meaning.specs.Blocks.{hook_codec}
-use Rattle.hook_meaning.specs.Told.{with_slots}
+use Rattle.hook_store_law.specs.Stated.{hook_meaning, filters_at}
+use Rattle.hook_store_law.specs.Blocks.{hook_codec}
+use Rattle.hook_store_law.specs.Told.{with_slots}
 use Rattle.hook_store_law.specs.OfEdits.Premises.{next}
 use Rattle.root_pool_laws.proofs.Apart.{in_right}
 use Rattle.desk_heads.specs.OfHeadCommits.Raised.{stored_next, IsSpareRoot, CanRaise}
@@ -56,7 +57,7 @@ module _ (start parts : Parts) (y : Edit) (built : List MaskName) (r : IsRaising
     at_row : (mask : StoredMask) → mask.rows ≡ rows → (bucket : ℕ) → bucket / 16 < length rows → IsSpareRoot h b (bucket_root mask bucket)
     at_row mask same bucket less = let row = get_or rows (bucket / 16) 0 in
         let in_ : IsIn row rows = (bucket / 16, slice_get-get_or rows (bucket / 16) 0 less) in
-        let is : 10243 + 16 * row + bucket % 16 ≡ bucket_root mask bucket = ap (λ (rs : List ℕ). 10243 + 16 * get_or rs (bucket / 16) 0 + bucket % 16) (sym same) in
+        let is : BUCKET_ROOTS + ROW_BUCKETS * row + bucket % 16 ≡ bucket_root mask bucket = ap (λ (rs : List ℕ). BUCKET_ROOTS + ROW_BUCKETS * get_or rs (bucket / 16) 0 + bucket % 16) (sym same) in
         subst (IsSpareRoot h b) is (row_spare row (bucket % 16) (row_was row in_) (omega arith) ((room.rows_taken.each row in_).free (bucket % 16) (omega arith)))
 
     pub are_given : AreGiven b h blocks
@@ -74,7 +75,7 @@ module _ (start parts : Parts) (y : Edit) (built : List MaskName) (r : IsRaising
       storable = record {
         size = proper;
         rows = many ∙ ap (λ (rs : List ℕ). 16 * length rs) (sym same);
-        each_row = subst (All (λ (row : ℕ). row < 8192)) (sym same) (λ i d less. (room.rows_taken.each (get_or rows i d) (i, slice_get-get_or rows i d less)).small);
+        each_row = subst (All (λ (row : ℕ). row < ROWS)) (sym same) (λ i d less. (room.rows_taken.each (get_or rows i d) (i, slice_get-get_or rows i d less)).small);
       };
       serial = serial;
       key = key;

@@ -11,13 +11,13 @@ use Rattle.filter_state.specs.Lines.{IsLine}
 use Rattle.filter_state.specs.States.{State}
 use Rattle.filter_state.specs.Sound.{Sound}
 use Rattle.filter_state.specs.Steps.{step}
-use Rattle.hook_meaning.specs.OfEffects.Parts.{words_of}
+use Rattle.hook_store_law.specs.OfEffects.Parts.{words_of}
 use Rattle.miniq_pair.specs.Heads.{hook_number}
 use Rattle.hook_law.specs.Standing.{IsMaskAt}
 use Rattle.hook_law.specs.Keeping.{Present}
 use Rattle.hook_law.proofs.Standing.{present_end}
-use Rattle.hook_meaning.specs.Stated.{hook_meaning, tables_at}
-use Rattle.hook_meaning.specs.Blocks.{hook_codec}
+use Rattle.hook_store_law.specs.Stated.{hook_meaning, tables_at}
+use Rattle.hook_store_law.specs.Blocks.{hook_codec}
 use Rattle.hook_store_law.specs.OfEdits.Premises.{now, next, LeavesOtherHook}
 use Rattle.hook_store_law.proofs.OfEdits.Accepted.{sound}
 use Rattle.hook_store_law.proofs.OfEdits.Heading.{other_key_after}

@@ -8,6 +8,7 @@ use Rattle.store_history.specs.declared.history.Commit.{Commit}
 use Rattle.store_history.specs.declared.history.Link.{Link}
 use Rattle.store_history.specs.declared.history.Named.{Named}
 use Rattle.store_history.specs.History.{root_of, edits_of}
+use Rattle.store_history.specs.declared.places.TheConstants.{MASK_SLOTS, ROWS}
 use Rattle.pin_store.specs.Sheets.{IsSameButCells}
 use Rattle.pin_store.specs.Calls.{sheet_of}
 use Rattle.filter_state.specs.declared.edit.Edit.{Edit}
@@ -26,8 +27,8 @@ use Rattle.hook_law.specs.Places as places
 use Rattle.hook_law.specs.Meaning.{point_of}
 use Rattle.hook_law.specs.Standing.{IsIn, IsMaskAt, IsUnused}
 use Rattle.hook_law.specs.Keeping.{IsAtRest}
-use Rattle.hook_meaning.specs.Stated.{hook_meaning}
-use Rattle.hook_meaning.specs.Blocks.{hook_codec}
+use Rattle.hook_store_law.specs.Stated.{hook_meaning}
+use Rattle.hook_store_law.specs.Blocks.{hook_codec}
 use Rattle.hook_store_law.specs.Kept.{KeepsHook}
 use Rattle.hook_store_law.specs.OfEdits.Premises.{now, next}
 use Rattle.root_pool_laws.proofs.Apart.{in_left}
@@ -106,13 +107,13 @@ module _ (start parts : Parts) (y : Edit) (built : List MaskName) (r : IsRaising
   free_slot_apart : (s : ℕ) → IsIn s pools.masks.free → mask_root s ≢ mask_root slot
   free_slot_apart s at same = let is : s ≡ slot = omega (arith, same) in room.slot_taken.apart (inl (subst (λ (n : ℕ). IsIn n pools.masks.free) is at))
 
-  slot_low : (s : ℕ) → IsIn s pools.masks.free → s < 8192
+  slot_low : (s : ℕ) → IsIn s pools.masks.free → s < MASK_SLOTS
   slot_low s at = let k = in_left pools.masks.free pools.masks.left s at in were.masks.small k.0 s k.1
 
-  row_low : (row : ℕ) → IsIn row pools.rows.free → row < 8192
+  row_low : (row : ℕ) → IsIn row pools.rows.free → row < ROWS
   row_low row at = let k = in_left pools.rows.free pools.rows.left row at in were.rows.small k.0 row k.1
 
-  not_bucket : (s : ℕ) → s < 8192 → (k : ℕ) → k < mask.size → mask_root s ≢ bucket_root mask k
+  not_bucket : (s : ℕ) → s < MASK_SLOTS → (k : ℕ) → k < mask.size → mask_root s ≢ bucket_root mask k
   not_bucket s small k less same = omega (arith, small, same)
 
   within : (k : ℕ) → k < mask.size → k / 16 < length mask.rows

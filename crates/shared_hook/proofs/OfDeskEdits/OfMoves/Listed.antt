@@ -13,9 +13,9 @@ use Rattle.filter_lists.specs.Spells.{Spells}
 use Rattle.state_laws.proofs.OfOrder.Same.{order_same}
 use Rattle.head_laws.specs.Heads.{head_of}
 use Rattle.head_laws.proofs.MaskRows.{mask_rows}
-use Rattle.hook_meaning.specs.OfEffects.Parts.{filter_of}
+use Rattle.hook_store_law.specs.OfEffects.Parts.{filter_of}
 use Rattle.hook_law.specs.Records.{StatedTable}
-use Rattle.hook_meaning.specs.Stated.{TableNames, table_stated, filter_stated}
+use Rattle.hook_store_law.specs.Stated.{TableNames, table_stated, filter_stated}
 use Rattle.desk_heads.proofs.OfHeadCommits.Places.{map_at, item_get}
 use Rattle.desk_heads.proofs.TablesGiven.{lists_are}
 use Rattle.shared_hook.specs.OfDeskEdits.OfMoves.Tells.{stated, IsMaskIn, IsListOf}

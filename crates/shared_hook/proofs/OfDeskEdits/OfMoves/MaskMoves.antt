@@ -15,13 +15,13 @@ use Rattle.filter_state.specs.Tables.{mask_row, mask_or_next}
 use Rattle.filter_state.specs.Steps.{step}
 use Rattle.filter_state.proofs.Pairs.{each_weaker}
 use Rattle.row_laws.proofs.OfLookups.Heads.{filter_none}
-use Rattle.hook_meaning.specs.OfEffects.Parts.{Stands, words_of}
+use Rattle.hook_store_law.specs.OfEffects.Parts.{Stands, words_of}
 use Rattle.mask_table.specs.declared.mirrors.mirror.KeptMask.{KeptMask}
 use Rattle.mask_writer.proofs.Standing.{one_mask}
 use Rattle.miniq_pair.specs.Heads.{hook_number}
 use Rattle.hook_law.specs.Standing.{IsMaskAt}
-use Rattle.hook_meaning.specs.Stated.{hook_meaning, tables_at}
-use Rattle.hook_meaning.specs.Blocks.{hook_codec}
+use Rattle.hook_store_law.specs.Stated.{hook_meaning, tables_at}
+use Rattle.hook_store_law.specs.Blocks.{hook_codec}
 use Rattle.hook_store_law.specs.OfEdits.Premises.{now, next, LeavesOtherHook}
 use Rattle.hook_store_law.proofs.OfEdits.Accepted.{sound}
 use Rattle.hook_store_law.proofs.OfEdits.Heading.{other_mask_after}

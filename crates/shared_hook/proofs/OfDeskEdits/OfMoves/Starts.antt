@@ -7,6 +7,7 @@ use Rattle.visit_room.specs.declared.names.MaskName.{MaskName}
 use Rattle.store_history.specs.declared.history.Commit.{Commit}
 use Rattle.store_history.specs.declared.history.Link.{Link}
 use Rattle.store_history.specs.History.{root_of}
+use Rattle.store_history.specs.declared.places.TheConstants.{MASK_SLOTS}
 use Rattle.filter_state.specs.declared.edit.Edit.{Edit}
 use Rattle.filter_state.specs.declared.refusal.Done.{Done}
 use Rattle.mask_table.specs.declared.mirrors.mirror.KeptMask.{KeptMask}
@@ -14,7 +15,7 @@ use Rattle.mask_writer.proofs.Standing.{one_mask}
 use Rattle.miniq_pair.specs.Heads.{hook_number}
 use Rattle.hook_law.specs.Places as places
 use Rattle.hook_law.specs.Standing.{IsIn, IsMaskAt, Names}
-use Rattle.hook_meaning.specs.Blocks.{hook_codec}
+use Rattle.hook_store_law.specs.Blocks.{hook_codec}
 use Rattle.hook_store_law.specs.OfEdits.Premises.{now, next}
 use Rattle.root_pool_laws.proofs.Apart.{in_left}
 use Rattle.desk_heads.specs.OfHeadCommits.Built.{IsBuilt}
@@ -38,7 +39,7 @@ module _ (parts : Parts) (y : Edit) (done : Done) (ahead : IsAhead parts y done)
   abbrev h : List (Commit Edit)
   h = commits parts.ledger
 
-  slot_low : (s : ℕ) → IsIn s parts.pools.masks.free → s < 8192
+  slot_low : (s : ℕ) → IsIn s parts.pools.masks.free → s < MASK_SLOTS
   slot_low s at = let k = in_left parts.pools.masks.free parts.pools.masks.left s at in ahead.has.pools.masks.small k.0 s k.1
 
   their_blocks : HaveTheirBlocks parts.masks h

@@ -16,11 +16,11 @@ use Rattle.filter_state.proofs.Pairs.{each_both, each_append, each_filter, each_
 use Rattle.state_laws.proofs.Tests.{bytes_eq_true, bytes_eq_from, row_in_table, row_in_table_from}
 use Rattle.state_laws.proofs.Fits.{Akin, TableFits, MaskFits}
 use Rattle.state_laws.proofs.Old.{is_old}
-use Rattle.hook_meaning.specs.OfEffects.Parts.{Stands, filters_of, words_of, without}
-use Rattle.hook_meaning.proofs.OfEffects.Adding.{line_filter}
-use Rattle.hook_meaning.proofs.OfEffects.Replacing.{Replaces, replaces, moved_row, exchanged_actions}
-use Rattle.hook_meaning.proofs.OfEffects.Moving.{MovesKey, MovesMask, Known, known}
-use Rattle.hook_meaning.proofs.OfEffects.Moved.{replaced_key, replaced_mask}
+use Rattle.hook_store_law.specs.OfEffects.Parts.{Stands, filters_of, words_of, without}
+use Rattle.hook_store_law.proofs.OfEffects.Adding.{line_filter}
+use Rattle.hook_store_law.proofs.OfEffects.Replacing.{Replaces, replaces, moved_row, exchanged_actions}
+use Rattle.hook_store_law.proofs.OfEffects.Moving.{MovesKey, MovesMask, Known, known}
+use Rattle.hook_store_law.proofs.OfEffects.Moved.{replaced_key, replaced_mask}
 use Rattle.hook_store_law.specs.OfEdits.Premises.{named_row}
 use Rattle.hook_store_law.proofs.OfEdits.Words.{own_words}
 use Rattle.desk_heads.proofs.OfHeadCommits.Standing.{filters_stand}

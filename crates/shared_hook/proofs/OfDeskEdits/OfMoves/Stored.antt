@@ -10,12 +10,12 @@ use Rattle.filter_state.specs.declared.edit.FilterLine.{FilterLine}
 use Rattle.filter_state.specs.States.{Row, State}
 use Rattle.filter_state.specs.Order.{of_mask}
 use Rattle.filter_state.specs.Sound.{Each, IsRow}
-use Rattle.hook_meaning.specs.OfEffects.Parts.{filter_of}
+use Rattle.hook_store_law.specs.OfEffects.Parts.{filter_of}
 use Rattle.mask_order.specs.Fitting.{FitsBlock}
 use Rattle.hook_law.specs.Records.{StatedFilter}
 use Rattle.hook_law.specs.Standing.{IsIn}
-use Rattle.hook_meaning.specs.Stated.{filter_stated, filters_at}
-use Rattle.hook_meaning.specs.Told.{with_slots}
+use Rattle.hook_store_law.specs.Stated.{filter_stated, filters_at}
+use Rattle.hook_store_law.specs.Told.{with_slots}
 use Rattle.desk_heads.proofs.OfHeadCommits.Places.{map_at}
 use Rattle.desk_masks.specs.OfFilterCommits.Edits.{IsOfLine}
 use Rattle.desk_masks.proofs.Slotting.{stored_own}

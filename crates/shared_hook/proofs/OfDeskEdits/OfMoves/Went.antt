@@ -12,6 +12,7 @@ use Rattle.store_history.specs.declared.history.Commit.{Commit}
 use Rattle.store_history.specs.declared.history.Link.{Link}
 use Rattle.store_history.specs.History.{root_of}
 use Rattle.store_history.proofs.Histories.{root_other}
+use Rattle.store_history.specs.declared.places.TheConstants.{MASK_SLOTS, ROW_BUCKETS, MASK_ROOTS, BUCKET_ROOTS}
 use Rattle.pin_store.specs.declared.shape.Shape.{Shape}
 use Rattle.flow_mask.specs.Sizes.{size_of}
 use Rattle.filter_state.specs.declared.edit.Edit.{Edit}
@@ -22,7 +23,7 @@ use Rattle.block_codec.specs.declared.mask.StoredMask.{StoredMask}
 use Rattle.block_codec.specs.declared.table.StoredTable.{StoredTable}
 use Rattle.block_codec.specs.Names.{IsMaskName}
 use Rattle.block_codec.specs.OfReadings.Read.{mask_of_words}
-use Rattle.hook_meaning.specs.OfEffects.Parts.{Stands}
+use Rattle.hook_store_law.specs.OfEffects.Parts.{Stands}
 use Rattle.mask_table.specs.Buckets.{bucket_root}
 use Rattle.mask_table.specs.declared.mirrors.mirror.KeptMask.{KeptMask}
 use Rattle.mask_table.specs.OfMirrors.Forgetting.{blocks_of, bucket_blocks}
@@ -36,9 +37,9 @@ use Rattle.hook_law.specs.Records.{StatedTable}
 use Rattle.hook_law.specs.Standing.{Role, Mask, Bucket, region_of, IsIn, IsMaskAt, Names, Stands as StandsRoot}
 use Rattle.hook_law.specs.Keeping.{Keeps, IsAtRest, Present}
 use Rattle.hook_law.proofs.Standing.{present_end, unused_end}
-use Rattle.hook_meaning.specs.Stated.{TableNames, hook_meaning, tables_at}
-use Rattle.hook_meaning.specs.Blocks.{mask_record, hook_codec}
-use Rattle.hook_meaning.proofs.Reading.{first_maps}
+use Rattle.hook_store_law.specs.Stated.{TableNames, hook_meaning, tables_at}
+use Rattle.hook_store_law.specs.Blocks.{mask_record, hook_codec}
+use Rattle.hook_store_law.proofs.Reading.{first_maps}
 use Rattle.hook_store_law.specs.Kept.{KeepsHook}
 use Rattle.hook_store_law.specs.OfEdits.Premises.{now, next}
 use Rattle.hook_store_law.proofs.OfEdits.Accepted.{sound}
@@ -101,14 +102,14 @@ number_low : (hook : Hook) → hook_number hook < 2
 number_low hooks.Ingress = omega arith
 number_low hooks.Egress = omega arith
 
-head_low : (hook : Hook) → head_root hook < 3
+head_low : (hook : Hook) → head_root hook < MASK_ROOTS
 head_low hooks.Ingress = omega arith
 head_low hooks.Egress = omega arith
 
 all_at : {A : Type 0} (P : A → Type 0) (xs : List A) (place : ℕ) (x : A) → All P xs → slice_get xs place ≡ Some x → P x
 all_at P xs place x all e = subst P (get_or_from_slice_get xs place x x e) (all place x (slice_get_within xs place x e))
 
-bucket_same : (h : List (Commit Edit)) (c : Commit Edit) → c.root < 3 → (mask : StoredMask) (ks : List ℕ) → blocks_of (root_of (h ++ c ∷ [])) (map (bucket_root mask) ks) ≡ blocks_of (root_of h) (map (bucket_root mask) ks)
+bucket_same : (h : List (Commit Edit)) (c : Commit Edit) → c.root < MASK_ROOTS → (mask : StoredMask) (ks : List ℕ) → blocks_of (root_of (h ++ c ∷ [])) (map (bucket_root mask) ks) ≡ blocks_of (root_of h) (map (bucket_root mask) ks)
 bucket_same h c low mask [] = refl
 bucket_same h c low mask (k ∷ ks) = let rest = bucket_same h c low mask ks in let one = root_other h c (bucket_root mask k) (λ same. omega (arith, low, same)) in
     λ t. map (λ (l : Link). l.block) (one t).chain ++ rest t
@@ -123,7 +124,7 @@ named_at : (h : List (Commit Edit)) (hook : Hook) (kept : HookTables) → HasTab
 named_at h hook kept has m s n = record {
   hook = hook_number hook;
   one = number_low hook;
-  small = let fit = all_at FitsTable kept.tables n.place n.table has.fit n.there in subst (λ (k : ℕ). k < 8192) n.slot_is (all_at IsMaskName n.table.masks n.among n.name fit.storable.masks n.has).slot;
+  small = let fit = all_at FitsTable kept.tables n.place n.table has.fit n.there in subst (λ (k : ℕ). k < MASK_SLOTS) n.slot_is (all_at IsMaskName n.table.masks n.among n.name fit.storable.masks n.has).slot;
   there = subst (λ (ls : List Link). Names hook_codec ls m s) (sym has.chain)
       (in_names (first_block_of hook kept.pair.active) kept.tables m s has.fit (small_first hook kept.pair.active (length kept.tables) kept.pair.two has.few) n);
 }
@@ -244,7 +245,7 @@ module _ (h : List (Commit Edit)) (b : ℕ) (y : Edit) (hook : Hook) (built : Li
       at_root = (s, at, refl)
 
       slot_apart : IsInPool s pools.masks → ⊥
-      slot_apart (inl in_) = unused_end hook_meaning hook_codec h b (3 + 1 * s + 0) (Mask m) low (are.masks.may_be_given in_.0 s in_.1 0 (omega arith)) (subst (λ (r : ℕ). StandsRoot hook_meaning hook_codec h r (Mask m)) (omega arith) at_root)
+      slot_apart (inl in_) = unused_end hook_meaning hook_codec h b (MASK_ROOTS + 1 * s + 0) (Mask m) low (are.masks.may_be_given in_.0 s in_.1 0 (omega arith)) (subst (λ (r : ℕ). StandsRoot hook_meaning hook_codec h r (Mask m)) (omega arith) at_root)
       slot_apart (inr in_) = are.masks.have_left in_.0 s in_.1 0 (omega arith) (Mask m) (subst (λ (r : ℕ). StandsRoot hook_meaning hook_codec h r (Mask m)) (omega arith) at_root)
 
       row_apart : (at_row : ℕ) → IsIn at_row it.kept.mask.rows → IsInPool at_row pools.rows → ⊥
@@ -259,15 +260,15 @@ module _ (h : List (Commit Edit)) (b : ℕ) (y : Edit) (hook : Hook) (built : Li
           role : Role
           role = Bucket (region_of s it.kept.mask.serial (root_of h (places.mask_root s)).stamp (mask_record it.kept.mask)) (16 * own.0)
 
-          is_row : bucket_root it.kept.mask (16 * own.0) ≡ 10243 + 16 * at_row + 0
+          is_row : bucket_root it.kept.mask (16 * own.0) ≡ BUCKET_ROOTS + ROW_BUCKETS * at_row + 0
           is_row = let place : own.0 ≡ 16 * own.0 / 16 = omega arith in let same = get_or_from_slice_get it.kept.mask.rows (16 * own.0 / 16) at_row 0 (subst (λ (n : ℕ). slice_get it.kept.mask.rows n ≡ Some at_row) place own.1) in omega (arith, same)
 
-          there : StandsRoot hook_meaning hook_codec h (10243 + 16 * at_row + 0) role
+          there : StandsRoot hook_meaning hook_codec h (BUCKET_ROOTS + ROW_BUCKETS * at_row + 0) role
           there = subst (λ (r : ℕ). StandsRoot hook_meaning hook_codec h r role) is_row
               (bucket_stood masks shape cells h has.named s (16 * own.0) it.kept it.stands here (let inside = slice_get_within it.kept.mask.rows own.0 at_row own.1 in let count = its_rows in omega (arith, inside, count)))
 
           by : IsInPool at_row pools.rows → ⊥
-          by (inl x) = unused_end hook_meaning hook_codec h b (10243 + 16 * at_row + 0) role low (are.rows.may_be_given x.0 at_row x.1 0 (omega arith)) there
+          by (inl x) = unused_end hook_meaning hook_codec h b (BUCKET_ROOTS + ROW_BUCKETS * at_row + 0) role low (are.rows.may_be_given x.0 at_row x.1 0 (omega arith)) there
           by (inr x) = are.rows.have_left x.0 at_row x.1 0 (omega arith) role there
 
       its_size : it.kept.mask.size ≡ size_of (count_of (now h) m)

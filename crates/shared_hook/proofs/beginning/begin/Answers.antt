@@ -10,7 +10,7 @@ use Rattle.desk_parts.specs.declared.parts.Parts.{Parts}
 use Rattle.desk_parts.specs.Desk.{IsDesk}
 use Rattle.desk_needs.proofs.OfRoom.Lines.{few_made}
 use Rattle.shared_hook.specs.Begun.{IsBegun}
-use Rattle.shared_hook.proofs.Beginnings.{roomier_desk, accepted_of, no_memory}
+use Rattle.shared_hook.proofs.Beginnings.{roomier_desk, accepted_of, wants_memory}
 use Rattle.shared_hook.proofs.beginning.begin.Goals as goal
 
 pub of-requires-clause-accepted : goal.of-requires-clause-accepted
@@ -22,7 +22,7 @@ returns-in-Err-clause-desk c = subst IsDesk (sym c.in-Err.ensures.same) (roomier
 
 pub returns-in-Err-clause-refused : goal.returns-in-Err-clause-refused
 returns-in-Err-clause-refused c = λ refusal is. let same : c.from.result ≡ refusal = cc is in let told = c.in_ok-prepared.ensures in
-    no_memory c.in_ok-prepared.prepared refusal _ (told.prepared (now (commits c.args.parts.now.ledger)) c.requires.desk.whole.spells) (sym same ∙ c.from.ensures)
+    wants_memory c.in_ok-prepared.prepared refusal _ (told.prepared (now (commits c.args.parts.now.ledger)) c.requires.desk.whole.spells) (sym same ∙ c.from.ensures)
 
 pub needs-needs-requires-clause-few : goal.needs-needs-requires-clause-few
 needs-needs-requires-clause-few c = let was = c.args.parts.now in let told = c.in_ok-prepared.ensures in

@@ -10,8 +10,8 @@ use Rattle.filter_state.specs.declared.edit.Edit.{Edit}
 use Rattle.filter_state.specs.declared.edit.FilterLine.{FilterLine}
 use Rattle.filter_state.specs.declared.refusal.Done.{Done}
 use Rattle.filter_lists.specs.Spells.{Spells}
-use Rattle.block_codec.specs.declared.places.TheConstants.{ROW_BUCKETS}
-use Rattle.hook_meaning.specs.OfEffects.Parts.{words_of}
+use Rattle.store_history.specs.declared.places.TheConstants.{ROW_BUCKETS}
+use Rattle.hook_store_law.specs.OfEffects.Parts.{words_of}
 use Rattle.mask_table.specs.declared.mirrors.mirror.KeptMask.{KeptMask}
 use Rattle.mask_table.specs.OfMirrors.Forgetting.{bucket_blocks}
 use Rattle.mask_writer.specs.Masks.{Masks}
@@ -20,8 +20,8 @@ use Rattle.hook_law.specs.Places.{mask_root, bucket_root}
 use Rattle.hook_law.specs.Meaning.{point_of}
 use Rattle.hook_law.specs.Standing.{IsIn, IsMaskAt}
 use Rattle.hook_law.specs.Keeping.{IsAtRest}
-use Rattle.hook_meaning.specs.Stated.{hook_meaning}
-use Rattle.hook_meaning.specs.Blocks.{hook_codec}
+use Rattle.hook_store_law.specs.Stated.{hook_meaning}
+use Rattle.hook_store_law.specs.Blocks.{hook_codec}
 use Rattle.hook_store_law.specs.Kept.{KeepsHook}
 use Rattle.hook_store_law.specs.OfEdits.Premises.{now, next}
 use Rattle.desk_heads.specs.OfHeadCommits.Raised.{IsReady}

@@ -22,8 +22,8 @@ use Rattle.hook_law.specs.Records.{StatedFilter}
 use Rattle.hook_law.specs.Meaning.{IsLive}
 use Rattle.hook_law.specs.Standing.{IsSlotOf}
 use Rattle.hook_law.specs.Keeping.{Keeps}
-use Rattle.hook_meaning.specs.Stated.{hook_meaning, tables_at, filters_at}
-use Rattle.hook_meaning.specs.Blocks.{hook_codec}
+use Rattle.hook_store_law.specs.Stated.{hook_meaning, tables_at, filters_at}
+use Rattle.hook_store_law.specs.Blocks.{hook_codec}
 use Rattle.desk_heads.specs.OfHeadCommits.Listed.{HasSerial}
 use Rattle.desk_actions.specs.Places.{Placed, slot_of}
 use Rattle.desk_parts.specs.OfFilterNames.Named.{named}

@@ -4,8 +4,8 @@ ghost use Rattle.visit_room.specs.declared.names.MaskName.{MaskName};
 ghost use Rattle.pin_store.specs.Calls.{IsSeatOf};
 ghost use Rattle.flow_mask.specs.Sizes.{size_of};
 ghost use Rattle.filter_state.specs.declared.limits.TheConstants.{FILTERS_MAX};
-ghost use Rattle.block_codec.specs.declared.places.TheConstants.{ROW_BUCKETS};
-ghost use Rattle.hook_meaning.specs.OfEffects.Parts.{words_of as words_in};
+ghost use Rattle.store_history.specs.declared.places.TheConstants.{ROW_BUCKETS};
+ghost use Rattle.hook_store_law.specs.OfEffects.Parts.{words_of as words_in};
 ghost use Rattle.mask_order.specs.Fitting.{FitsBlock};
 ghost use Rattle.hook_store_law.specs.OfEdits.Premises.{next};
 ghost use Rattle.desk_heads.specs.OfHeadCommits.Raised.{stored_next};
@@ -17,7 +17,6 @@ ghost use Rattle.shared_hook.specs.OfDeskEdits.OfMoves.Raises.{IsRaising};
 
 use crate::desk_edits::{Room, take_for_mask};
 use block_codec::StoredMask;
-use block_codec::places::ROW_BUCKETS;
 use desk_heads::moves::build_mask;
 use desk_parts::Parts;
 use filter_lists::Edit;
@@ -27,6 +26,7 @@ use hook_store_law::HookStore;
 use mask_build::rows_of;
 use mask_table::mirrors::StoredFilters;
 use store_history::EditName;
+use store_history::places::ROW_BUCKETS;
 
 // The words of a key: there are fourteen.
 fn words_of(key: &Key<14>) -> &[u64]

@@ -4,7 +4,7 @@ ghost use Rattle.visit_room.specs.declared.names.MaskName.{MaskName as Name};
 ghost use Rattle.pin_store.specs.Calls.{IsSeatOf};
 ghost use Rattle.filter_state.specs.declared.limits.TheConstants.{FILTERS_MAX};
 ghost use Rattle.miniq_pair.specs.Heads.{hook_number};
-ghost use Rattle.hook_meaning.specs.Stated.{tables_at};
+ghost use Rattle.hook_store_law.specs.Stated.{tables_at};
 ghost use Rattle.hook_store_law.specs.OfEdits.Premises.{next};
 ghost use Rattle.desk_heads.specs.OfHeadCommits.Listed.{HasSerial};
 ghost use Rattle.desk_needs.specs.OfEditNeeds.Told.{laid, laid_rows, laid_masks};

@@ -7,8 +7,8 @@ ghost use Rattle.filter_state.specs.States.{State};
 ghost use Rattle.filter_tables.specs.SeenMask.{plain_mask};
 ghost use Rattle.miniq_pair.specs.Heads.{hook_number};
 ghost use Rattle.mask_order.specs.Fitting.{FitsBlock};
-ghost use Rattle.hook_meaning.specs.Stated.{tables_at, filters_at};
-ghost use Rattle.hook_meaning.specs.Told.{with_slots};
+ghost use Rattle.hook_store_law.specs.Stated.{tables_at, filters_at};
+ghost use Rattle.hook_store_law.specs.Told.{with_slots};
 ghost use Rattle.desk_heads.specs.OfHeadCommits.Listed.{HasSerial};
 ghost use Rattle.shared_hook.specs.OfDeskEdits.OfMoves.Tells.{stored_at, CanBeTold, IsAnsweredMask, CanTell};
 

@@ -1,7 +1,7 @@
 use Rattle.std.proofs.Common.{◌==◌, sym, eqb-true, eq-eqb}
-use Rattle.hook_meaning.specs.OfEffects.Parts.{params_at}
+use Rattle.edit_effects.specs.OfEffects.Parts.{params_at}
 use Rattle.slot_pasts.specs.Pasts.{stood}
-use Rattle.state_past.specs.Serials.{past_at}
+use Rattle.slot_pasts.specs.Serials.{past_at}
 use Rattle.state_past.proofs.Bringing.{on_ok, brought_put}
 use Rattle.state_past.proofs.actions.note_action.Goals as goal
 

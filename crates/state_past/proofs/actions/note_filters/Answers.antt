@@ -1,10 +1,10 @@
 use Rattle.std.proofs.Common.{ℕ, List, sym, ap, subst, arith}
-use Rattle.hook_meaning.specs.OfEffects.Parts.{params_at}
+use Rattle.edit_effects.specs.OfEffects.Parts.{params_at}
 use Rattle.slot_pasts.specs.Pasts.{stood}
 use Rattle.state_past_laws.specs.OfChanges.Among.{Has}
 use Rattle.state_past_laws.proofs.OfChanges.Among.{has_flat_map}
 use Rattle.state_past.specs.declared.gone_filters.going.GoingFilter.{GoingFilter}
-use Rattle.state_past.specs.Serials.{past_at}
+use Rattle.slot_pasts.specs.Serials.{past_at}
 use Rattle.state_past.specs.Told.{actions_of_all}
 use Rattle.state_past.proofs.Bringing.{numbers, brought_then, brought_keys, flat_more, take_whole, has_at, still_live}
 use Rattle.state_past.proofs.actions.note_filters.Goals as goal

@@ -4,9 +4,10 @@ use Rattle.act_registry.specs.Kept as registries
 use Rattle.filter_state.specs.States.{State}
 use Rattle.hook_lists.specs.States.{state_of}
 use Rattle.state_laws.proofs.OfOrder.States.{same_state_refl}
-use Rattle.hook_meaning.specs.OfEffects.Parts.{params_at}
+use Rattle.edit_effects.specs.OfEffects.Parts.{params_at}
 use Rattle.slot_pasts.specs.Pasts.{stood}
-use Rattle.state_past.specs.Serials.{past_at, serials_from}
+use Rattle.slot_pasts.specs.Serials.{past_at}
+use Rattle.state_past.specs.Serials.{serials_from}
 use Rattle.state_past.proofs.Bringing.{numbers, brought_up_to, brought_then, brought_keys}
 use Rattle.state_past.proofs.actions.note_made.Goals as goal
 

@@ -1,9 +1,10 @@
 use Rattle.std.proofs.Common.{◌+◌, ◌-◌, ◌≤◌}
 use Rattle.filter_state.specs.States.{State}
 use Rattle.filter_lists.specs.Spells.{Spells}
-use Rattle.hook_meaning.specs.OfEffects.Parts.{params_at}
+use Rattle.edit_effects.specs.OfEffects.Parts.{params_at}
 use Rattle.slot_pasts.specs.Pasts.{stood}
-use Rattle.state_past.specs.Serials.{past_at, serials_from}
+use Rattle.slot_pasts.specs.Serials.{past_at}
+use Rattle.state_past.specs.Serials.{serials_from}
 use Rattle.state_past.specs.Brought.{Brought, AllUpTo}
 use Rattle.state_past.proofs.actions.note_made.Given as goal
 

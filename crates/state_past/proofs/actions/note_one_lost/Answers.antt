@@ -2,9 +2,9 @@ use Rattle.std.proofs.Common.{◌∙◌, refl, sym, inl}
 use Rattle.filter_state.specs.States.{State}
 use Rattle.hook_lists.specs.States.{state_of}
 use Rattle.state_laws.proofs.OfOrder.States.{same_state_refl}
-use Rattle.hook_meaning.specs.OfEffects.Parts.{params_at}
+use Rattle.edit_effects.specs.OfEffects.Parts.{params_at}
 use Rattle.slot_pasts.specs.Pasts.{stood}
-use Rattle.state_past.specs.Serials.{past_at}
+use Rattle.slot_pasts.specs.Serials.{past_at}
 use Rattle.state_past.proofs.Bringing.{on_ok, brought_up_to, brought_still}
 use Rattle.state_past.proofs.actions.note_one_lost.Goals as goal
 

@@ -3,7 +3,7 @@ use Rattle.filter_state.specs.States.{State}
 use Rattle.hook_lists.specs.States.{state_of}
 use Rattle.state_laws.proofs.OfOrder.States.{same_state_refl}
 use Rattle.state_past.specs.declared.gone_filters.going.GoingFilter.{GoingFilter}
-use Rattle.state_past.specs.Serials.{past_at}
+use Rattle.slot_pasts.specs.Serials.{past_at}
 use Rattle.state_past.specs.Told.{words_told, words_left, masks_of}
 use Rattle.state_past.proofs.Bringing.{numbers, brought_up_to, brought_then, brought_keys, brought_value, map_more, take_whole, has_at}
 use Rattle.state_past.proofs.masks.note_masks.Goals as goal

@@ -1,7 +1,7 @@
 use Rattle.std.proofs.Common.{ℕ, List, take}
 use Rattle.filter_state.specs.States.{State}
 use Rattle.filter_lists.specs.Spells.{Spells}
-use Rattle.state_past.specs.Serials.{past_at}
+use Rattle.slot_pasts.specs.Serials.{past_at}
 use Rattle.state_past.specs.Brought.{Brought, AllUpTo}
 use Rattle.state_past.specs.Told.{masks_of, AreLeft, words_told}
 use Rattle.state_past.proofs.masks.note_masks.Given as goal

@@ -1,5 +1,5 @@
 use Rattle.std.proofs.Common.{◌∙◌, ◌==◌, Some, refl, sym, ap, eqb-true, eq-eqb}
-use Rattle.state_past.specs.Serials.{past_at}
+use Rattle.slot_pasts.specs.Serials.{past_at}
 use Rattle.state_past.specs.Told.{words_told, words_or_none}
 use Rattle.state_past.proofs.Bringing.{on_ok, brought_put, brought_still}
 use Rattle.state_past.proofs.masks.put_words.Goals as goal

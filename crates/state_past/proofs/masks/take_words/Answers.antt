@@ -1,5 +1,5 @@
 use Rattle.std.proofs.Common.{[], ◌==◌, None, refl, sym, eqb-true, eq-eqb}
-use Rattle.state_past.specs.Serials.{past_at}
+use Rattle.slot_pasts.specs.Serials.{past_at}
 use Rattle.state_past.specs.Told.{words_told}
 use Rattle.state_past.proofs.Bringing.{on_ok, brought_put}
 use Rattle.state_past.proofs.masks.take_words.Goals as goal

@@ -28,7 +28,7 @@ loop-word-preserved c =
           (sym (ap (went c.step.new.draft c.step.new.stage) c.if-not-branch.false) ∙ c.in_ok-step.ensures);
       left = left_more words c.loop-word.count word more first;
       within = left_within words c.loop-word.count word more first;
-      few = omega arith;
+      few = omega (arith, c.in_ok-check_room.ensures.ok);
     }
 
 pub returns-in-Some-2-clause-line : goal.returns-in-Some-2-clause-line

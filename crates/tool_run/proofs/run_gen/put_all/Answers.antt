@@ -1,4 +1,7 @@
+use Rattle.std.proofs.Common.{[], ◌∷◌, ◌++◌}
+use Rattle.std.specs.Prelude.{codes}
 use Rattle.std.proofs.lemmas.Result.{on_ok_weaker}
+use Rattle.tool_run.proofs.Asking.{asks_some, one_put, two_put, three_put, four_put}
 use Rattle.tool_run.proofs.Making.{FilesPut, batch_put, capture_put, job_put, output_put, capture_not_put, job_not_put, output_not_put}
 use Rattle.tool_run.proofs.run_gen.put_all.Given as given
 use Rattle.tool_run.proofs.run_gen.put_all.Goals as goal
@@ -58,3 +61,33 @@ returns-clause-up_to g c =
     output_not_put c.args.front.now c.args.made.now _ _ _
     (job g at.In_ok-put_file-3 (capture g at.In_ok-put_file-2 (batch g at.In_ok-put_file)))
     c.put_file-4.ensures.others
+
+pub returns-in_err-put_file-clause-put_names : goal.returns-in_err-put_file-clause-put_names
+returns-in_err-put_file-clause-put_names g c =
+    one_put (g.S.Shelf.put_names c.args.shelf.now) (g.S.Shelf.put_names c.put_file.new.shelf)
+    (c.args.front.now ++ codes ".tc") (c.args.front.now ++ codes ".pcap")
+    (c.args.front.now ++ codes ".job") (c.args.front.now ++ codes ".out.pcap") c.in_err-put_file.ensures.put_names
+
+pub returns-in_err-put_file-2-clause-put_names : goal.returns-in_err-put_file-2-clause-put_names
+returns-in_err-put_file-2-clause-put_names g c =
+    two_put (g.S.Shelf.put_names c.args.shelf.now) (g.S.Shelf.put_names c.put_file.new.shelf) (g.S.Shelf.put_names c.put_file-2.new.shelf)
+    (c.args.front.now ++ codes ".tc") (c.args.front.now ++ codes ".pcap")
+    (c.args.front.now ++ codes ".job") (c.args.front.now ++ codes ".out.pcap")
+    c.in_ok-put_file.ensures.put_names c.in_err-put_file-2.ensures.put_names
+
+pub returns-in_err-put_file-3-clause-put_names : goal.returns-in_err-put_file-3-clause-put_names
+returns-in_err-put_file-3-clause-put_names g c =
+    three_put (g.S.Shelf.put_names c.args.shelf.now) (g.S.Shelf.put_names c.put_file.new.shelf) (g.S.Shelf.put_names c.put_file-2.new.shelf)
+    (g.S.Shelf.put_names c.put_file-3.new.shelf)
+    (c.args.front.now ++ codes ".tc") (c.args.front.now ++ codes ".pcap")
+    (c.args.front.now ++ codes ".job") (c.args.front.now ++ codes ".out.pcap")
+    c.in_ok-put_file.ensures.put_names c.in_ok-put_file-2.ensures.put_names c.in_err-put_file-3.ensures.put_names
+
+pub returns-clause-put_names : goal.returns-clause-put_names
+returns-clause-put_names g c =
+    four_put (g.S.Shelf.put_names c.args.shelf.now) (g.S.Shelf.put_names c.put_file.new.shelf) (g.S.Shelf.put_names c.put_file-2.new.shelf)
+    (g.S.Shelf.put_names c.put_file-3.new.shelf) (g.S.Shelf.put_names c.put_file-4.new.shelf)
+    (c.args.front.now ++ codes ".tc") (c.args.front.now ++ codes ".pcap")
+    (c.args.front.now ++ codes ".job") (c.args.front.now ++ codes ".out.pcap")
+    c.in_ok-put_file.ensures.put_names c.in_ok-put_file-2.ensures.put_names c.in_ok-put_file-3.ensures.put_names
+    (asks_some (g.S.Shelf.put_names c.put_file-3.new.shelf) (g.S.Shelf.put_names c.put_file-4.new.shelf) ((c.args.front.now ++ codes ".out.pcap") ∷ []) c.put_file-4.result c.put_file-4.ensures.put_names)

@@ -2,6 +2,7 @@ use Rattle.std.proofs.Common.{◌∙◌, ℕ, List, Err, inr, sym, ap, subst}
 use Rattle.std.proofs.lemmas.Result.{err_from_is_err_and}
 use Rattle.tool_words.specs.Command.{Show}
 use Rattle.job_files.specs.OfInputs.Holdings.{Holds}
+use Rattle.tool_run.proofs.Asking.{one_done}
 use Rattle.tool_run.proofs.Writing.{put_caused, show_ends}
 use Rattle.tool_run.proofs.run_show.run_show.Goals as goal
 
@@ -21,3 +22,18 @@ returns-in_err-write_text-clause-cause g c =
     c.write_text.new.out
     (Show c.args.name.now) put ends (λ failed. inr
     (c.write_text.ensures.cause (c.in_err-write_text.was ∙ ap Err failed))))
+
+pub returns-in_err-shown-clause-fetched : goal.returns-in_err-shown-clause-fetched
+returns-in_err-shown-clause-fetched g c =
+    one_done (g.S.Shelf.fetched c.args.shelf.now) (g.S.Shelf.fetched c.load.new.shelf) c.args.name.now
+    c.in_ok-bytes.ensures.fetched
+
+pub returns-in_err-write_text-clause-fetched : goal.returns-in_err-write_text-clause-fetched
+returns-in_err-write_text-clause-fetched g c =
+    one_done (g.S.Shelf.fetched c.args.shelf.now) (g.S.Shelf.fetched c.load.new.shelf) c.args.name.now
+    c.in_ok-bytes.ensures.fetched
+
+pub returns-clause-fetched : goal.returns-clause-fetched
+returns-clause-fetched g c =
+    one_done (g.S.Shelf.fetched c.args.shelf.now) (g.S.Shelf.fetched c.load.new.shelf) c.args.name.now
+    c.in_ok-bytes.ensures.fetched

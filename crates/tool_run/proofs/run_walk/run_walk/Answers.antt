@@ -1,6 +1,6 @@
-use Rattle.std.proofs.Common.{◌∙◌, ℕ, List, Option, sym, ap, subst}
+use Rattle.std.proofs.Common.{◌∙◌, ℕ, List, [], ◌∷◌, Option, sym, ap, subst}
 use Rattle.std.proofs.lemmas.Result.{err_from_is_err_and}
-use Rattle.tc_base.specs.Outside.{Held}
+use Rattle.tc_base.specs.Outside.{Held, Asked, AppendsUpTo}
 use Rattle.tc_base.specs.Pieces.{joined}
 use Rattle.walk_ends.specs.declared.limits.TheConstants.{PACKETS_MAX}
 use Rattle.batch_run.specs.Commands.{commands_in}
@@ -9,6 +9,7 @@ use Rattle.tool_words.specs.Requests.{names_seen, walk_of}
 use Rattle.tool_words.specs.Ends.{status_after}
 use Rattle.job_files.specs.OfInputs.Holdings.{Holds, HasCapture}
 use Rattle.tool_run.specs.Holdings.{Gives}
+use Rattle.tool_run.proofs.Asking.{first_asked, first_done, second_asked, second_done}
 use Rattle.tool_run.proofs.Walking.{walk_gives, walked_so_far}
 use Rattle.tool_run.proofs.Writing.{walk_ends, delivery_caused}
 use Rattle.tool_run.proofs.run_walk.run_walk.Given as given
@@ -58,3 +59,35 @@ returns-clause-so_far g c =
     walked_so_far _ (g.S.Shelf.held c.load_capture.new.shelf) _ _ _ c.args.hook
     (names_seen c.args.names.now) _ _ _ (gives g at.In_ok-walk)
     (c.load_capture.ensures.held ∙ c.load.ensures.held) c.deliver.ensures.others c.deliver.ensures.front
+
+pub returns-in_err-bytes-clause-fetched : goal.returns-in_err-bytes-clause-fetched
+returns-in_err-bytes-clause-fetched g c =
+    first_asked (g.S.Shelf.fetched c.args.shelf.now) (g.S.Shelf.fetched c.load.new.shelf) c.args.names.now.batch.now c.args.names.now.capture.now c.in_err-bytes.ensures.fetched
+
+pub returns-in_err-texts-clause-fetched : goal.returns-in_err-texts-clause-fetched
+returns-in_err-texts-clause-fetched g c =
+    first_done (g.S.Shelf.fetched c.args.shelf.now) (g.S.Shelf.fetched c.load.new.shelf) c.args.names.now.batch.now c.args.names.now.capture.now c.in_ok-bytes.ensures.fetched
+
+pub returns-in_err-capture-clause-fetched : goal.returns-in_err-capture-clause-fetched
+returns-in_err-capture-clause-fetched g c =
+    second_asked (g.S.Shelf.fetched c.args.shelf.now) (g.S.Shelf.fetched c.load.new.shelf) (g.S.Shelf.fetched c.load_capture.new.shelf) c.args.names.now.batch.now c.args.names.now.capture.now
+    c.in_ok-bytes.ensures.fetched c.in_err-capture.ensures.fetched
+
+pub returns-in_err-walk-clause-fetched : goal.returns-in_err-walk-clause-fetched
+returns-in_err-walk-clause-fetched g c =
+    second_done (g.S.Shelf.fetched c.args.shelf.now) (g.S.Shelf.fetched c.load.new.shelf) (g.S.Shelf.fetched c.load_capture.new.shelf) c.args.names.now.batch.now c.args.names.now.capture.now
+    c.in_ok-bytes.ensures.fetched c.in_ok-capture.ensures.fetched
+
+pub returns-in_err-deliver-clause-fetched : goal.returns-in_err-deliver-clause-fetched
+returns-in_err-deliver-clause-fetched g c =
+    subst (λ (new : Asked). AppendsUpTo (g.S.Shelf.fetched c.args.shelf.now) new
+    (c.args.names.now.batch.now ∷ c.args.names.now.capture.now ∷ [])) (sym c.deliver.ensures.fetched)
+    (second_done (g.S.Shelf.fetched c.args.shelf.now) (g.S.Shelf.fetched c.load.new.shelf) (g.S.Shelf.fetched c.load_capture.new.shelf) c.args.names.now.batch.now c.args.names.now.capture.now
+    c.in_ok-bytes.ensures.fetched c.in_ok-capture.ensures.fetched)
+
+pub returns-clause-fetched : goal.returns-clause-fetched
+returns-clause-fetched g c =
+    subst (λ (new : Asked). AppendsUpTo (g.S.Shelf.fetched c.args.shelf.now) new
+    (c.args.names.now.batch.now ∷ c.args.names.now.capture.now ∷ [])) (sym c.deliver.ensures.fetched)
+    (second_done (g.S.Shelf.fetched c.args.shelf.now) (g.S.Shelf.fetched c.load.new.shelf) (g.S.Shelf.fetched c.load_capture.new.shelf) c.args.names.now.batch.now c.args.names.now.capture.now
+    c.in_ok-bytes.ensures.fetched c.in_ok-capture.ensures.fetched)

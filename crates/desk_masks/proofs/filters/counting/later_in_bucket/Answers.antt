@@ -1,6 +1,6 @@
 use Rattle.std.proofs.Common.{sym, subst}
 use Rattle.store_history.specs.History.{root_of}
-use Rattle.hook_meaning.specs.Stated.{filters_at}
+use Rattle.hook_store_law.specs.Stated.{filters_at}
 use Rattle.hook_store_law.specs.OfEdits.Premises.{now}
 use Rattle.desk_masks.specs.OfFilterCommits.Edits.{HasLater}
 use Rattle.desk_masks.proofs.OfFilterCommits.Locating.{at_slot, later_there, found_later}

@@ -3,7 +3,7 @@ use Rattle.flow_mask.specs.Hashes.{hash_of}
 use Rattle.filter_state.specs.States.{State}
 use Rattle.hook_law.specs.Records.{StatedFilter}
 use Rattle.hook_law.specs.Chains.{bucket_of}
-use Rattle.hook_meaning.specs.Stated.{filters_at}
+use Rattle.hook_store_law.specs.Stated.{filters_at}
 use Rattle.hook_store_law.specs.OfEdits.Premises.{now}
 use Rattle.hook_store_law.proofs.OfEdits.OneMask.{swaps_after, loses_after}
 use Rattle.desk_masks.specs.OfFilterCommits.Edits.{HasLater}

@@ -6,8 +6,8 @@ use Rattle.pin_store.specs.Calls.{seen_by, sheet_of}
 use Rattle.filter_state.specs.declared.edit.Edit.{Edit}
 use Rattle.mask_table.proofs.OfMirrors.Keeping.{same_base}
 use Rattle.hook_law.specs.Standing.{Region, Stands}
-use Rattle.hook_meaning.specs.Stated.{hook_meaning}
-use Rattle.hook_meaning.specs.Blocks.{hook_codec}
+use Rattle.hook_store_law.specs.Stated.{hook_meaning}
+use Rattle.hook_store_law.specs.Blocks.{hook_codec}
 use Rattle.desk_masks.specs.Masks.{HasMasks}
 use Rattle.desk_masks.proofs.OfFilterCommits.Rewriting.{rewrite_lawful}
 use Rattle.desk_masks.proofs.OfFilterCommits.After.{after_lawful, after_journal, after_rests_but, after_rests, after_pools}

@@ -1,6 +1,7 @@
 use Rattle.std.proofs.Common.{◌≡◌, ◌∙◌, ℕ, List, get_or, sym, ap, subst, arith, length}
 use Rattle.store_history.specs.declared.history.Commit.{Commit}
 use Rattle.store_history.specs.History.{root_of, edits_of}
+use Rattle.store_history.specs.declared.places.TheConstants.{ROWS, ROW_BUCKETS, BUCKET_ROOTS, POOL_BLOCKS}
 use Rattle.pin_store.specs.Sheets.{base_of}
 use Rattle.pin_store.specs.Calls.{seen_by, sheet_of}
 use Rattle.filter_state.specs.declared.edit.Edit.{Edit}
@@ -8,8 +9,8 @@ use Rattle.mask_writer.specs.Standing.{AreNamed}
 use Rattle.desk_masks.specs.OfMaskResizes.Resized.{stored_now}
 use Rattle.hook_law.specs.Meaning.{point_of}
 use Rattle.hook_law.specs.Keeping.{IsAtRest}
-use Rattle.hook_meaning.specs.Stated.{hook_meaning}
-use Rattle.hook_meaning.specs.Blocks.{hook_codec}
+use Rattle.hook_store_law.specs.Stated.{hook_meaning}
+use Rattle.hook_store_law.specs.Blocks.{hook_codec}
 use Rattle.hook_store_law.specs.Kept.{IsKeptAt}
 use Rattle.desk_masks.specs.Masks.{HasMasks}
 use Rattle.desk_masks.specs.OfResizes.Refit.{GoesOn}
@@ -108,15 +109,15 @@ returns-clause-rows_leave g c = let old = c.args.writer.now in let h = seen_by o
     let blocks = c.args.given.now.blocks in let rows = c.args.given.now.rows in
     let new = seen_by c.resize.new.writer.place in let blk = its_block masks shape cells h b c.args.point c.args.slot c.args.size blocks rows m in let seen = seen_as masks shape cells h b c.args.point c.args.slot c.args.size blocks rows m new c.resize.ensures.seen in
     let left = c.resize.ensures.left m.kept m.stands in
-    λ pools p out. subst (λ (l : List ℕ). MayLeave 8192 (IsLeftAt new 10243 16) pools.rows l) (sym left.1) (subst (λ (z : List (Commit Edit)). MayLeave 8192 (IsLeftAt z 10243 16) pools.rows m.kept.mask.rows) (sym seen) (rows_leave_seen masks shape cells h b c.args.point c.args.slot c.args.size blocks rows m pools p out.rows_out out.blocks_out))
+    λ pools p out. subst (λ (l : List ℕ). MayLeave ROWS (IsLeftAt new BUCKET_ROOTS ROW_BUCKETS) pools.rows l) (sym left.1) (subst (λ (z : List (Commit Edit)). MayLeave ROWS (IsLeftAt z BUCKET_ROOTS ROW_BUCKETS) pools.rows m.kept.mask.rows) (sym seen) (rows_leave_seen masks shape cells h b c.args.point c.args.slot c.args.size blocks rows m pools p out.rows_out out.blocks_out))
 
 pub returns-clause-blocks_leave : goal.returns-clause-blocks_leave
 returns-clause-blocks_leave g c = let old = c.args.writer.now in let h = seen_by old.place in let b = base_of (sheet_of old.place) in let m = c.requires.may in let masks = c.args.masks.now in let shape = c.args.store.now.shape in let cells = (sheet_of old.place).cells in
     let blocks = c.args.given.now.blocks in let rows = c.args.given.now.rows in
     let new = seen_by c.resize.new.writer.place in let blk = its_block masks shape cells h b c.args.point c.args.slot c.args.size blocks rows m in let seen = seen_as masks shape cells h b c.args.point c.args.slot c.args.size blocks rows m new c.resize.ensures.seen in
     let left = c.resize.ensures.left m.kept m.stands in
-    λ pools gone p out rows_gone. subst (λ (l : List ℕ). MayLeave 16384 (IsLeft (gone_roots gone) new) pools.blocks l) (sym left.0)
-    (subst (λ (z : List (Commit Edit)). MayLeave 16384 (IsLeft (gone_roots gone) z) pools.blocks (leaving masks shape cells h b c.args.point c.args.slot c.args.size blocks rows m pools p out.rows_out out.blocks_out)) (sym seen)
+    λ pools gone p out rows_gone. subst (λ (l : List ℕ). MayLeave POOL_BLOCKS (IsLeft (gone_roots gone) new) pools.blocks l) (sym left.0)
+    (subst (λ (z : List (Commit Edit)). MayLeave POOL_BLOCKS (IsLeft (gone_roots gone) z) pools.blocks (leaving masks shape cells h b c.args.point c.args.slot c.args.size blocks rows m pools p out.rows_out out.blocks_out)) (sym seen)
     (blocks_leave_seen masks shape cells h b c.args.point c.args.slot c.args.size blocks rows m pools p out.rows_out out.blocks_out gone (λ row at. rows_gone row (subst (IsIn row) (sym left.1) at))))
 
 pub returns-clause-count : goal.returns-clause-count

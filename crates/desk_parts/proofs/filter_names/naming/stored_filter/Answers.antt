@@ -1,5 +1,6 @@
 use Rattle.std.proofs.Common.{◌≡◌, ◌∙◌, ◌≤◌, List, ℕ, length, sym, ap, subst}
 use Rattle.std.specs.Prelude.{All}
+use Rattle.act_registry.specs.declared.limits.TheConstants.{MADE_MAX}
 use Rattle.filter_state.specs.declared.refusal.Done.{Done}
 use Rattle.filter_state.specs.declared.refusal.Done.TheVariants as dones
 use Rattle.block_codec.specs.declared.filter.StoredFilter.{StoredFilter}
@@ -23,7 +24,7 @@ names_of-requires-clause-few c = let t = c.requires.stands in let f = c.in-Filte
 pub names_of-requires-clause-made : goal.names_of-requires-clause-made
 names_of-requires-clause-made c = let t = c.requires.stands in let f = c.in-Filter in
     let same = same_serials f.pref f.handle t.2 t.3 f.serials t.4 c.args.done.now f.is t.5 in
-    subst (λ (l : List ℕ). All (λ a. a ≤ 16384) l) (sym (c.as_slice.ensures ∙ same)) (made_serials t.0 t.1 c.args.places.now c.args.line.now t.3 t.4 t.6)
+    subst (λ (l : List ℕ). All (λ a. a ≤ MADE_MAX) l) (sym (c.as_slice.ensures ∙ same)) (made_serials t.0 t.1 c.args.places.now c.args.line.now t.3 t.4 t.6)
 
 pub returns : goal.returns
 returns c = record {

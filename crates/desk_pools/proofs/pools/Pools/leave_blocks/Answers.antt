@@ -1,4 +1,5 @@
 use Rattle.std.proofs.Common.{◌≡◌, ℕ, List, [], ◌∷◌, ◌++◌, sym, ap, subst}
+use Rattle.store_history.specs.declared.places.TheConstants.{POOL_BLOCKS}
 use Rattle.hook_law.specs.Standing.{IsIn}
 use Rattle.pin_store.specs.Calls.{IsUnnamed}
 use Rattle.root_pool_laws.specs.Blocks.{IsLeft}
@@ -10,4 +11,4 @@ use Rattle.desk_pools.proofs.pools.Pools.leave_blocks.Goals as goal
 
 pub returns-clause-pools : goal.returns-clause-pools
 returns-clause-pools c = λ h b p m. let old = c.args.self.now in let now = c.leave_some.new.self in
-    blocks_now old h b p now (pool_left_some 16384 (IsUnnamed b h) (IsLeft (gone_roots old) h) old.blocks now c.args.blocks.now p.blocks c.leave_some.ensures.free c.leave_some.ensures.left m)
+    blocks_now old h b p now (pool_left_some POOL_BLOCKS (IsUnnamed b h) (IsLeft (gone_roots old) h) old.blocks now c.args.blocks.now p.blocks c.leave_some.ensures.free c.leave_some.ensures.left m)

@@ -1,4 +1,5 @@
 use Rattle.std.proofs.Common.{◌≡◌, ℕ, List, [], ◌∷◌, ◌++◌, sym, ap, subst}
+use Rattle.store_history.specs.declared.places.TheConstants.{ROWS, ROW_BUCKETS, BUCKET_ROOTS}
 use Rattle.hook_law.specs.Standing.{IsIn}
 use Rattle.pin_store.specs.Calls.{IsUnnamed}
 use Rattle.root_pool_laws.specs.Blocks.{IsLeft}
@@ -10,4 +11,4 @@ use Rattle.desk_pools.proofs.pools.Pools.leave_rows.Goals as goal
 
 pub returns-clause-pools : goal.returns-clause-pools
 returns-clause-pools c = λ h b p m. let old = c.args.self.now in let now = c.leave_some.new.self in
-    rows_now old h b p now (λ x at. subst (IsIn x) (sym c.leave_some.ensures.left) (in_left old.rows.left c.args.rows.now x at)) (pool_left_some 8192 (IsFreeAt h b 10243 16) (IsLeftAt h 10243 16) old.rows now c.args.rows.now p.rows c.leave_some.ensures.free c.leave_some.ensures.left m)
+    rows_now old h b p now (λ x at. subst (IsIn x) (sym c.leave_some.ensures.left) (in_left old.rows.left c.args.rows.now x at)) (pool_left_some ROWS (IsFreeAt h b BUCKET_ROOTS ROW_BUCKETS) (IsLeftAt h BUCKET_ROOTS ROW_BUCKETS) old.rows now c.args.rows.now p.rows c.leave_some.ensures.free c.leave_some.ensures.left m)

@@ -1,5 +1,6 @@
 use Rattle.std.proofs.Common.{◌≡◌, ◌∙◌, length, refl, ap}
 use Rattle.std.proofs.lemmas.List.FromFn.{length-range_with_len}
+use Rattle.store_history.specs.declared.places.TheConstants.{MASK_SLOTS, ACTION_SLOTS, ROWS, POOL_BLOCKS}
 use Rattle.desk_pools.proofs.Opening.{pools_open}
 use Rattle.desk_pools.proofs.pools.Pools.new.Goals as goal
 
@@ -22,8 +23,8 @@ returns-clause-sizes c = (c.in_ok-with_size.ensures.size, c.in_ok-with_size-2.en
 
 pub returns-clause-all : goal.returns-clause-all
 returns-clause-all c = record {
-  blocks = ap length c.in_ok-with_size.ensures.free ∙ length-range_with_len 0 16384;
-  rows = ap length c.in_ok-with_size-2.ensures.free ∙ length-range_with_len 0 8192;
-  masks = ap length c.in_ok-with_size-3.ensures.free ∙ length-range_with_len 0 8192;
-  actions = ap length c.in_ok-with_size-4.ensures.free ∙ length-range_with_len 0 2048;
+  blocks = ap length c.in_ok-with_size.ensures.free ∙ length-range_with_len 0 POOL_BLOCKS;
+  rows = ap length c.in_ok-with_size-2.ensures.free ∙ length-range_with_len 0 ROWS;
+  masks = ap length c.in_ok-with_size-3.ensures.free ∙ length-range_with_len 0 MASK_SLOTS;
+  actions = ap length c.in_ok-with_size-4.ensures.free ∙ length-range_with_len 0 ACTION_SLOTS;
 }

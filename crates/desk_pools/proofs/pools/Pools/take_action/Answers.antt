@@ -1,4 +1,5 @@
 use Rattle.std.proofs.Common.{◌≡◌, ℕ, List, [], ◌∷◌, ◌++◌, sym, ap, subst}
+use Rattle.store_history.specs.declared.places.TheConstants.{ACTION_SLOTS, ACTION_ROOTS}
 use Rattle.hook_law.specs.Standing.{IsIn}
 use Rattle.pin_store.specs.Calls.{IsUnnamed}
 use Rattle.root_pool_laws.specs.Blocks.{IsLeft}
@@ -9,8 +10,8 @@ use Rattle.desk_pools.proofs.pools.Pools.take_action.Goals as goal
 
 pub returns-clause-pools : goal.returns-clause-pools
 returns-clause-pools c = λ h b p. let old = c.args.self.now in let now = c.take.new.self in
-    actions_now old h b p now (λ x at. subst (IsIn x) (sym c.take.ensures.left) at) (pool_took 2048 (IsFreeAt h b 8195 1) (IsLeftAt h 8195 1) old.actions now c.take.result p.actions c.take.ensures.free c.take.ensures.left)
+    actions_now old h b p now (λ x at. subst (IsIn x) (sym c.take.ensures.left) at) (pool_took ACTION_SLOTS (IsFreeAt h b ACTION_ROOTS 1) (IsLeftAt h ACTION_ROOTS 1) old.actions now c.take.result p.actions c.take.ensures.free c.take.ensures.left)
 
 pub returns-clause-taken : goal.returns-clause-taken
 returns-clause-taken c = λ h b p. let old = c.args.self.now in
-    taken_is 2048 (IsFreeAt h b 8195 1) (IsLeftAt h 8195 1) old.actions c.take.new.self c.take.result p.actions c.take.ensures.free c.take.ensures.left
+    taken_is ACTION_SLOTS (IsFreeAt h b ACTION_ROOTS 1) (IsLeftAt h ACTION_ROOTS 1) old.actions c.take.new.self c.take.result p.actions c.take.ensures.free c.take.ensures.left

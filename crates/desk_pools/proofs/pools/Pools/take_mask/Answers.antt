@@ -1,4 +1,5 @@
 use Rattle.std.proofs.Common.{◌≡◌, ℕ, List, [], ◌∷◌, ◌++◌, sym, ap, subst}
+use Rattle.store_history.specs.declared.places.TheConstants.{MASK_SLOTS, MASK_ROOTS}
 use Rattle.hook_law.specs.Standing.{IsIn}
 use Rattle.pin_store.specs.Calls.{IsUnnamed}
 use Rattle.root_pool_laws.specs.Blocks.{IsLeft}
@@ -10,8 +11,8 @@ use Rattle.desk_pools.proofs.pools.Pools.take_mask.Goals as goal
 
 pub returns-clause-pools : goal.returns-clause-pools
 returns-clause-pools c = λ h b p. let old = c.args.self.now in let now = c.take.new.self in
-    masks_now old h b p now (λ x at. subst (IsIn x) (sym c.take.ensures.left) at) (pool_took 8192 (IsFreeAt h b 3 1) (IsLeftAt h 3 1) old.masks now c.take.result p.masks c.take.ensures.free c.take.ensures.left)
+    masks_now old h b p now (λ x at. subst (IsIn x) (sym c.take.ensures.left) at) (pool_took MASK_SLOTS (IsFreeAt h b MASK_ROOTS 1) (IsLeftAt h MASK_ROOTS 1) old.masks now c.take.result p.masks c.take.ensures.free c.take.ensures.left)
 
 pub returns-clause-taken : goal.returns-clause-taken
 returns-clause-taken c = λ h b p. let old = c.args.self.now in
-    taken_is 8192 (IsFreeAt h b 3 1) (IsLeftAt h 3 1) old.masks c.take.new.self c.take.result p.masks c.take.ensures.free c.take.ensures.left
+    taken_is MASK_SLOTS (IsFreeAt h b MASK_ROOTS 1) (IsLeftAt h MASK_ROOTS 1) old.masks c.take.new.self c.take.result p.masks c.take.ensures.free c.take.ensures.left

@@ -1,4 +1,5 @@
 use Rattle.std.proofs.Common.{◌≡◌, ℕ, List, [], ◌∷◌, ◌++◌, sym, ap, subst}
+use Rattle.store_history.specs.declared.places.TheConstants.{ROWS, ROW_BUCKETS, BUCKET_ROOTS}
 use Rattle.hook_law.specs.Standing.{IsIn}
 use Rattle.pin_store.specs.Calls.{IsUnnamed}
 use Rattle.root_pool_laws.specs.Blocks.{IsLeft}
@@ -10,8 +11,8 @@ use Rattle.desk_pools.proofs.pools.Pools.take_rows.Goals as goal
 
 pub returns-clause-pools : goal.returns-clause-pools
 returns-clause-pools c = λ h b p. let old = c.args.self.now in let now = c.take_some.new.self in
-    rows_now old h b p now (λ x at. subst (IsIn x) (sym c.take_some.ensures.left) at) (pool_took_some 8192 (IsFreeAt h b 10243 16) (IsLeftAt h 10243 16) old.rows now c.take_some.new.into.items p.rows c.take_some.ensures.free c.take_some.ensures.left)
+    rows_now old h b p now (λ x at. subst (IsIn x) (sym c.take_some.ensures.left) at) (pool_took_some ROWS (IsFreeAt h b BUCKET_ROOTS ROW_BUCKETS) (IsLeftAt h BUCKET_ROOTS ROW_BUCKETS) old.rows now c.take_some.new.into.items p.rows c.take_some.ensures.free c.take_some.ensures.left)
 
 pub returns-clause-taken : goal.returns-clause-taken
 returns-clause-taken c = λ h b p. let old = c.args.self.now in
-    taken_are 8192 (IsFreeAt h b 10243 16) (IsLeftAt h 10243 16) old.rows c.take_some.new.self c.take_some.new.into.items p.rows c.take_some.ensures.free c.take_some.ensures.left
+    taken_are ROWS (IsFreeAt h b BUCKET_ROOTS ROW_BUCKETS) (IsLeftAt h BUCKET_ROOTS ROW_BUCKETS) old.rows c.take_some.new.self c.take_some.new.into.items p.rows c.take_some.ensures.free c.take_some.ensures.left

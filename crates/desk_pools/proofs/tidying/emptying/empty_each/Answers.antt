@@ -5,8 +5,8 @@ use Rattle.pin_store.specs.declared.view.Sheet.{Sheet}
 use Rattle.pin_store.specs.Calls.{seen_by, sheet_of}
 use Rattle.pin_store.specs.Sheets.{base_of}
 use Rattle.hook_law.specs.Keeping.{Keeps}
-use Rattle.hook_meaning.specs.Stated.{hook_meaning}
-use Rattle.hook_meaning.specs.Blocks.{hook_codec}
+use Rattle.hook_store_law.specs.Stated.{hook_meaning}
+use Rattle.hook_store_law.specs.Blocks.{hook_codec}
 use Rattle.desk_pools.proofs.OfTidying.Emptied.{part_kept, part_unused, part_seen, part_within}
 use Rattle.desk_pools.proofs.tidying.emptying.empty_each.Goals as goal
 

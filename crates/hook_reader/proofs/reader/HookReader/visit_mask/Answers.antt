@@ -6,7 +6,7 @@ use Rattle.visit_room.specs.declared.names.ActionName.{ActionName}
 use Rattle.walk_rules.specs.Questions.{filter_of}
 use Rattle.walk_rules.specs.Answers.{answer_of}
 use Rattle.walk_steps.specs.Told.{filter_told}
-use Rattle.hook_meaning.specs.Told.{state_after_edits}
+use Rattle.hook_store_law.specs.Told.{state_after_edits}
 use Rattle.hook_store_law.specs.OfVisits.Known.{MaskStood, ActionLived}
 use Rattle.hook_reader.specs.Seats.{HookSeat, first_head_of}
 use Rattle.hook_reader.specs.Known.{KnowsMask, KnowsAction}

@@ -1,6 +1,7 @@
 use Rattle.std.proofs.Common.{◌∙◌, ◌∷◌, [], ◌++◌, ℕ, ◌+◌, List, drop, take, sym, ap, subst}
 use Rattle.std.proofs.lemmas.Result.{err_from_is_err_and}
 use Rattle.job_files.specs.Named.{JobFile, AreNames, batch_files}
+use Rattle.job_files.proofs.Asking.{asked_part}
 use Rattle.job_files.proofs.Adding.{add_fails_among}
 use Rattle.job_files.proofs.Reached.{batches_around, names_among}
 use Rattle.job_files.proofs.files.LoadedFiles.add_batches.Goals as goal
@@ -27,3 +28,16 @@ returns-in_err-add_batch-clause-cause g c =
     ∙ ap (λ (name : List ℕ). batch_files (take at batches) ++ (JobFile.Batch name ∷ batch_files (drop (at + 1) batches)))
     (sym c.as_slice.ensures)) c.loop-batch.invariant.held
     c.loop-batch.invariant.later c.loop-batch.invariant.grown c.in_err-add_batch.ensures.cause)
+
+pub returns-in_err-add_batch-clause-fetched : goal.returns-in_err-add_batch-clause-fetched
+returns-in_err-add_batch-clause-fetched g c =
+    let batches = c.args.batches.now in
+    let at = c.loop-batch.batch-index in
+    let p = err_from_is_err_and c.from_residual.result c.from_residual.ensures.1 in
+    rw p.1 (asked_part (g.S.Shelf.fetched c.args.shelf.now) (g.S.Shelf.fetched c.loop-batch.shelf)
+    (g.S.Shelf.fetched c.add_batch.new.shelf) (batch_files (take at batches))
+    (JobFile.Batch c.as_slice.result.now ∷ []) (batch_files (drop (at + 1) batches)) (batch_files batches)
+    (batches_around batches at c.batch-item.result c.loop-batch-test.true c.batch-item.is
+    ∙ ap (λ (name : List ℕ). batch_files (take at batches) ++ (JobFile.Batch name ∷ batch_files (drop (at + 1) batches)))
+    (sym c.as_slice.ensures))
+    c.loop-batch.invariant.fetched c.in_err-add_batch.ensures.fetched)

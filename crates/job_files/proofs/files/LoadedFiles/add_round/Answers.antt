@@ -3,6 +3,7 @@ use Rattle.std.proofs.lemmas.Result.{err_from_is_err_and}
 use Rattle.job_lines.specs.declared.job.BatchName.{BatchName}
 use Rattle.job_files.specs.Named.{batch_files, capture_files}
 use Rattle.job_files.specs.Growing.{AddFails}
+use Rattle.job_files.proofs.Asking.{asked_front, round_asked}
 use Rattle.job_files.proofs.Adding.{add_fails_sooner}
 use Rattle.job_files.proofs.Joined.{each_behind}
 use Rattle.job_files.proofs.Said.{named}
@@ -22,3 +23,15 @@ returns-in_err-add_batches-clause-cause g c =
 pub add_captures-requires : goal.add_captures-requires
 add_captures-requires g c =
     each_behind named (batch_files c.args.round.now.batches) (capture_files c.args.round.now.capture) c.requires
+
+pub returns-in_err-add_batches-clause-fetched : goal.returns-in_err-add_batches-clause-fetched
+returns-in_err-add_batches-clause-fetched g c =
+    let p = err_from_is_err_and c.from_residual.result c.from_residual.ensures.1 in
+    rw p.1 (asked_front (g.S.Shelf.fetched c.args.shelf.now) (g.S.Shelf.fetched c.add_batches.new.shelf)
+    c.args.round.now c.as_slice.result.now c.as_slice.ensures c.in_err-add_batches.ensures.fetched)
+
+pub returns-clause-fetched : goal.returns-clause-fetched
+returns-clause-fetched g c =
+    round_asked (g.S.Shelf.fetched c.args.shelf.now) (g.S.Shelf.fetched c.add_batches.new.shelf)
+    (g.S.Shelf.fetched c.add_captures.new.shelf) c.args.round.now c.as_slice.result.now c.as_slice.ensures
+    c.add_captures.result c.in_ok-add_batches.ensures.fetched c.add_captures.ensures.fetched

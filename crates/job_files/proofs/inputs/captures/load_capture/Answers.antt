@@ -1,4 +1,6 @@
+use Rattle.std.proofs.Common.{[], ◌∷◌}
 use Rattle.std.proofs.lemmas.Result.{IfErr-weaker}
+use Rattle.job_files.proofs.Asking.{asked_all}
 use Rattle.job_files.proofs.OfInputs.TooMany.{too_many_told}
 use Rattle.job_files.proofs.inputs.captures.load_capture.Goals as goal
 
@@ -8,3 +10,8 @@ returns-in-Ok-clause-cause g c =
     (too_many_told g.S.Shelf.held g.S.Shelf.read_faults g.S.Shelf.failed_name c.args.shelf.now
     c.load.new.shelf c.args.room c.args.name.now c.in_ok-bytes.bytes.items c.in-Ok.capture c.in_ok-bytes.ensures.bytes
     c.in-Ok.ensures.capture) c.within_room.ensures.many
+
+pub returns-in_ok-name-in-Err-clause-fetched : goal.returns-in_ok-name-in-Err-clause-fetched
+returns-in_ok-name-in-Err-clause-fetched g c =
+    asked_all (g.S.Shelf.fetched c.args.shelf.now) (g.S.Shelf.fetched c.load.new.shelf) (c.args.name.now ∷ [])
+    c.in_ok-bytes.ensures.fetched

@@ -3,6 +3,7 @@ use Rattle.tc_words.specs.Lines.{words_of}
 use Rattle.line_range_laws.proofs.Lines.{says}
 use Rattle.round_terms.proofs.Making.{nothing_behind}
 use Rattle.job_rounds.proofs.OfRoundState.Answering.{met_accepted, met_refused, same_journal}
+use Rattle.tc_base.specs.Memory.{no_memory}
 use Rattle.job_rounds.proofs.round_state.meeting.meet_line.Goals as goal
 
 pub apply_named-requires-clause-line : goal.apply_named-requires-clause-line
@@ -19,7 +20,7 @@ returns-in-Err-Refused c =
     let same = same_journal c.args.desk.now c.apply_named.new.desk refused.place in
     record {
       store = c.apply_named.ensures.store;
-      met = met_refused c.args.desk.now c.apply_named.new.desk (words_of c.args.text.now) c.in-Ok.edit r.refusal c.in-Ok.ensures.line c.in_default.not-NoMemory refused;
+      met = met_refused c.args.desk.now c.apply_named.new.desk (words_of c.args.text.now) c.in-Ok.edit r.refusal c.in-Ok.ensures.line (c.in_default.not-NoMemory no_memory) refused;
       named = nothing_behind _ _ _ _ same (ap (λ v. v.items) r.ensures.unnamed);
       not_met = tt;
       journal = tt;

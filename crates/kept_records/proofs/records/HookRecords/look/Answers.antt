@@ -13,9 +13,9 @@ use Rattle.mask_table.specs.Buckets.{mask_root, bucket_root, bucket_for, IsAnswe
 use Rattle.mask_table.proofs.Limits.{within, root_low}
 use Rattle.mask_table.proofs.Looking.{looked_up, one_of}
 use Rattle.mask_table.proofs.Stamps.{no_record}
-use Rattle.hook_meaning.specs.Told.{stands_at, words_after, filters_after}
-use Rattle.hook_meaning.proofs.Masking.{slot_stood, mask_told}
-use Rattle.hook_meaning.proofs.Bucketing.{bucket_told}
+use Rattle.hook_store_law.specs.Told.{stands_at, words_after, filters_after}
+use Rattle.hook_store_law.proofs.Masking.{slot_stood, mask_told}
+use Rattle.hook_store_law.proofs.Bucketing.{bucket_told}
 use Rattle.kept_records.specs.Keeping.{IsRead, IsKnown}
 use Rattle.kept_records.proofs.Kept.{all_on}
 use Rattle.kept_records.proofs.records.HookRecords.look.Goals as goal

@@ -1,7 +1,7 @@
-use Rattle.std.proofs.Common.{rules, ◌≡◌, ◌∙◌, false, Some, refl, sym, ap, arith}
-use Rattle.std.specs.Prelude.{is_err}
+use Rattle.std.proofs.Common.{◌∙◌, Some, refl, sym, ap, arith}
 use Rattle.round_terms.proofs.JobFiles.{there_at}
-use Rattle.report_check.proofs.Lists.{is_line, may_follow, followed}
+use Rattle.report_check.proofs.Lists.{is_line, may_follow, followed, only_memory}
+use Rattle.tc_base.specs.Memory.{no_memory}
 use Rattle.report_check.proofs.walker.Walker.follow.Goals as goal
 
 pub step-requires-clause-line : goal.step-requires-clause-line
@@ -25,9 +25,19 @@ loop-self-preserved c =
     let end = c.requires.points.1 in
     let test = c.loop-self-test.true in
     let there = there_at journal journal at edit refl (omega (arith, end, test)) ∙ ap (λ e. Some e) (sym c.index-journal-self.is) in
-    let fine : is_err c.step.result ≡ false = search rules in
     record {
       low = omega (arith, test);
-      spells = followed journal at edit c.loop-self.self.lists c.step.new.self c.step.result there c.loop-self.invariant.spells fine c.step.ensures;
+      spells = followed journal at edit c.loop-self.self.lists c.step.new.self c.in-Ok.field-0 there c.loop-self.invariant.spells (λ s spells. c.in-Ok.ensures s spells);
       seen = c.loop-self.invariant.seen;
     }
+
+pub unreachable-requires : goal.unreachable-requires
+unreachable-requires c =
+    let journal = c.args.journal.now in
+    let at = c.loop-self.self.at in
+    let edit = c.index-journal-self.result in
+    let end = c.requires.points.1 in
+    let test = c.loop-self-test.true in
+    let there = there_at journal journal at edit refl (omega (arith, end, test)) ∙ ap (λ e. Some e) (sym c.index-journal-self.is) in
+    let memory = only_memory journal at edit c.loop-self.self.lists c.step.new.self c.in-Err.refusal c.requires.lawful there c.loop-self.invariant.spells (λ s spells. c.in-Err.ensures s spells) in
+    c.in_default.not-NoMemory no_memory memory

@@ -1,8 +1,8 @@
 use Rattle.std.proofs.Common.{subst}
 use Rattle.pin_store.specs.Calls.{seen_by}
 use Rattle.hook_law.specs.Keeping.{IsAtRest}
-use Rattle.hook_meaning.specs.Stated.{hook_meaning}
-use Rattle.hook_meaning.specs.Blocks.{hook_codec}
+use Rattle.hook_store_law.specs.Stated.{hook_meaning}
+use Rattle.hook_store_law.specs.Blocks.{hook_codec}
 use Rattle.shared_hook.specs.Views.{DeskView}
 use Rattle.shared_hook.proofs.desk.Desk.lists.Goals as goal
 

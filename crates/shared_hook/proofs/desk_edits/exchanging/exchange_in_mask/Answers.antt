@@ -4,7 +4,7 @@ use Rattle.pin_store.specs.declared.shape.Shape.{Shape}
 use Rattle.pin_store.specs.Sheets.{base_of}
 use Rattle.pin_store.specs.Calls.{seen_by, sheet_of}
 use Rattle.hook_law.specs.Records.{StatedFilter}
-use Rattle.hook_meaning.specs.Stated.{filters_at}
+use Rattle.hook_store_law.specs.Stated.{filters_at}
 use Rattle.hook_store_law.specs.OfEdits.Premises.{now, next}
 use Rattle.mask_table.specs.Buckets.{bucket_for}
 use Rattle.mask_table.specs.declared.mirrors.mirror.KeptMask.{KeptMask}

@@ -5,9 +5,9 @@ use Rattle.filter_state.specs.States.{State}
 use Rattle.filter_state.specs.Steps.{step}
 use Rattle.filter_state.specs.Tables.{filter_row}
 use Rattle.flow_mask.specs.Sizes.{size_of}
-use Rattle.hook_meaning.specs.OfEffects.Parts.{Stands}
+use Rattle.hook_store_law.specs.OfEffects.Parts.{Stands}
 use Rattle.mask_table.proofs.OfMirrors.Keeping.{same_base}
-use Rattle.hook_meaning.specs.Stated.{filters_at}
+use Rattle.hook_store_law.specs.Stated.{filters_at}
 use Rattle.hook_store_law.specs.OfEdits.Premises.{now, next}
 use Rattle.desk_pools.specs.OfNumbers.Numbers.{PoolNumbers}
 use Rattle.desk_masks.specs.OfFilterCommits.Edits.{HasLater}

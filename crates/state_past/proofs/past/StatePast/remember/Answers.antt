@@ -2,10 +2,10 @@ use Rattle.std.proofs.Common.{List, None, refl, sym, subst}
 use Rattle.filter_state.specs.States.{State}
 use Rattle.hook_lists.specs.States.{state_of}
 use Rattle.state_laws.proofs.OfOrder.States.{same_state_refl}
-use Rattle.hook_meaning.specs.OfEffects.Parts.{words_of, params_at}
+use Rattle.edit_effects.specs.OfEffects.Parts.{words_of, params_at}
 use Rattle.slot_pasts.specs.Pasts.{stood}
 use Rattle.slot_pasts.specs.Names.{past_of}
-use Rattle.state_past.specs.Serials.{past_at}
+use Rattle.slot_pasts.specs.Serials.{past_at}
 use Rattle.state_past.specs.declared.gone_filters.going.GoingFilter.{GoingFilter}
 use Rattle.state_past.specs.Told.{AreLeft, StayLive, actions_of_all}
 use Rattle.state_past.specs.Brought.{Brought}

@@ -1,5 +1,7 @@
-use Rattle.std.proofs.Common.{◌+◌, drop, refl, sym, subst, arith}
+use Rattle.std.proofs.Common.{◌∙◌, ◌+◌, drop, refl, sym, subst, arith}
 use Rattle.tool_run.specs.OfOutputs.Puts.{ArePut}
+use Rattle.tc_base.proofs.Appends.{Appended-nil}
+use Rattle.tool_run.proofs.Asking.{output_then, output_not_put, outputs_put}
 use Rattle.tool_run.proofs.OfOutputs.Puts.{none_put}
 use Rattle.tool_run.proofs.OfOutputs.Rounds.{IsNext, each_recorded, next_at, ready_now, ready_then, put_next, up_to_next, ends_next, none_left}
 use Rattle.tool_run.proofs.outputs.putting.put_rounds.Given as given
@@ -11,6 +13,8 @@ loop-index-init g c = record {
   put = λ new put. put;
   up_to = λ new put. put;
   ready = c.requires;
+  fetched = refl;
+  put_names = Appended-nil (g.S.Shelf.put_names c.args.shelf.now);
   later = omega arith;
 }
 
@@ -60,6 +64,11 @@ loop-index-preserved g c =
       up_to = λ new rest.
           c.loop-index.invariant.up_to new
           (up_to_next _ _ round before _ _ _ it _ _ new first ensured.left ensured.put rest);
+      fetched = c.put_round.ensures.fetched ∙ c.loop-index.invariant.fetched;
+      put_names =
+          output_then (g.S.Shelf.put_names c.args.shelf.now) (g.S.Shelf.put_names c.loop-index.shelf)
+          (g.S.Shelf.put_names c.put_round.new.shelf) c.args.rounds.now c.loop-index.index round
+          c.loop-index-test.true c.index-rounds-index.is c.loop-index.invariant.put_names ensured.put_names;
       ready = ready_then _ _ round before _ _ _ it first ensured.left c.loop-index.invariant.ready;
       later = omega (arith, since, so_far);
     }
@@ -74,3 +83,14 @@ returns-clause-put g c =
 
 pub returns-clause-up_to : goal.returns-clause-up_to
 returns-clause-up_to g c = c.loop-index.invariant.up_to _ (none_put (g.S.Shelf.held c.loop-index.shelf) _)
+
+pub returns-in_err-left-clause-put_names : goal.returns-in_err-left-clause-put_names
+returns-in_err-left-clause-put_names g c =
+    output_not_put (g.S.Shelf.put_names c.args.shelf.now) (g.S.Shelf.put_names c.loop-index.shelf)
+    (g.S.Shelf.put_names c.put_round.new.shelf) c.args.rounds.now c.loop-index.index c.index-rounds-index.result
+    c.loop-index-test.true c.index-rounds-index.is c.loop-index.invariant.put_names c.in_err-left.ensures.put_names
+
+pub returns-clause-put_names : goal.returns-clause-put_names
+returns-clause-put_names g c =
+    outputs_put (g.S.Shelf.put_names c.args.shelf.now) (g.S.Shelf.put_names c.loop-index.shelf) c.args.rounds.now
+    c.loop-index.index c.loop-index.invariant.put_names

@@ -1,5 +1,6 @@
-use Rattle.std.proofs.Common.{◌≤◌, Option, drop}
-use Rattle.tc_base.specs.Outside.{Held}
+use Rattle.std.proofs.Common.{◌≡◌, ◌≤◌, Option, drop, take}
+use Rattle.tc_base.specs.Outside.{Held, Appended}
+use Rattle.tool_run.specs.Asks.{output_names}
 use Rattle.tool_run.specs.OfOutputs.Outputs.{outputs_from}
 use Rattle.tool_run.specs.OfOutputs.Puts.{ArePut, ArePutUpTo}
 use Rattle.tool_run.specs.OfOutputs.Ready.{AreReady}
@@ -14,5 +15,7 @@ invariant-loop-index g l = record {
       → ArePutUpTo (g.S.Shelf.held l.shelf) new (outputs_from (drop l.index l.rounds) l.left (drop l.index l.records))
       → ArePutUpTo (g.S.Shelf.held l.fn.shelf) new (outputs_from l.rounds l.captures l.records);
   ready : AreReady (drop l.index l.rounds) l.left (drop l.index l.records);
+  fetched : g.S.Shelf.fetched l.shelf ≡ g.S.Shelf.fetched l.fn.shelf;
+  put_names : Appended (g.S.Shelf.put_names l.fn.shelf) (g.S.Shelf.put_names l.shelf) (output_names (take l.index l.rounds));
   later : g.S.Shelf.write_faults l.fn.shelf ≤ g.S.Shelf.write_faults l.shelf;
 }

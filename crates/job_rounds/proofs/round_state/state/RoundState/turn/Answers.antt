@@ -13,6 +13,7 @@ use Rattle.round_terms.specs.Underway.{made_behind}
 use Rattle.job_rounds.specs.OfRoundState.Turns.{IsTurned}
 use Rattle.job_rounds.proofs.OfRoundState.Turning.{called, called_at, within, none_left, not_through, has_room, has_spare, left_still, further, one_more}
 use Rattle.job_rounds.proofs.round_state.state.RoundState.turn.Goals as goal
+use Rattle.tc_base.specs.Memory.{no_memory}
 
 pub next_line-requires-clause-within : goal.next_line-requires-clause-within
 next_line-requires-clause-within g c =
@@ -25,19 +26,19 @@ returns-in_default-clause-over g c =
     λ over. subst (λ (old : Underway _). IsThroughAll (files_of g.N.RoundName.job g.N.RoundName.number) c.args.control old.events) c.self.view_is
     (none_left it c.args.control (subst (λ (ps : List Place). HasNoLine (files_of c.args.job.now c.args.round) ps c.args.control) c.as_slice.ensures.value c.in_default.ensures.none))
 
-pub returns-then-is_err-clause-turned : goal.returns-then-is_err-clause-turned
-returns-then-is_err-clause-turned g c =
+pub returns-in-Err-clause-turned : goal.returns-in-Err-clause-turned
+returns-in-Err-clause-turned g c =
     let it = called c.self.invariant.0 c.requires.job.0 c.requires.job.1 c.requires.round.0 in
     let f = c.in-Some.next in
     let at = called_at it c.args.control f.text.now f.line f.next f.force
     (subst (λ (ps : List Place). IsLineFor (files_of c.args.job.now c.args.round) ps c.args.control f.text.now f.line f.next f.force) c.as_slice.ensures.value c.in-Some.ensures.some) in
     let events = c.reserve.new.events.items in
     let made = c.reserve.new.made.items in
-    subst (λ (old : Underway _). IsTurned g.E.Ear.name g.E.Ear.heard g.E.Ear.spare (files_of g.N.RoundName.job g.N.RoundName.number) g.N.RoundName.number c.args.control old (record { desk = c.self.inside.desk; events = events; made = made; places = c.self.inside.places.items; ear = c.self.inside.ear }) turns.NoMemory) c.self.view_is
-    (left_still at c.self.inside.desk events made turns.NoMemory (record { place = refl; lists = refl; free = refl; left = refl }) refl c.reserve.ensures.same.0 c.reserve.ensures.same.1)
+    subst (λ (old : Underway _). IsTurned g.E.Ear.name g.E.Ear.heard g.E.Ear.spare (files_of g.N.RoundName.job g.N.RoundName.number) g.N.RoundName.number c.args.control old (record { desk = c.self.inside.desk; events = events; made = made; places = c.self.inside.places.items; ear = c.self.inside.ear }) (turns.NoMemory no_memory)) c.self.view_is
+    (left_still at c.self.inside.desk events made (turns.NoMemory no_memory) (record { place = refl; lists = refl; free = refl; left = refl }) refl c.reserve.ensures.same.0 c.reserve.ensures.same.1)
 
-pub returns-then-is_err-clause-exact : goal.returns-then-is_err-clause-exact
-returns-then-is_err-clause-exact g c =
+pub returns-in-Err-clause-exact : goal.returns-in-Err-clause-exact
+returns-in-Err-clause-exact g c =
     let it = called c.self.invariant.0 c.requires.job.0 c.requires.job.1 c.requires.round.0 in
     let f = c.in-Some.next in
     let at = called_at it c.args.control f.text.now f.line f.next f.force
@@ -52,19 +53,19 @@ meet_line-requires-clause-short g c =
     (subst (λ (ps : List Place). IsLineFor (files_of c.args.job.now c.args.round) ps c.args.control f.text.now f.line f.next f.force) c.as_slice.ensures.value c.in-Some.ensures.some) in
     has_room at c.requires.few
 
-pub returns-in-Err-clause-turned : goal.returns-in-Err-clause-turned
-returns-in-Err-clause-turned g c =
+pub returns-in-Err-meet_line-clause-turned : goal.returns-in-Err-meet_line-clause-turned
+returns-in-Err-meet_line-clause-turned g c =
     let it = called c.self.invariant.0 c.requires.job.0 c.requires.job.1 c.requires.round.0 in
     let f = c.in-Some.next in
     let at = called_at it c.args.control f.text.now f.line f.next f.force
     (subst (λ (ps : List Place). IsLineFor (files_of c.args.job.now c.args.round) ps c.args.control f.text.now f.line f.next f.force) c.as_slice.ensures.value c.in-Some.ensures.some) in
     let events = c.reserve.new.events.items in
     let made = c.meet_line.new.made.items in
-    subst (λ (old : Underway _). IsTurned g.E.Ear.name g.E.Ear.heard g.E.Ear.spare (files_of g.N.RoundName.job g.N.RoundName.number) g.N.RoundName.number c.args.control old (record { desk = c.meet_line.new.desk; events = events; made = made; places = c.self.inside.places.items; ear = c.self.inside.ear }) c.in-Err.turned) c.self.view_is
-    (left_still at c.meet_line.new.desk events made c.in-Err.turned c.in-Err.ensures.not_met c.in-Err.ensures.journal c.reserve.ensures.same.0 (ap (λ v. v.items) c.in-Err.ensures.unnamed ∙ c.reserve.ensures.same.1))
+    subst (λ (old : Underway _). IsTurned g.E.Ear.name g.E.Ear.heard g.E.Ear.spare (files_of g.N.RoundName.job g.N.RoundName.number) g.N.RoundName.number c.args.control old (record { desk = c.meet_line.new.desk; events = events; made = made; places = c.self.inside.places.items; ear = c.self.inside.ear }) c.in-Err-meet_line.turned) c.self.view_is
+    (left_still at c.meet_line.new.desk events made c.in-Err-meet_line.turned c.in-Err-meet_line.ensures.not_met c.in-Err-meet_line.ensures.journal c.reserve.ensures.same.0 (ap (λ v. v.items) c.in-Err-meet_line.ensures.unnamed ∙ c.reserve.ensures.same.1))
 
-pub returns-in-Err-clause-exact : goal.returns-in-Err-clause-exact
-returns-in-Err-clause-exact g c =
+pub returns-in-Err-meet_line-clause-exact : goal.returns-in-Err-meet_line-clause-exact
+returns-in-Err-meet_line-clause-exact g c =
     let it = called c.self.invariant.0 c.requires.job.0 c.requires.job.1 c.requires.round.0 in
     let f = c.in-Some.next in
     let at = called_at it c.args.control f.text.now f.line f.next f.force

@@ -6,7 +6,7 @@ use Rattle.pin_store.specs.declared.shape.Shape.{Shape}
 use Rattle.filter_state.specs.declared.edit.Edit.{Edit}
 use Rattle.mask_table.specs.OfMirrors.Linked.{placed, raise_commits}
 use Rattle.hook_law.specs.Standing.{IsMaskAt}
-use Rattle.hook_meaning.specs.Blocks.{hook_codec}
+use Rattle.hook_store_law.specs.Blocks.{hook_codec}
 use Rattle.desk_heads.specs.OfHeadCommits.Raised.{stored_next}
 use Rattle.desk_heads.proofs.OfHeadCommits.Raising.{raise_back, raise_other}
 use Rattle.desk_actions.specs.declared.ledgers.ledger.Ledger.{Ledger}

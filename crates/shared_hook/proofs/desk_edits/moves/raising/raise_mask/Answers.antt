@@ -1,9 +1,9 @@
 use Rattle.std.proofs.Common.{◌∙◌, length, sym, ap, subst, arith}
 use Rattle.std.proofs.lemmas.List.{length-map}
-use Rattle.hook_meaning.specs.OfEffects.Parts.{words_of}
+use Rattle.hook_store_law.specs.OfEffects.Parts.{words_of}
 use Rattle.miniq_pair.specs.Heads.{hook_number}
-use Rattle.hook_meaning.specs.Stated.{tables_at, filters_at}
-use Rattle.hook_meaning.specs.Told.{with_slots}
+use Rattle.hook_store_law.specs.Stated.{tables_at, filters_at}
+use Rattle.hook_store_law.specs.Told.{with_slots}
 use Rattle.hook_store_law.specs.OfEdits.Premises.{next}
 use Rattle.desk_heads.specs.OfHeadCommits.Listed.{HasSerial}
 use Rattle.desk_heads.specs.OfHeadCommits.Raised.{stored_next}

@@ -1,0 +1,12 @@
+pub mod OneList
+pub mod OfRuns
+pub mod Places
+pub mod Taking
+pub mod Reaching
+pub mod Steps
+pub mod Parts
+pub mod Answering
+pub mod Pages
+pub mod Shown
+pub mod DecidedText
+pub mod Written

@@ -1,0 +1,26 @@
+//! What `trace` tells of a batch file and the packets of a capture.
+//!
+//! A walk's text tells how each packet ended. A trace tells beside what it met: each visit of its walk with
+//! the line of the batch that brought what answered, and at the end how often each filter decided. The text
+//! is that of the walk with these lines between (`specs/Traced.antt`), and taking them away leaves it
+//! (`laws`).
+//!
+//! `trace_batch` applies the batch and keeps its accepted edits with their lines, the past of the states that
+//! they led to, and who brought what. The walk of the capture is made before, by `batch_walk`: its parts say
+//! how each packet ends. `write_trace` follows each packet again over the state that the edits leave, and
+//! writes packet by packet, so that no more than one packet's lines are kept. Reading the files and their
+//! limits are the caller's.
+//!
+//! One thread calls this, and it keeps nothing between calls. Not promised: that memory suffices.
+#![tactic(auto)]
+
+mod accepted;
+mod laws;
+mod standing;
+mod telling;
+mod traced_batch;
+mod writing;
+
+pub use laws::{entries_of_runs, nothing_else_is_told, one_list, walks_are_traced};
+pub use traced_batch::{TracedBatch, trace_batch};
+pub use writing::write_trace;

@@ -1,0 +1,2 @@
+pub mod OfEffects
+pub mod OfMaskAnswers

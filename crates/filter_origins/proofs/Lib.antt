@@ -1,0 +1,9 @@
+pub mod Comes
+pub mod Standing
+pub mod Listed
+pub mod Noting
+pub mod Going
+pub mod Few
+pub mod Followed
+pub mod Lived
+pub mod Whole

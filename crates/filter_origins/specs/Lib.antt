@@ -1,0 +1,5 @@
+pub mod Entries
+pub mod Brought
+pub mod Origins
+pub mod Noted
+pub mod Knows

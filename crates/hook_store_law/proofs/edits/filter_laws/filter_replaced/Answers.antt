@@ -1,5 +1,0 @@
-use Rattle.hook_store_law.proofs.OfEdits.OneMask.{swaps_after}
-use Rattle.hook_store_law.proofs.edits.filter_laws.filter_replaced.Goals as goal
-
-pub returns : goal.returns
-returns c = swaps_after

@@ -1,5 +1,0 @@
-use Rattle.hook_store_law.proofs.OfVisits.Names.{one_mask}
-use Rattle.hook_store_law.proofs.visits.laws.one_mask_a_slot.Goals as goal
-
-pub returns : goal.returns
-returns c = one_mask

@@ -1,9 +1,0 @@
-use Rattle.std.proofs.Common.{◌≡◌, ℕ, ◌-◌, ◌+◌, length}
-use Rattle.state_past.specs.Serials.{past_at}
-use Rattle.state_past.proofs.serial_pasts.SerialPasts.make_room.Given as goal
-
-abbrev pub invariant-loop-self : goal.invariant-loop-self
-invariant-loop-self g l = (other : ℕ) → past_at l.self-inside.pasts.items other ≡ past_at l.fn.self other
-
-abbrev pub decreases-loop-self : goal.decreases-loop-self
-decreases-loop-self g l = l.serial + 1 - length l.self-inside.pasts.items

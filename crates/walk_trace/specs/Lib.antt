@@ -1,0 +1,4 @@
+pub mod Points
+pub mod Tallies
+pub mod Traces
+pub mod Visited
