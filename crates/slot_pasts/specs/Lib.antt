@@ -1,3 +1,4 @@
 pub mod Pasts
 pub mod Names
 pub mod Serials
+pub mod Next

@@ -3,7 +3,8 @@
 //! Whoever judges a report asks what stood at a point of the journal: a state that is long past. To keep a
 //! state for each point would cost a copy for each edit. So each place keeps its own past (`Past`): what was
 //! put there, with the point from which it stood. What stood at a point is the last of these up to it, found
-//! by halving, and mostly a place has one or two.
+//! by halving, and mostly a place has one or two. So is the next of them behind a point (`after`): until then
+//! the same stands.
 //!
 //! `SlotPasts` has the pasts of all filters behind one hash index. A filter is named by the serial of its
 //! mask and by its key, since two filters of a state never have both; and what stands there is whatever is

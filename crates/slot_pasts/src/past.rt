@@ -33,6 +33,7 @@ impl<V: Drop> Past<V> {
     ghost use Rattle.std.specs.Prelude.{◌≡◌, ◌++◌, ◌∷◌, [], OnOk, OnErr};
     ghost use Rattle.std.specs.Option.{option_copied};
     ghost use Rattle.slot_pasts.specs.Pasts.{value_at, UpTo};
+    ghost use Rattle.slot_pasts.specs.Next.{IsNextPut, IsSteady};
 
     /// Nothing stood there.
     pub fn new(alloc: Global) -> Self
@@ -58,12 +59,22 @@ impl<V: Drop> Past<V> {
     {
         last_until(&self.changes, point)
     }
+
+    /// The first point behind that one at which something was put there; nothing, where nothing was. What
+    /// stood there at the point stood until then.
+    pub fn after(&self, point: Point) -> Option<Point>
+        ensures next { IsNextPut self.now point result }
+        ensures steady { IsSteady (λ at. value_at at self.now) point result }
+    {
+        first_after(&self.changes, point)
+    }
 }
 
 // The value of the last change up to a point.
 ghost use Rattle.std.specs.Prelude.{◌≡◌};
 ghost use Rattle.std.specs.Option.{option_copied};
 ghost use Rattle.slot_pasts.specs.Pasts.{AreRising, value_at};
+ghost use Rattle.slot_pasts.specs.Next.{IsNextPut};
 
 fn last_until<V>(changes: &[Change<V>], point: Point) -> Option<&V>
     requires { AreRising changes.now }
@@ -74,4 +85,16 @@ fn last_until<V>(changes: &[Change<V>], point: Point) -> Option<&V>
         return None;
     }
     Some(&changes[after - 1].value)
+}
+
+// The point of the first change behind a point.
+fn first_after<V>(changes: &[Change<V>], point: Point) -> Option<Point>
+    requires { AreRising changes.now }
+    ensures { IsNextPut changes.now point result }
+{
+    let until = changes.partition_point(|change| change.from <= point);
+    if until == changes.len() {
+        return None;
+    }
+    Some(changes[until].from)
 }

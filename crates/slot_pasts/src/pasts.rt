@@ -35,6 +35,7 @@ impl<V: Drop> SlotPasts<V> {
     ghost use Rattle.std.specs.Str.{bytes_eq};
     ghost use Rattle.slot_pasts.specs.Pasts.{value_at, UpTo, stood};
     ghost use Rattle.slot_pasts.specs.Names.{past_of, past_with};
+    ghost use Rattle.slot_pasts.specs.Next.{IsNextPut, IsSteady};
 
     /// Nothing stood anywhere.
     pub fn new(alloc: Global) -> SlotPasts<V>
@@ -53,6 +54,16 @@ impl<V: Drop> SlotPasts<V> {
     {
         let place = *self.places.get(name)?;
         self.entries[place].past.at(point)?.as_ref()
+    }
+
+    /// The first point behind that one at which something was put under a name, or taken away; nothing, where
+    /// nothing was. What stood there at the point stood until then.
+    pub fn after(&self, name: &[u64; 15], point: Point) -> Option<Point>
+        ensures next { IsNextPut (past_of self.now name.now) point result }
+        ensures steady { IsSteady (λ at. value_at at (past_of self.now name.now)) point result }
+    {
+        let place = *self.places.get(name)?;
+        self.entries[place].past.after(point)
     }
 
     /// From that point on, which is no earlier than that of any change under the name so far, this stands

@@ -27,6 +27,7 @@ impl<V: Drop> SerialPasts<V> {
     ghost use Rattle.std.specs.Option.{option_copied};
     ghost use Rattle.slot_pasts.specs.Pasts.{value_at, UpTo, stood};
     ghost use Rattle.slot_pasts.specs.Serials.{past_at};
+    ghost use Rattle.slot_pasts.specs.Next.{IsNextPut, IsSteady};
 
     /// Nothing stood anywhere.
     pub fn new(alloc: Global) -> SerialPasts<V>
@@ -47,6 +48,19 @@ impl<V: Drop> SerialPasts<V> {
             return None;
         }
         self.pasts[place].at(point)?.as_ref()
+    }
+
+    /// The first point behind that one at which something was put under a serial, or taken away; nothing,
+    /// where nothing was. What stood there at the point stood until then.
+    pub fn after(&self, serial: u32, point: Point) -> Option<Point>
+        ensures next { IsNextPut (past_at self.now serial) point result }
+        ensures steady { IsSteady (λ at. value_at at (past_at self.now serial)) point result }
+    {
+        let place = serial as usize;
+        if place >= self.pasts.len() {
+            return None;
+        }
+        self.pasts[place].after(point)
     }
 
     /// From that point on, which is no earlier than that of any change under the serial so far, this stands

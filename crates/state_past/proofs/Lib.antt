@@ -3,3 +3,6 @@ pub mod Recalled
 pub mod Remembered
 pub mod Followed
 pub mod OfGoneFilters
+pub mod Changing
+pub mod Finding
+pub mod FoundAnswers

@@ -3,5 +3,7 @@ pub mod Brought
 pub mod Told
 pub mod Changed
 pub mod Remembering
+pub mod NextChange
+pub mod Found
 pub mod OfGoneFilters
 pub mod OfJournals

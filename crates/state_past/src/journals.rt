@@ -7,12 +7,17 @@
 //! to it: what is told of the tables is theirs at every point (`answer_by`). Where they stand at a point,
 //! they answer what the journal's state there answers (`lists_answer`).
 //!
+//! Where an answer is another next is told beside it (`PointChanges`). The tables are the lists' own, so they
+//! stay as they are.
+//!
 //! The journal is lent to say of which states the past is. No call reads it.
 //!
 //! Plain data lent by `&`, which any thread may read. No call takes memory.
 
 mod answers;
+mod changes;
 mod laws;
 
 pub use answers::JournalAnswers;
+pub use changes::PointChanges;
 pub use laws::lists_answer;

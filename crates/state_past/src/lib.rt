@@ -11,6 +11,10 @@
 //! (`gone_filters`); what is there then is asked of the lists after it. Points are counted over the whole
 //! journal, so nothing is cleared between rounds.
 //!
+//! Whoever goes through what a walk may meet from a point on asks where an answer is another next
+//! (`look_up_after`, `params_after`, `mask_after`). What was put is found by halving too, and passed by where
+//! it is what stood there before.
+//!
 //! Whoever keeps a past of their own beside this one names slots as it does (`slot_name`), and finds the
 //! filter that an edit put by `coming_in`.
 //!
@@ -27,12 +31,16 @@
 #![tactic(auto)]
 
 mod actions;
+mod alike;
+mod changes;
 mod coming;
 mod following;
+mod found;
 pub mod gone_filters;
 pub mod journals;
 mod masks;
 mod names;
+mod others;
 mod past;
 mod slots;
 mod telling;

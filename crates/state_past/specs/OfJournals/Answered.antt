@@ -1,6 +1,5 @@
 -- What is answered for the states of a journal (this project's own).
 use Rattle.std.specs.Prelude.{ℕ, List, Option, Some, map}
-use Rattle.tc_base.specs.declared.hook.Hook.{Hook}
 use Rattle.filter_state.specs.declared.edit.Edit.{Edit}
 use Rattle.filter_state.specs.Journals.{state_at}
 use Rattle.filter_tables.specs.Rows.{tables_on}

@@ -1,6 +1,7 @@
 //! Who answers for the states of a journal.
 
 use crate::StatePast;
+use crate::journals::changes::PointChanges;
 use act_kinds::Params;
 use classify_walk::tell_heads;
 use filter_lists::{Edit, Lists};
@@ -63,5 +64,19 @@ impl PointAnswers for JournalAnswers<'_> {
 
     fn params(&self, point: Point, serial: u32) -> Option<Params> {
         self.past.params(point, serial)
+    }
+}
+
+impl PointChanges for JournalAnswers<'_> {
+    fn head_after(&self, _point: Point, _hook: Hook) -> Option<Point> {
+        None
+    }
+
+    fn look_up_after(&self, point: Point, mask: u32, key: &Key<14>) -> Option<Point> {
+        self.past.look_up_after(point, mask, key)
+    }
+
+    fn params_after(&self, point: Point, serial: u32) -> Option<Point> {
+        self.past.params_after(point, serial)
     }
 }
