@@ -1,0 +1,12 @@
+pub mod Fates
+pub mod Meeting
+pub mod Firsts
+pub mod Order
+pub mod Games
+pub mod Points
+pub mod Ways
+pub mod Walks
+pub mod Told
+pub mod Kinds
+pub mod Rounds
+pub mod Turns
