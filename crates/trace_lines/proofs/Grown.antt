@@ -1,5 +1,7 @@
 -- Texts that grow by lines.
-use Rattle.std.proofs.Common.{◌≡◌, ◌∙◌, ℕ, List, ◌∷◌, ◌++◌, append_assoc, Result, Ok, Err, OnOk, fold, sym, ap, ap₂}
+use Rattle.std.proofs.Common.{◌≡◌, ◌∙◌, ℕ, ◌+◌, ◌<◌, List, [], ◌∷◌, ◌++◌, append_assoc, Result, Ok, Err, OnOk, fold, sym, ap, ap₂}
+use Rattle.std.specs.Fmt.{decimal}
+use Rattle.std.proofs.lemmas.Fmt.{decimal_digit}
 use Rattle.std.proofs.lemmas.Grind.{flat_map-append}
 use Rattle.tc_print.specs.Texts.{onto}
 use Rattle.tc_print.proofs.Grown.{onto_append}
@@ -37,3 +39,7 @@ two_more text once twice new line a b first second third =
 
 pub lines_more : (text once new : List ℕ) (a b : List (List ℕ)) → once ≡ text ++ joined a → new ≡ once ++ joined b → new ≡ text ++ joined (a ++ b)
 lines_more text once new a b first second = second ∙ ap (λ (t : List ℕ). t ++ joined b) first ∙ joined_more text a b
+
+-- a number of one digit
+pub one_digit : (n : ℕ) → n < 10 → decimal n ≡ (48 + n) ∷ []
+one_digit n low = decimal_digit n low

@@ -1,8 +1,9 @@
 -- What the functions of this crate tell, each by what it is given. But for `before_of`, only the contracts of
 -- private functions speak of these words: a step's lines are those of `Lines`.
-use Rattle.std.specs.Prelude.{ℕ, ◌+◌, ◌==◌, ◌&&◌, nat_le, Bool, true, false, List, [], ◌∷◌, ◌++◌}
+use Rattle.std.specs.Prelude.{◌≡◌, ◌⊎◌, ℕ, ◌+◌, ◌==◌, ◌&&◌, nat_le, Bool, true, false, List, [], ◌∷◌, ◌++◌}
 use Rattle.std.specs.Prelude.{length, Option, Some, None, option_map, if◌then◌else◌, codes}
 use Rattle.std.specs.Fmt.{decimal}
+use Rattle.std.specs.List.{flat_map}
 use Rattle.std.specs.Str.{bytes_eq}
 use Rattle.tc_base.specs.declared.hook.Hook.{Hook}
 use Rattle.tc_base.specs.declared.hook.Proto.{Proto}
@@ -61,6 +62,14 @@ is_same (Some (seen_ether, seen_values)) ether values = seen_ether == ether && b
 
 abbrev pub frame_words_of : ℕ → List ℕ → List (List ℕ)
 frame_words_of ether values = codes "fields" ∷ codes "protocol" ∷ ether_type_text ether ∷ value_words values
+
+-- words behind a line that has some: each with a space before it
+abbrev pub words_behind : List (List ℕ) → List ℕ
+words_behind words = flat_map (λ (word : List ℕ). 32 ∷ word) words
+
+-- what is kept for some words: nothing, or those
+abbrev pub IsKept : List ℕ → List (List ℕ) → Type 0
+IsKept kept words = (kept ≡ []) ⊎ (kept ≡ words_behind words)
 
 abbrev pub frame_lines_of : Told → Seen → ℕ → List ℕ → List (List ℕ)
 frame_lines_of told seen ether values =

@@ -6,14 +6,16 @@ ghost use Rattle.trace_lines.specs.Lines.{joined};
 ghost use Rattle.trace_lines.specs.Parts.{named_table_words, table_lines_at, frame_words_of, frame_lines_of};
 ghost use Rattle.trace_lines.specs.Parts.{frame_lines_at, seen_at};
 
+use crate::kept_frames::push_kept_frame;
 use crate::keys::whole_mask;
 use crate::page::{Page, begin_line, put_line};
 use crate::seen_frame::SeenFrame;
 use crate::told::Told;
+use crate::words::{push_named, push_word};
 use flow_fields::Key;
 use std::alloc::AllocError;
 use tc_base::Proto;
-use tc_print::{push_fields, push_named, push_protocol_word, push_word};
+use tc_print::{push_fields, push_protocol_word};
 use walk_steps::Stand;
 
 fn push_table(line: &mut Vec<u8>, chain: u32, pref: u32, protocol: Proto) -> Result<(), AllocError>
@@ -46,7 +48,8 @@ pub(crate) fn tell_table(page: &mut Page, told: Told, stand: Stand) -> Result<()
     }
 }
 
-fn push_frame(line: &mut Vec<u8>, ether: u16, key: &Key<14>) -> Result<(), AllocError>
+/// Puts the words that tell a frame's fields behind a line, each with a space before it unless that is empty.
+pub(crate) fn push_frame(line: &mut Vec<u8>, ether: u16, key: &Key<14>) -> Result<(), AllocError>
     ensures { OnOk result (line.new.items
         ≡ fold onto line.old.items (frame_words_of ether (values_of key.now.words))) }
 {
@@ -73,7 +76,7 @@ fn tell_frame(
     }
     seen.set(ether, key);
     begin_line(&mut page.line, told)?;
-    push_frame(&mut page.line, ether, key)?;
+    push_kept_frame(&mut page.line, &mut page.kept, ether, key)?;
     put_line(&mut page.text, &page.line)
 }
 

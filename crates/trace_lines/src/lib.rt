@@ -11,14 +11,16 @@
 //! filter's own key. Which line brought a filter or an action isn't known here: whoever calls says it through
 //! `Naming`.
 //!
-//! A page keeps its rooms from packet to packet, so once they have grown, lines take no memory. The only
-//! fault is that there is none left. Plain data, one thread at a time.
+//! A page keeps its rooms from packet to packet, so once they have grown, lines take no memory. It also keeps
+//! the words of some thousand frames (`kept_frames`), since a flow's frames have the same fields. The only
+//! fault is that no memory is left. Plain data, one thread at a time.
 //!
 //! Not promised: what is on a page, and what was told of a frame, where memory was refused.
 #![tactic(auto)]
 
 mod before;
 mod frames;
+mod kept_frames;
 mod keys;
 mod look_ups;
 mod naming;

@@ -7,12 +7,12 @@ ghost use Rattle.trace_lines.specs.Lines.{miss_words, match_words, match_origin}
 
 use crate::keys::key_under;
 use crate::naming::Naming;
-use crate::words::push_origin;
+use crate::words::{push_origin, push_word};
 use edit_lines::Origin;
 use flow_fields::Key;
 use std::alloc::AllocError;
 use tc_base::Point;
-use tc_print::{push_fields, push_word};
+use tc_print::push_fields;
 
 // The mask of a serial, or one without fields where it isn't known.
 fn known_mask<N: Naming>(names: &N, point: Point, mask: u32) -> Key<14>

@@ -2,17 +2,20 @@
 ghost use Rattle.std.specs.Prelude.{◌≡◌, [], ◌∷◌, ◌++◌, take, codes, decimal, fold, OnOk};
 ghost use Rattle.tc_print.specs.Texts.{onto};
 
+use crate::kept_frames::KeptFrame;
 use crate::told::Told;
+use crate::words::push_named;
 use std::alloc::{AllocError, Global};
 use std::marker::Model;
 use tc_base::NoMemory;
-use tc_print::push_named;
 
-/// The text of some packets' lines, and room for one more line. In a clause a page is its text.
+/// The text of some packets' lines, room for one more line, and the words of frames that were told lately. In
+/// a clause a page is its text.
 #[derive(Drop)]
 pub struct Page {
     pub(crate) line: Vec<u8>,
     pub(crate) text: Vec<u8>,
+    pub(crate) kept: Vec<KeptFrame>,
 }
 
 impl Model for Page {
@@ -31,6 +34,7 @@ impl Page {
         Page {
             line: Vec::new(alloc),
             text: Vec::new(alloc),
+            kept: Vec::new(alloc),
         }
     }
 

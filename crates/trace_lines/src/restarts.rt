@@ -8,10 +8,10 @@ use crate::page::{Page, begin_line, put_line};
 use crate::runs::found_no_room;
 use crate::told::Told;
 use crate::visit::Visit;
+use crate::words::{push_named, push_word};
 use act_kinds::{Control, Params};
 use point_walks::Answered;
 use std::alloc::AllocError;
-use tc_print::{push_named, push_word};
 use walk_rules::VISITS_MAX;
 use walk_steps::Stand;
 

@@ -6,10 +6,10 @@ ghost use Rattle.trace_lines.specs.Parts.{no_room, place_words, effect_words, ac
 
 use crate::naming::Naming;
 use crate::visit::Visit;
-use crate::words::push_maker;
+use crate::words::{push_maker, push_named, push_word};
 use act_kinds::{Params, VlanOp};
 use std::alloc::AllocError;
-use tc_print::{push_index, push_named, push_params, push_word};
+use tc_print::push_params;
 use walk_steps::Stand;
 
 /// The bytes of an Ethernet header.
@@ -87,7 +87,7 @@ pub(crate) fn push_run<N: Naming>(
     push_place(line, visit.before.stand)?;
     push_named(line, "serial", u64::from(serial))?;
     push_params(line, params)?;
-    push_index(line, Some(names.index(serial)))?;
+    push_named(line, "index", u64::from(names.index(serial)))?;
     push_effect(line, params, visit.before.length, visit.length)?;
     push_maker(line, names.action(visit.point, serial))
 }

@@ -18,12 +18,11 @@ use crate::runs::push_run;
 use crate::seen_frame::SeenFrame;
 use crate::told::Told;
 use crate::visit::Visit;
-use crate::words::{push_hook_word, push_point};
+use crate::words::{push_hook_word, push_named, push_point, push_word};
 use edit_lines::Origin;
 use point_walks::Answered;
 use std::alloc::AllocError;
 use tc_base::{Hook, NoMemory, Point};
-use tc_print::{push_named, push_word};
 use walk_steps::{Stand, Walk};
 
 /// Tells what stands before a visit: the table, where its first mask is looked at, and the frame's fields,
