@@ -1,3 +1,4 @@
+pub mod Passed
 pub mod OneList
 pub mod OfRuns
 pub mod Places

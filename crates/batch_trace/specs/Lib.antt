@@ -1,3 +1,4 @@
 pub mod Accepted
 pub mod Traced
 pub mod Meeting
+pub mod Passed

@@ -21,6 +21,9 @@ mod telling;
 mod traced_batch;
 mod writing;
 
+pub use filter_origins::{Brought, Origins};
+pub use journal_names::{JournalNames, push_decided};
 pub use laws::{entries_of_runs, nothing_else_is_told, one_list, walks_are_traced};
+pub use state_past::journals::JournalAnswers;
 pub use traced_batch::{TracedBatch, trace_batch};
 pub use writing::write_trace;

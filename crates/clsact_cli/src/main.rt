@@ -38,7 +38,8 @@ fn is_for_job(words: &[String]) -> bool
             Command::Walk { .. }
             | Command::Show { .. }
             | Command::Recheck { .. }
-            | Command::Trace { .. },
+            | Command::Trace { .. }
+            | Command::TraceReport { .. },
         )
         | None => false,
     }

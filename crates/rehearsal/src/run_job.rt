@@ -1,30 +1,24 @@
 //! The command `run`.
 ghost use Rattle.std.specs.Prelude.{◌≡◌, [], ◌⊎◌, ◌<◌, ◌^◌, IfOk, IfErr, OnOk};
 ghost use Rattle.tc_base.specs.Outside.{Appended, AppendsUpTo};
-ghost use Rattle.run_report.specs.Counts.{events_in, packets_in};
-ghost use Rattle.run_report.specs.Reports.{report_text};
-ghost use Rattle.lawful_runs.specs.Given.{IsLoaded};
-ghost use Rattle.lawful_runs.specs.Lawful.{IsLawfulRun};
 ghost use Rattle.tool_words.specs.Command.{Run};
 ghost use Rattle.tool_words.specs.Ends.{IsAllDone};
-ghost use Rattle.job_files.specs.Inputs.{FetchesInput};
 ghost use Rattle.tool_run.specs.Asks.{PutsOutput, output_names};
 ghost use Rattle.tool_run.specs.Causes.{CausedTo};
 ghost use Rattle.tool_run.specs.Delivered.{LeavesAllUnlessRun};
 ghost use Rattle.tool_run.specs.OfOutputs.Outputs.{outputs_of};
 ghost use Rattle.tool_run.specs.OfOutputs.Puts.{ArePut, ArePutUpTo};
 ghost use Rattle.tool_run.specs.Parts.{DeliveryFails};
+ghost use Rattle.tool_run.specs.Passed.{FetchesInput, IsLoaded, IsLawfulRun};
+ghost use Rattle.tool_run.specs.Passed.{events_in, packets_in, report_text};
 ghost use Rattle.tool_run.specs.Runs.{RanJob, RanSoFar, status_of_run};
 
-use job_files::load_job;
 use job_rounds::{make_hooks, run_job};
-use lawful_runs::LoadedJob;
-use run_report::{RunRecord, summary_of, write_report};
 use std::alloc::Global;
 use std::sync::Wait;
 use std::thread::Threads;
 use tc_base::{Gate, NoMemory, Shelf, Sink};
-use tool_run::put_outputs;
+use tool_run::{LoadedJob, RunRecord, load_job, put_outputs, summary_of, write_report};
 use tool_words::Status;
 
 /// Runs a job over a hook of its own.

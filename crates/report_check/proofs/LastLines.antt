@@ -14,11 +14,11 @@ use Rattle.run_report.specs.declared.outcomes.Outcome.{Outcome}
 use Rattle.run_report.specs.declared.rounds.RoundRecord.{RoundRecord}
 use Rattle.run_report.specs.declared.record.RunRecord.{RunRecord}
 use Rattle.run_report.specs.Counts.{passed_count, edits_in, events_in, packets_in, passed_in, summary_of}
-use Rattle.run_report.specs.Reports.{counter_lines}
+use Rattle.run_report.specs.Reports.{counter_lines, report_text}
 use Rattle.lawful_runs.specs.declared.loaded.LoadedJob.{LoadedJob}
 use Rattle.lawful_runs.specs.Given.{GivenRound, IsLoaded, given_rounds, packet_count}
-use Rattle.lawful_runs.specs.Lawful.{made_by, counter_of, counters_of, outcomes_in, executed_in, IsLawfulReport}
-use Rattle.report_laws.specs.OfLineCuts.Cuts.{cut}
+use Rattle.lawful_runs.specs.Lawful.{made_by, counter_of, counters_of, outcomes_in, executed_in, IsRunWith, IsLawfulReport}
+use Rattle.report_laws.specs.OfLineCuts.Cuts.{cut, joined}
 use Rattle.report_laws.specs.Stands.{Stand, start, closing, run_of, last_lines, settled, settled_at, Takes, IsPath, journal_length}
 use Rattle.report_laws.specs.OfWholePaths.FirstBadLines.{IsFirstBadLine, IsOpen}
 use Rattle.report_laws.proofs.Paths.{path_append}
@@ -26,13 +26,17 @@ use Rattle.report_laws.proofs.OnePath.{path_grows}
 use Rattle.report_laws.proofs.ShortJournals.{journal_few}
 use Rattle.report_laws.proofs.OfWholePaths.Completing.{completes}
 use Rattle.report_laws.proofs.OfWholePaths.Reached.{run_of_path}
+use Rattle.report_laws.proofs.OfWholePaths.Cutting.{joined_cut}
 use Rattle.report_laws.proofs.OfWholePaths.Exact.{bad_line, cut_short, whole_report}
 use Rattle.report_check.specs.declared.events.cursor.Cursor.{Cursor}
 use Rattle.report_check.specs.OfEvents.Cursors.{lines_left, IsNextLine, IsAt, GetsStuck, IsStuck, MustBe}
+use Rattle.report_check.specs.declared.events.replay.Replay.{Replay}
 use Rattle.report_check.specs.declared.rounds.Progress.{Progress}
 use Rattle.run_counts.specs.Counting.{count_of, counted_in}
 use Rattle.report_check.specs.Counting.{counted_lines}
 use Rattle.report_check.specs.Checks.{IsUntitled}
+use Rattle.report_check.specs.Replayed.{IsReplayOf}
+use Rattle.report_check.specs.OfEvents.Placed.{places_in}
 use Rattle.report_check.specs.OfEvents.Replays.{IsKept}
 use Rattle.report_check.specs.Walked.{AreWalkers}
 use Rattle.report_check.specs.Between.{IsBetween}
@@ -147,6 +151,26 @@ is_lawful loaded bytes cursor run journal at none =
     let all : cut bytes ≡ at.lines = at.gone ∙ ap (λ (ls : List (List ℕ)). at.lines ++ ls) none ∙ append-nil at.lines in
     whole_report loaded bytes run journal (subst (λ (ls : List (List ℕ)). IsPath loaded start ls (closing run journal [])) (sym all) at.path)
 
+-- and the run that it is the report of
+pub lawful_run : (loaded : LoadedJob) (bytes : List ℕ) (cursor : Cursor) (run : RunRecord) (journal : List Edit) → IsAt loaded bytes cursor (closing run journal []) → lines_left bytes cursor ≡ []
+    → IsRunWith loaded run journal × (bytes ≡ report_text run)
+lawful_run loaded bytes cursor run journal at none =
+    let all : cut bytes ≡ at.lines = at.gone ∙ ap (λ (ls : List (List ℕ)). at.lines ++ ls) none ∙ append-nil at.lines in
+    let it = run_of_path loaded run journal (cut bytes) (subst (λ (ls : List (List ℕ)). IsPath loaded start ls (closing run journal [])) (sym all) at.path) in
+    (it.0, sym (joined_cut bytes) ∙ ap joined it.1)
+
+-- with what its journal leads to
+pub replay_of : (loaded : LoadedJob) (report : List ℕ) (replay : Replay) (run : RunRecord) → IsLoaded loaded → IsKept replay → replay.places.items ≡ places_in run.rounds → IsRunWith loaded run replay.journal.items × (report ≡ report_text run)
+    → IsReplayOf loaded report replay
+replay_of loaded report replay run is kept placed (lawful, reported) = record {
+  kept = kept;
+  few = journal_few loaded run replay.journal.items is lawful;
+  run = run;
+  lawful = lawful;
+  reported = reported;
+  placed = placed;
+}
+
 -- a line behind the last one
 pub too_many : (loaded : LoadedJob) (bytes : List ℕ) (cursor : Cursor) (run : RunRecord) (journal : List Edit) (line : List ℕ) (rest : List (List ℕ)) → IsAt loaded bytes cursor (closing run journal []) → lines_left bytes cursor ≡ line ∷ rest
     → IsStuck loaded bytes cursor
@@ -191,13 +215,14 @@ titled bytes cursor is next untitled =
 pub start_open : IsOpen start
 start_open = λ run journal is. cc is
 
-pub first_between : (loaded : LoadedJob) (bytes : List ℕ) (progress : Progress) → IsAt loaded bytes progress.cursor (settled loaded [] []) → IsKept progress.replay → progress.replay.journal.items ≡ [] → progress.replay.refused ≡ 0
+pub first_between : (loaded : LoadedJob) (bytes : List ℕ) (progress : Progress) → IsAt loaded bytes progress.cursor (settled loaded [] []) → IsKept progress.replay → progress.replay.journal.items ≡ [] → progress.replay.places.items ≡ [] → progress.replay.refused ≡ 0
     → AreWalkers loaded.job.workers [] [] progress.walkers → progress.captures ≡ 0 → IsBetween loaded bytes 0 progress
-first_between loaded bytes progress at kept none unrefused are captures = record {
+first_between loaded bytes progress at kept none unplaced unrefused are captures = record {
   its = [];
   count_is = refl;
   is_at = subst (λ (es : List Edit). IsAt loaded bytes progress.cursor (settled loaded [] es)) (sym none) at;
   kept = kept;
+  placed = unplaced;
   edits = sym (ap length none);
   refused = (let zero_edits : edits_in [] ≡ 0 = refl in let zero_events : events_in [] ≡ 0 = refl in omega (arith, unrefused, zero_edits, zero_events));
   fewer = omega (arith, unrefused);

@@ -1,3 +1,4 @@
+pub mod Passed
 pub mod Lists
 pub mod Begun
 pub mod Stuck

@@ -2,7 +2,9 @@
 use Rattle.std.proofs.Common.{◌≡◌, ◌∙◌, ℕ, zero, suc, ◌+◌, ◌-◌, ◌<◌, ◌≤◌, List, [], ◌∷◌, ◌++◌, length, take, Option, Some, None, refl, sym, ap, subst, arith, append-nil, inr}
 use Rattle.std.specs.Prelude.{slice_get, codes}
 use Rattle.std.proofs.lemmas.List.{length-append, length-map, take-append-le}
+use Rattle.std.proofs.lemmas.List.Concat.{flat_map-append}
 use Rattle.std.proofs.lemmas.List.Sums.{sum_by-append, sum_by-cons}
+use Rattle.edit_lines.specs.declared.line.LinePlace.{LinePlace}
 use Rattle.pcap_io.specs.declared.capture.Packet.{Packet}
 use Rattle.pcap_io.specs.declared.capture.Capture.{Capture}
 use Rattle.filter_state.specs.declared.edit.Edit.{Edit}
@@ -26,6 +28,7 @@ use Rattle.report_laws.proofs.OfNextLines.NextOutcomes.{takes_end_alone}
 use Rattle.report_check.specs.declared.events.cursor.Cursor.{Cursor}
 use Rattle.report_check.specs.declared.events.replay.Replay.{Replay}
 use Rattle.report_check.specs.OfEvents.Cursors.{IsAt, MustBe}
+use Rattle.report_check.specs.OfEvents.Placed.{places_of, places_in}
 use Rattle.report_check.specs.OfEvents.Told.{HasBegun, AreOver}
 use Rattle.report_check.specs.declared.rounds.Progress.{Progress}
 use Rattle.report_check.specs.declared.walkers.Walkers.{Walkers}
@@ -159,6 +162,10 @@ edits_push its it =
     let none : edits_in [] ≡ 0 = refl in
     omega (arith, sum, one, none)
 
+places_push : (its : List RoundRecord) (it : RoundRecord) → places_in (its ++ (it ∷ [])) ≡ places_in its ++ places_of it.events
+places_push its it =
+    flat_map-append (λ (r : RoundRecord). places_of r.events) its (it ∷ []) ∙ ap (λ (ps : List LinePlace). places_in its ++ ps) (append-nil (places_of it.events))
+
 -- ---- behind the last line
 pub is_between : (loaded : LoadedJob) (bytes : List ℕ) (number : ℕ) (progress : Progress) (b : IsBetween loaded bytes (number - 1) progress) (o : IsOpening loaded bytes number b.its progress.replay.journal.items progress.cursor) (behind : Cursor) (replay : Replay)
     (over : AreOver loaded bytes b.its o.given progress.replay behind replay) (walkers : Walkers) (later end : Cursor) → IsLoaded loaded → 1 ≤ number
@@ -197,6 +204,7 @@ is_between loaded bytes number progress b o behind replay over walkers later end
       count_is = omega (arith, count, number_is);
       is_at = subst (λ (es : List Edit). IsAt loaded bytes end (settled loaded its es)) (sym over.told.journal_is) at;
       kept = over.told.kept;
+      placed = over.told.placed ∙ ap (λ (ps : List LinePlace). ps ++ places_of over.told.it.events) b.placed ∙ sym (places_push b.its it);
       edits = omega (arith, pushed, accepted, long, sum, before);
       refused = omega (arith, pushed, accepted, before, grown, refused, earlier);
       fewer = omega (arith, few, onward);

@@ -9,6 +9,7 @@ use Rattle.report_laws.specs.Stands.{settled}
 use Rattle.report_check.specs.declared.events.cursor.Cursor.{Cursor}
 use Rattle.report_check.specs.declared.events.replay.Replay.{Replay}
 use Rattle.report_check.specs.OfEvents.Cursors.{IsAt}
+use Rattle.report_check.specs.OfEvents.Placed.{places_in}
 use Rattle.report_check.specs.OfEvents.Replays.{IsKept}
 use Rattle.report_check.specs.declared.rounds.Progress.{Progress}
 use Rattle.report_check.specs.declared.walkers.Walkers.{Walkers}
@@ -21,6 +22,7 @@ pub record IsBetween (loaded : LoadedJob) (bytes : List ℕ) (count : ℕ) (prog
   pub count_is : length its ≡ count
   pub is_at : IsAt loaded bytes progress.cursor (settled loaded its progress.replay.journal.items)
   pub kept : IsKept progress.replay
+  pub placed : progress.replay.places.items ≡ places_in its
   pub edits : edits_in its ≡ length progress.replay.journal.items
   pub refused : progress.replay.refused + edits_in its ≡ events_in its
   pub fewer : progress.replay.refused ≤ progress.cursor.line

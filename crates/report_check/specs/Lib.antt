@@ -1,4 +1,5 @@
 pub mod Checks
+pub mod Replayed
 pub mod Counting
 pub mod Walked
 pub mod Walks
@@ -6,3 +7,4 @@ pub mod Rounds
 pub mod Between
 pub mod OfEvents
 pub mod OfReading
+pub mod Passed

@@ -8,6 +8,7 @@ ghost use Rattle.lawful_runs.specs.declared.loaded.LoadedJob.{LoadedJob};
 ghost use Rattle.lawful_runs.specs.Given.{IsLoaded};
 ghost use Rattle.report_laws.specs.Stands.{closing};
 ghost use Rattle.report_check.specs.OfEvents.Cursors.{IsWithin, IsAt, IsStuck};
+ghost use Rattle.report_check.specs.OfEvents.Placed.{places_in};
 ghost use Rattle.report_check.specs.Between.{IsBetween};
 ghost use Rattle.report_check.specs.Counting.{counted_lines};
 
@@ -95,10 +96,12 @@ pub(crate) fn check_closing(
     requires between { (loaded : LoadedJob) × IsLoaded loaded
         × IsBetween loaded report.now (length loaded.job.rounds) progress.old }
     ensures within { IsWithin report.now progress.new.cursor }
+    ensures replay { progress.new.replay ≡ progress.old.replay }
     ensures through { result ≡ Ok true → (loaded : LoadedJob)
         → IsBetween loaded report.now (length loaded.job.rounds) progress.old
-        → (run : RunRecord) × (journal : List Edit)
-        × IsAt loaded report.now progress.new.cursor (closing run journal (codes "end\n" ∷ [])) }
+        → (run : RunRecord) × (progress.old.replay.places.items ≡ places_in run.rounds)
+        × IsAt loaded report.now progress.new.cursor
+        (closing run progress.old.replay.journal.items (codes "end\n" ∷ [])) }
     ensures stuck { result ≡ Ok false → (loaded : LoadedJob)
         → IsBetween loaded report.now (length loaded.job.rounds) progress.old
         → IsStuck loaded report.now progress.new.cursor }

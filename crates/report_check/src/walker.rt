@@ -9,10 +9,10 @@ use tc_base::{NoMemory, Point};
 #[derive(Drop)]
 pub struct Walker {
     /// The lists behind so many edits of the journal.
-    pub(crate) lists: Lists,
-    pub(crate) at: Point,
+    pub lists: Lists,
+    pub at: Point,
     /// The greatest point of its walks.
-    pub(crate) seen: Point,
+    pub seen: Point,
 }
 
 impl Walker {
@@ -23,7 +23,7 @@ impl Walker {
     ghost use Rattle.filter_lists.specs.Spells.{Spells};
 
     /// A worker that walked no packet.
-    pub(crate) fn new(alloc: Global) -> Walker
+    pub fn new(alloc: Global) -> Walker
         ensures lists { Spells result.lists no_state }
         ensures points { (result.at ≡ 0) × (result.seen ≡ 0) }
     {
@@ -35,7 +35,7 @@ impl Walker {
     }
 
     /// Takes the lists to a point of the journal that isn't behind them.
-    pub(crate) fn follow(&mut self, journal: &[Edit], point: Point) -> Result<(), NoMemory>
+    pub fn follow(&mut self, journal: &[Edit], point: Point) -> Result<(), NoMemory>
         requires lawful { IsLawful journal.now }
         requires short { length journal.now ≤ COMMANDS_MAX }
         requires lists { Spells self.old.lists (state_at self.old.at journal.now) }

@@ -15,7 +15,7 @@ use Rattle.tool_words.specs.declared.status.InputKind.{InputKind}
 use Rattle.tool_words.specs.declared.status.InputKind.TheVariants as kinds
 use Rattle.tool_words.specs.declared.status.Status.{Status}
 use Rattle.tool_words.specs.declared.status.Status.TheVariants as statuses
-use Rattle.tool_words.specs.Command.{Request, Walk, Show, Run, Recheck, Gen, Trace}
+use Rattle.tool_words.specs.Command.{Request, Walk, Show, Run, Recheck, Gen, Trace, TraceReport}
 use Rattle.tool_words.specs.Ends.{status_after}
 use Rattle.job_files.specs.OfInputs.Holdings.{Holds, HasTooManyLines, HasCapture, HasBreak}
 use Rattle.job_files.proofs.OfInputs.Readings.{same_past, not_past, not_broken, same_break}
@@ -23,7 +23,7 @@ use Rattle.tool_run.specs.Holdings.{HasCommands}
 use Rattle.tool_run.specs.Work.{BatchEnds, BatchBreaks, Ends, EndsOnly, Breaks, IsRead}
 use Rattle.tool_run.specs.Causes.{DueTo, AllowedTo}
 use Rattle.tool_run.proofs.Readings.{same_run}
-use Rattle.tool_run.proofs.Rechecking.{RecheckDue, recheck_due, one_recheck, rechecked_stands}
+use Rattle.tool_run.proofs.Rechecking.{RecheckDue, recheck_due, one_recheck, rechecked_stands, traced_as_rechecked}
 use Rattle.tool_run.proofs.Running.{one_run, ran_stands}
 
 -- ---- a batch: it ran, or it passes the limit of commands
@@ -220,6 +220,16 @@ recheck_owed : (held : Held) (j p : List ℕ) (status : Status) → DueTo (Some 
 recheck_owed held j p status due =
     recheck_due (Some held) j p status (due_allowed (Some held) (Recheck j p) (λ s e. e) status due)
 
+-- of a trace of the report what a recheck of it owes
+traced_recheck : (told : Option Held) (j p : List ℕ) (status : Status) → AllowedTo told (TraceReport j p) status
+    → RecheckDue told j p status
+traced_recheck told j p status due = recheck_due told j p status (traced_as_rechecked told j p status due)
+
+report_owed : (held : Held) (j p : List ℕ) (status : Status) → DueTo (Some held) (TraceReport j p) status
+    → RecheckDue (Some held) j p status
+report_owed held j p status due =
+    traced_recheck (Some held) j p status (due_allowed (Some held) (TraceReport j p) (λ s e. e) status due)
+
 gen_owed : (held : Held) (n : ℕ) (p : List ℕ) (status : Status) → DueTo (Some held) (Gen n p) status
     → Ends (Some held) (Gen n p) status
 gen_owed held n p status due =
@@ -236,6 +246,8 @@ is_due held (Trace hook b c) x y h k =
 is_due held (Run j) x y h k = one_run held j x y h k
 is_due held (Recheck j p) x y h k =
     one_recheck held j p x y (recheck_due (Some held) j p x h) (recheck_owed held j p y k)
+is_due held (TraceReport j p) x y h k =
+    one_recheck held j p x y (traced_recheck (Some held) j p x h) (report_owed held j p y k)
 is_due held (Gen n p) x y h k =
     one_gen (Some held) n p x y (gen_due (Some held) n p x h) (gen_owed held n p y k)
 
@@ -252,4 +264,6 @@ stands held (Trace hook b c) name status is due =
 stands held (Run j) name status is due = ran_stands held j name status due is
 stands held (Recheck j p) name status is due =
     rechecked_stands held j p name status (recheck_owed held j p status due) is
+stands held (TraceReport j p) name status is due =
+    rechecked_stands held j p name status (report_owed held j p status due) is
 stands held (Gen n p) name status is due = absurd is

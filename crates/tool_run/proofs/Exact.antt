@@ -11,7 +11,7 @@ use Rattle.batch_run.proofs.Outcomes.{some_ran}
 use Rattle.gen_files.specs.Generated.{batch_text}
 use Rattle.tool_words.specs.declared.status.Status.{Status}
 use Rattle.tool_words.specs.declared.status.Status.TheVariants as statuses
-use Rattle.tool_words.specs.Command.{Request, Walk, Show, Run, Recheck, Gen, Trace}
+use Rattle.tool_words.specs.Command.{Request, Walk, Show, Run, Recheck, Gen, Trace, TraceReport}
 use Rattle.tool_words.specs.Ends.{status_after, IsAllDone}
 use Rattle.job_files.specs.OfInputs.Holdings.{Holds, HasBatch}
 use Rattle.job_files.specs.OfInputs.Failures.{ReadFails}
@@ -20,7 +20,7 @@ use Rattle.tool_run.specs.Work.{EndsOnly, IsRead}
 use Rattle.tool_run.specs.Causes.{DueTo, DueIn, AllowedTo, CausedTo, FailedOutside}
 use Rattle.tool_run.specs.Ready.{ShowReady, WalkReady, IsReady}
 use Rattle.tool_run.proofs.Due.{is_due, stands}
-use Rattle.tool_run.proofs.Rechecking.{recheck_complete}
+use Rattle.tool_run.proofs.Rechecking.{recheck_complete, traced_complete}
 use Rattle.tool_run.proofs.Running.{run_complete}
 use Rattle.tc_base.specs.Memory.{no_memory}
 
@@ -207,6 +207,9 @@ complete_to held read_faults failed_name write_faults faults old new a b (Rechec
     ready =
     recheck_complete held read_faults failed_name write_faults faults old new a b job report result cause
     ready
+complete_to held read_faults failed_name write_faults faults old new a b (TraceReport job report) result cause
+    ready =
+    traced_complete held read_faults failed_name write_faults faults old new a b job report result cause ready
 complete_to held read_faults failed_name write_faults faults old new a b (Gen count front) result cause
     ready =
     owed_to held read_faults failed_name write_faults faults old new a b (Gen count front) result cause ready

@@ -9,8 +9,10 @@ pub mod Loading
 pub mod OfOutputs
 pub mod OfQuietJobs
 pub mod PacketLines
+pub mod Passed
 pub mod Readings
 pub mod Rechecking
+pub mod ReportTracing
 pub mod Running
 pub mod Tracing
 pub mod Walking

@@ -1,4 +1,5 @@
--- The answer of a recheck that is due is one, and comes where its input is ready.
+-- The answer of a recheck that is due is one, and comes where its input is ready. A trace of the report has the
+-- same answer.
 use Rattle.std.proofs.Common.{◌≡◌, ◌⊎◌, inl, inr, ◌∙◌, ℕ, List, Option, Some, None, Ok, Err, refl, sym, ap, subst}
 use Rattle.std.specs.Prelude.{IsSomeAnd}
 use Rattle.tc_base.specs.Outside.{Held, Rose}
@@ -6,28 +7,24 @@ use Rattle.lawful_runs.specs.declared.loaded.LoadedJob.{LoadedJob}
 use Rattle.tool_words.specs.declared.status.InputKind.{InputKind}
 use Rattle.tool_words.specs.declared.status.Status.{Status}
 use Rattle.tool_words.specs.declared.status.Status.TheVariants as statuses
-use Rattle.tool_words.specs.Command.{Recheck}
+use Rattle.tool_words.specs.Command.{Recheck, TraceReport}
 use Rattle.tool_words.specs.Ends.{IsAllDone}
 use Rattle.job_files.specs.OfInputs.Holdings.{Holds}
 use Rattle.job_files.proofs.OfInputs.Readings.{same_bytes}
 use Rattle.job_files.specs.Holdings.{HasJob}
 use Rattle.job_files.specs.Faults.{JobBreaks}
 use Rattle.job_files.proofs.Exact.{stands}
-use Rattle.report_check.specs.declared.check.Check.{Check}
-use Rattle.report_check.specs.Checks.{IsCheckOf}
-use Rattle.report_check.proofs.OneCheck.{one_answer as one_check}
-use Rattle.tool_run.specs.Rechecks.{Judges, status_of_check, RecheckReads}
+use Rattle.report_trace.specs.Passed.{IsCheckOf}
+use Rattle.report_trace.proofs.Passed.{one_answer as one_check}
+use Rattle.tool_run.specs.Rechecks.{JudgmentEnds, status_of_check, RecheckReads}
 use Rattle.tool_run.specs.Causes.{AllowedTo, CausedTo}
 use Rattle.tool_run.specs.Ready.{RecheckReady}
 use Rattle.tool_run.proofs.JobFaults.{IsJobBreak, one_job, no_break, one_break}
 use Rattle.tc_base.specs.Memory.{no_memory}
 
 -- what is due: what the report is judged to be, or the first fault of the job's files
-abbrev IsJudged : Option Held → List ℕ → List ℕ → Status → Type 0
-IsJudged told job report status = (check : Check) × Judges told job report check × (status ≡ status_of_check check)
-
 abbrev pub RecheckDue : Option Held → List ℕ → List ℕ → Status → Type 0
-RecheckDue told job report status = IsJudged told job report status ⊎ IsJobBreak told job status
+RecheckDue told job report status = JudgmentEnds told job report status ⊎ IsJobBreak told job status
 
 pub recheck_due : (told : Option Held) (job report : List ℕ) (status : Status)
     → AllowedTo told (Recheck job report) status → RecheckDue told job report status
@@ -44,7 +41,7 @@ module _ (held : Held) (job report : List ℕ) where
   abbrev told : Option Held
   told = Some held
 
-  one_judged : (x y : Status) → IsJudged told job report x → IsJudged told job report y → x ≡ y
+  one_judged : (x y : Status) → JudgmentEnds told job report x → JudgmentEnds told job report y → x ≡ y
   one_judged x y h k =
       let first = h.1 in
       let second = k.1 in
@@ -115,3 +112,40 @@ recheck_complete held read_faults failed_name write_faults faults old new a b jo
 recheck_complete held read_faults failed_name write_faults faults old new a b job report (statuses.LinesRefused n) cause ready quiet_reads writes sinks = inl tt
 recheck_complete held read_faults failed_name write_faults faults old new a b job report (statuses.NotLawful n) cause ready quiet_reads writes sinks = inl tt
 recheck_complete held read_faults failed_name write_faults faults old new a b job report statuses.Usage cause ready quiet_reads writes sinks = absurd cause
+
+-- ---- a trace of the report is answered as a recheck of it
+pub traced_as_rechecked : (told : Option Held) (job report : List ℕ) (status : Status)
+    → AllowedTo told (TraceReport job report) status → AllowedTo told (Recheck job report) status
+traced_as_rechecked _ job report statuses.Done due = due
+traced_as_rechecked _ job report (statuses.LinesRefused n) due = due
+traced_as_rechecked _ job report (statuses.BadInput name place kind) due = due
+traced_as_rechecked _ job report (statuses.ReadFault name) due = due
+traced_as_rechecked _ job report (statuses.NotLawful line) due = due
+traced_as_rechecked _ job report statuses.Usage due = due
+traced_as_rechecked _ job report statuses.WriteFault due = due
+traced_as_rechecked _ job report (statuses.NoMemory memory) due = due
+
+pub traced_complete : {S O : Type 0} (held : S → Option Held) (read_faults : S → ℕ)
+    (failed_name : S → Option (List ℕ)) (write_faults : S → ℕ) (faults : O → ℕ) (old new : S)
+    (sink_old sink_new : O) (job report : List ℕ) (result : Status)
+    → CausedTo held read_faults failed_name write_faults faults old new sink_old sink_new (TraceReport job report)
+    result
+    → RecheckReady (held old) job report
+    → (Rose (read_faults old) (read_faults new) → ⊥) → (Rose (write_faults old) (write_faults new) → ⊥)
+    → (Rose (faults sink_old) (faults sink_new) → ⊥)
+    → IsAllDone result ⊎ (result ≡ statuses.NoMemory no_memory)
+traced_complete {S} {O} held read_faults failed_name write_faults faults old new a b job report result cause =
+    recheck_complete held read_faults failed_name write_faults faults old new a b job report result
+    (as_rechecked result cause)
+  where
+    as_rechecked : (status : Status)
+        → CausedTo held read_faults failed_name write_faults faults old new a b (TraceReport job report) status
+        → CausedTo held read_faults failed_name write_faults faults old new a b (Recheck job report) status
+    as_rechecked statuses.Done cause = cause
+    as_rechecked (statuses.LinesRefused n) cause = cause
+    as_rechecked (statuses.BadInput name place kind) cause = cause
+    as_rechecked (statuses.ReadFault name) cause = cause
+    as_rechecked (statuses.NotLawful line) cause = cause
+    as_rechecked statuses.Usage cause = cause
+    as_rechecked statuses.WriteFault cause = cause
+    as_rechecked (statuses.NoMemory memory) cause = cause

@@ -12,7 +12,7 @@ use Rattle.batch_run.specs.Commands.{Command, commands_of}
 use Rattle.batch_run.specs.Runs.{Ran, IsRun}
 use Rattle.batch_walk.specs.declared.walk.BatchWalk.{BatchWalk}
 use Rattle.batch_walk.specs.Walked.{IsWalked}
-use Rattle.batch_trace.specs.Traced.{IsTraceOf}
+use Rattle.report_trace.specs.Passed.{IsBatchTraceOf}
 use Rattle.tool_words.specs.Command.{Trace}
 use Rattle.tool_words.specs.declared.status.Status.{Status}
 use Rattle.tool_words.specs.Ends.{status_of, status_after, IsAllDone}
@@ -27,7 +27,7 @@ pub trace_gives : (told : Option Held) (hook : Hook) (batch other bytes : List �
     (capture : Capture) (walk : BatchWalk) (text : List ℕ) → HasBatch told COMMANDS_MAX batch bytes
     → commands ≡ commands_of bytes → HasCapture told PACKETS_MAX other capture
     → ((ran : Ran) × IsRun no_state 0 commands ran × IsWalked ran hook capture walk)
-    → ((ran : Ran) → IsWalked ran hook capture walk → IsTraceOf commands ran hook capture.packets text)
+    → ((ran : Ran) → IsWalked ran hook capture walk → IsBatchTraceOf commands ran hook capture.packets text)
     → GivesTrace told hook batch other text (status_after walk.refused)
 trace_gives told hook batch other bytes commands capture walk text held are stands walked traced = record {
   bytes = bytes;
@@ -36,7 +36,7 @@ trace_gives told hook batch other bytes commands capture walk text held are stan
   capture_held = stands;
   ran = walked.0;
   runs = subst (λ (cs : List Command). IsRun no_state 0 cs walked.0) are walked.1;
-  trace = subst (λ (cs : List Command). IsTraceOf cs walked.0 hook capture.packets text) are
+  trace = subst (λ (cs : List Command). IsBatchTraceOf cs walked.0 hook capture.packets text) are
       (traced walked.0 walked.2);
   status_is = ap status_after walked.2.refused;
 }

@@ -7,13 +7,14 @@ use Rattle.tc_report.specs.OfShownBatches.Shown.{shown}
 use Rattle.tool_run.specs.OfGenerated.Generated.{IsRunOf, made_files, made_text}
 use Rattle.tool_words.specs.declared.status.Status.{Status}
 use Rattle.tool_words.specs.declared.status.Status.TheVariants as statuses
-use Rattle.tool_words.specs.Command.{Request, Walk, Show, Run, Recheck, Gen, Trace}
-use Rattle.report_check.specs.declared.check.Check.{Check}
+use Rattle.tool_words.specs.Command.{Request, Walk, Show, Run, Recheck, Gen, Trace, TraceReport}
+use Rattle.report_trace.specs.Passed.{Check}
 use Rattle.tool_words.specs.Requests.{Names}
 use Rattle.tool_words.specs.Ends.{status_after}
 use Rattle.tool_run.specs.Holdings.{HasRun, Gives, GivesTrace}
 use Rattle.tool_run.specs.Made.{AllStand, AllElseStay, PutUpTo}
 use Rattle.tool_run.specs.Rechecks.{Judges, status_of_check, check_text}
+use Rattle.tool_run.specs.ReportTraces.{GivesReportTrace}
 use Rattle.tool_run.specs.Runs.{RanJob, RanSoFar}
 
 -- the text that the held batch gives was written, whole, and nothing put
@@ -51,6 +52,16 @@ pub record Rechecked (held_old held_new : Option Held) (written_old written_new 
   pub same : held_new ≡ held_old
   pub wrote : Appended written_old written_new (check_text check)
 
+-- what is told of the held report was written, and nothing put
+pub record TracedReport (held_old held_new : Option Held) (written_old written_new : Option (List ℕ))
+    (job report : List ℕ) (status : Status) : Type 0 where
+  pub check : Check
+  pub text : List ℕ
+  pub gives : GivesReportTrace held_old job report check text
+  pub ended : status ≡ status_of_check check
+  pub same : held_new ≡ held_old
+  pub wrote : Appended written_old written_new text
+
 -- the four files of so many filters stand, every other name holds what it held, and the text was written
 pub record Made (held_old held_new : Option Held) (written_old written_new : Option (List ℕ)) (count : ℕ)
     (front : List ℕ) (status : Status) : Type 0 where
@@ -77,6 +88,8 @@ DeliveredTo held_old held_new written_old written_new (Run job) status =
     RanJob held_old held_new written_old written_new job status
 DeliveredTo held_old held_new written_old written_new (Recheck job report) status =
     Rechecked held_old held_new written_old written_new job report status
+DeliveredTo held_old held_new written_old written_new (TraceReport job report) status =
+    TracedReport held_old held_new written_old written_new job report status
 
 abbrev pub DeliveredIn : Option Held → Option Held → Option (List ℕ) → Option (List ℕ) → Option Request
     → Status → Type 0
@@ -121,6 +134,14 @@ pub record RecheckedFront (held_old : Option Held) (written_old written_new : Op
   pub judges : Judges held_old job report check
   pub wrote : AppendsUpTo written_old written_new (check_text check)
 
+-- a front of what is told of the report was written
+pub record TracedReportFront (held_old : Option Held) (written_old written_new : Option (List ℕ))
+    (job report : List ℕ) : Type 0 where
+  pub check : Check
+  pub text : List ℕ
+  pub gives : GivesReportTrace held_old job report check text
+  pub wrote : AppendsUpTo written_old written_new text
+
 -- a front of a walk's text was written, and then the whole output was put before
 pub record WroteFront (held_old held_new : Option Held) (written_old written_new : Option (List ℕ))
     (hook : Hook) (names : Names) : Type 0 where
@@ -162,6 +183,9 @@ CameSoFar held_old held_new written_old written_new (Run job) =
 CameSoFar held_old held_new written_old written_new (Recheck job report) =
     (held_new ≡ held_old)
     × ((written_new ≡ written_old) ⊎ RecheckedFront held_old written_old written_new job report)
+CameSoFar held_old held_new written_old written_new (TraceReport job report) =
+    (held_new ≡ held_old)
+    × ((written_new ≡ written_old) ⊎ TracedReportFront held_old written_old written_new job report)
 CameSoFar held_old held_new written_old written_new (Gen count front) =
     MadeSoFar held_old held_new written_old written_new count front
 

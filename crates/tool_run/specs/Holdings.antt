@@ -9,7 +9,7 @@ use Rattle.filter_state.specs.States.{no_state}
 use Rattle.batch_run.specs.Commands.{commands_of}
 use Rattle.batch_run.specs.Runs.{Ran, IsRun}
 use Rattle.batch_walk.specs.Walked.{walk_text}
-use Rattle.batch_trace.specs.Traced.{IsTraceOf}
+use Rattle.report_trace.specs.Passed.{IsBatchTraceOf}
 use Rattle.tool_words.specs.declared.status.Status.{Status}
 use Rattle.tool_words.specs.Requests.{Names}
 use Rattle.walk_ends.specs.declared.limits.TheConstants.{PACKETS_MAX}
@@ -47,5 +47,5 @@ pub record GivesTrace (told : Option Held) (hook : Hook) (batch capture text : L
   pub capture_held : HasCapture told PACKETS_MAX capture packets
   pub ran : Ran
   pub runs : IsRun no_state 0 (commands_of bytes) ran
-  pub trace : IsTraceOf (commands_of bytes) ran hook packets.packets text
+  pub trace : IsBatchTraceOf (commands_of bytes) ran hook packets.packets text
   pub status_is : status ≡ status_after (is_some ran.stop)

@@ -7,9 +7,11 @@ pub mod Made
 pub mod OfOutputs
 pub mod OfQuietJobs
 pub mod Parts
+pub mod Passed
 pub mod Promises
 pub mod Ready
 pub mod Rechecks
+pub mod ReportTraces
 pub mod Runs
 pub mod Work
 pub mod Workloads

@@ -5,7 +5,7 @@ use Rattle.std.specs.Prelude.{◌≡◌, ℕ, List, Option, Some, IsSome}
 use Rattle.tc_base.specs.Outside.{Held}
 use Rattle.pcap_io.specs.declared.capture.Capture.{Capture}
 use Rattle.lawful_runs.specs.declared.loaded.LoadedJob.{LoadedJob}
-use Rattle.tool_words.specs.Command.{Request, Walk, Show, Run, Recheck, Gen, Trace}
+use Rattle.tool_words.specs.Command.{Request, Walk, Show, Run, Recheck, Gen, Trace, TraceReport}
 use Rattle.job_files.specs.OfInputs.Holdings.{Holds, HasBatch, HasCapture}
 use Rattle.job_files.specs.Holdings.{HasJob}
 
@@ -48,4 +48,5 @@ IsReady told (Walk hook b c o) = WalkReady told b c
 IsReady told (Trace hook b c) = WalkReady told b c
 IsReady told (Run job) = RunReady told job
 IsReady told (Recheck job report) = RecheckReady told job report
+IsReady told (TraceReport job report) = RecheckReady told job report
 IsReady told (Gen count front) = IsSome told

@@ -9,9 +9,8 @@ use Rattle.job_files.specs.OfInputs.Holdings.{Holds}
 use Rattle.job_files.specs.OfInputs.Failures.{ReadFails}
 use Rattle.job_files.specs.Holdings.{HasJob}
 use Rattle.job_files.specs.Faults.{JobBreaks, JobReads}
-use Rattle.report_check.specs.declared.check.Check.{Check}
-use Rattle.report_check.specs.declared.check.Check.TheVariants as checks
-use Rattle.report_check.specs.Checks.{IsCheckOf}
+use Rattle.report_trace.specs.Passed.{Check, IsCheckOf}
+use Rattle.report_trace.specs.Passed.checks
 
 abbrev pub status_of_check : Check → Status
 status_of_check checks.Lawful = statuses.Done
@@ -29,6 +28,11 @@ pub record Judges (told : Option Held) (job report : List ℕ) (check : Check) :
   pub job_held : HasJob told job loaded
   pub report_held : Holds told report bytes
   pub is : IsCheckOf loaded bytes check
+
+-- what is answered of that report ends a run with this status
+abbrev pub JudgmentEnds : Option Held → List ℕ → List ℕ → Status → Type 0
+JudgmentEnds told job report status =
+    (check : Check) × Judges told job report check × (status ≡ status_of_check check)
 
 -- a file that is read: one of the job's, and the report once these are held and well formed
 abbrev pub RecheckReads : Option Held → List ℕ → List ℕ → List ℕ → Type 0

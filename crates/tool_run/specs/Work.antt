@@ -10,13 +10,12 @@ use Rattle.tool_words.specs.declared.status.InputKind.{InputKind}
 use Rattle.tool_words.specs.declared.status.InputKind.TheVariants as kinds
 use Rattle.tool_words.specs.declared.status.Status.{Status}
 use Rattle.tool_run.specs.OfGenerated.Generated.{IsRunOf}
-use Rattle.tool_words.specs.Command.{Request, Walk, Show, Run, Recheck, Gen, Trace}
+use Rattle.tool_words.specs.Command.{Request, Walk, Show, Run, Recheck, Gen, Trace, TraceReport}
 use Rattle.tool_words.specs.Ends.{status_after}
 use Rattle.job_files.specs.OfInputs.Holdings.{HasTooManyLines, HasCapture, HasBreak}
 use Rattle.job_files.specs.Faults.{JobBreaks, JobReads}
-use Rattle.report_check.specs.declared.check.Check.{Check}
 use Rattle.tool_run.specs.Holdings.{HasRun, HasCommands}
-use Rattle.tool_run.specs.Rechecks.{Judges, status_of_check, RecheckReads}
+use Rattle.tool_run.specs.Rechecks.{JudgmentEnds, RecheckReads}
 use Rattle.tool_run.specs.Runs.{JobEnds, JobEndsOnly}
 
 -- the batch that a request names ends the run with this status
@@ -30,8 +29,8 @@ Ends told (Walk hook b c o) status =
     BatchEnds told b status × ((capture : Capture) × HasCapture told PACKETS_MAX c capture)
 Ends told (Trace hook b c) status =
     BatchEnds told b status × ((capture : Capture) × HasCapture told PACKETS_MAX c capture)
-Ends told (Recheck job report) status =
-    (check : Check) × Judges told job report check × (status ≡ status_of_check check)
+Ends told (Recheck job report) status = JudgmentEnds told job report status
+Ends told (TraceReport job report) status = JudgmentEnds told job report status
 Ends told (Run job) status = JobEnds told job status
 Ends told (Gen count front) status =
     (ran : Ran) × IsRunOf count ran × (status ≡ status_after (is_some ran.stop))
@@ -55,6 +54,7 @@ Breaks told (Trace hook b c) name place kind =
     BatchBreaks told b name place kind ⊎ ((name ≡ c) × HasCommands told b × HasBreak told PACKETS_MAX c place kind)
 Breaks told (Run job) name place kind = JobBreaks told job name place kind
 Breaks told (Recheck job report) name place kind = JobBreaks told job name place kind
+Breaks told (TraceReport job report) name place kind = JobBreaks told job name place kind
 Breaks told (Gen count front) name place kind = ⊥
 
 -- an input file, with those before it held and well formed
@@ -64,4 +64,5 @@ IsRead told (Walk hook b c o) name = (name ≡ b) ⊎ ((name ≡ c) × HasComman
 IsRead told (Trace hook b c) name = (name ≡ b) ⊎ ((name ≡ c) × HasCommands told b)
 IsRead told (Run job) name = JobReads told job name
 IsRead told (Recheck job report) name = RecheckReads told job report name
+IsRead told (TraceReport job report) name = RecheckReads told job report name
 IsRead told (Gen count front) name = ⊥

@@ -5,16 +5,13 @@ ghost use Rattle.tool_words.specs.Command.{Recheck};
 ghost use Rattle.tool_words.specs.Ends.{IsAllDone};
 ghost use Rattle.tool_run.specs.Causes.{CausedTo};
 ghost use Rattle.tool_run.specs.Delivered.{Rechecked, LeavesAllUnlessRun, CameSoFar};
-ghost use Rattle.tool_run.specs.Rechecks.{Judges, JudgingFails, status_of_check, check_text};
+ghost use Rattle.tool_run.specs.Rechecks.{Judges, JudgingFails, status_of_check};
 
-use crate::text::write_text;
-use job_files::inputs::load;
-use job_files::load_job;
-use report_check::{Check, recheck};
-use std::alloc::{AllocError, Global};
+use crate::judging::{load_files, write_check};
+use report_trace::{Check, recheck};
+use std::alloc::Global;
 use tc_base::{Shelf, Sink};
 use tool_words::Status;
-use walk_texts::{push_count, push_text};
 
 // Loads the job under the one name and the report under the other, in that order, and judges it.
 fn judge<S: Shelf>(alloc: Global, job: &str, report: &str, shelf: &mut S) -> Result<Check, Status>
@@ -27,24 +24,8 @@ fn judge<S: Shelf>(alloc: Global, job: &str, report: &str, shelf: &mut S) -> Res
         (report.now ∷ []) }
     ensures put_names { S.put_names shelf.new ≡ S.put_names shelf.old }
 {
-    let loaded = load_job(alloc, shelf, job)?;
-    let bytes = load(alloc, shelf, report)?;
-    Ok(recheck(alloc, &loaded, &bytes)?)
-}
-
-// The one line that is written.
-fn answer(alloc: Global, check: Check) -> Result<Vec<u8>, AllocError>
-    ensures { IfOk result (λ text. text.items ≡ check_text check) }
-{
-    let mut text = Vec::new(alloc);
-    match check {
-        Check::Lawful => push_text(&mut text, "lawful\n")?,
-        Check::Unlawful { line } => {
-            push_count(&mut text, "unlawful ", line)?;
-            push_text(&mut text, "\n")?;
-        }
-    }
-    Ok(text)
+    let files = load_files(alloc, job, report, shelf)?;
+    Ok(recheck(alloc, &files.job, &files.report)?)
 }
 
 /// Judges the report under a name as one of the job under another, and writes what came of it. Answers that.
@@ -69,7 +50,6 @@ pub fn run_recheck<S: Shelf, O: Sink>(
     ensures put_names { S.put_names shelf.new ≡ S.put_names shelf.old }
 {
     let check = judge(alloc, job, report, shelf)?;
-    let text = answer(alloc, check)?;
-    write_text(&text, out)?;
+    write_check(alloc, check, out)?;
     Ok(check)
 }

@@ -7,9 +7,9 @@ ghost use Rattle.tool_run.specs.Causes.{CausedTo};
 ghost use Rattle.tool_run.specs.Delivered.{Traced, LeavesAllUnlessRun, CameSoFar};
 
 use crate::input::batch_lines;
-use batch_trace::{trace_batch, write_trace};
 use batch_walk::walk_batch;
 use job_files::inputs::{load, load_capture};
+use report_trace::{trace_batch, write_trace};
 use std::alloc::Global;
 use tc_base::{Hook, Shelf, Sink};
 use tool_words::Status;

@@ -1,6 +1,6 @@
 //! The command that the words are, and its run.
 ghost use Rattle.std.specs.Prelude.{◌≡◌, false};
-ghost use Rattle.tool_words.specs.Command.{texts, request_of, runs_job, asks_for_job};
+ghost use Rattle.tool_words.specs.Command.{TraceReport, texts, request_of, runs_job, asks_for_job};
 ghost use Rattle.tool_words.specs.Requests.{request};
 ghost use Rattle.tool_words.specs.Ends.{status_after, IsAllDone};
 ghost use Rattle.tool_run.specs.Asks.{Fetches, Puts};
@@ -14,8 +14,9 @@ ghost use Rattle.tool_run.specs.Promises.{FetchedInOrder, PutInOrder};
 use crate::run_recheck::run_recheck;
 use crate::run_show::run_show;
 use crate::run_trace::run_trace;
+use crate::run_trace_report::run_trace_report;
 use crate::run_walk::run_walk;
-use report_check::Check;
+use report_trace::Check;
 use std::alloc::Global;
 use tc_base::{Shelf, Sink};
 use tool_words::{Command, Status, WalkNames, command_of};
@@ -38,6 +39,33 @@ fn judged(check: Check) -> Status
     match check {
         Check::Lawful => Status::Done,
         Check::Unlawful { line } => Status::NotLawful { line },
+    }
+}
+
+// Traces a report.
+fn serve_trace<S: Shelf, O: Sink>(
+    alloc: Global,
+    job: &str,
+    report: &str,
+    shelf: &mut S,
+    out: &mut O,
+) -> Status
+    ensures done { IsAllDone result → DeliveredTo (S.held shelf.old) (S.held shelf.new) (O.written out.old)
+        (O.written out.new) (TraceReport job.now report.now) result }
+    ensures cause { CausedTo S.held S.read_faults S.failed_name S.write_faults O.faults shelf.old shelf.new
+        out.old out.new (TraceReport job.now report.now) result }
+    ensures nothing { LeavesAllUnlessRun (S.held shelf.old) (S.held shelf.new) (O.written out.old)
+        (O.written out.new) result }
+    ensures so_far { CameSoFar (S.held shelf.old) (S.held shelf.new) (O.written out.old) (O.written out.new)
+        (TraceReport job.now report.now) }
+    ensures fetched { Fetches (S.held shelf.old) (S.fetched shelf.old) (S.fetched shelf.new)
+        (TraceReport job.now report.now) }
+    ensures put_names { Puts (S.held shelf.old) (S.put_names shelf.old) (S.put_names shelf.new)
+        (TraceReport job.now report.now) }
+{
+    match run_trace_report(alloc, job, report, shelf, out) {
+        Ok(check) => judged(check),
+        Err(status) => status,
     }
 }
 
@@ -94,6 +122,7 @@ fn serve<S: Shelf, O: Sink>(
             Ok(check) => judged(check),
             Err(status) => status,
         },
+        Command::TraceReport { job, report } => serve_trace(alloc, job, report, shelf, out),
         Command::Run { .. } | Command::Gen { .. } => unreachable!(),
     }
 }

@@ -1,4 +1,4 @@
--- What the words of the command line ask for. The six shapes are this project's own.
+-- What the words of the command line ask for. The seven shapes are this project's own.
 use Rattle.gen_files.specs.declared.limits.TheConstants.{GEN_MAX}
 use Rattle.std.specs.Prelude.{ℕ, Bool, true, false, ◌&&◌, ◌==◌, nat_le, List, [], ◌∷◌, length, Option, Some}
 use Rattle.std.specs.Prelude.{None, if◌then◌else◌, codes, map, string_bytes, String}
@@ -18,6 +18,7 @@ pub data Request : Type 0 where
   Recheck : (job report : List ℕ) → Request
   Gen : (count : ℕ) (front : List ℕ) → Request
   Trace : (hook : Hook) (batch capture : List ℕ) → Request
+  TraceReport : (job report : List ℕ) → Request
 
 abbrev pub texts : List (String Global) → List (List ℕ)
 texts words = map string_bytes words
@@ -57,6 +58,7 @@ abbrev pub request_of_two : List ℕ → List ℕ → List ℕ → Option Reques
 request_of_two verb first second =
     if bytes_eq verb (codes "recheck") then Some (Recheck first second)
     else if bytes_eq verb (codes "gen") then gen_request (count_of first) second
+    else if bytes_eq verb (codes "trace") then Some (TraceReport first second)
     else None
 
 abbrev pub request_of_three : List ℕ → List ℕ → List ℕ → List ℕ → Option Request
@@ -68,8 +70,8 @@ request_of_four verb hook batch capture output =
     if bytes_eq verb (codes "walk") then option_map (λ h. Walk h batch capture output) (hook_of hook) else
     None
 
--- `show BATCH`, `run JOB`, `recheck JOB REPORT`, `gen N PREFIX`, `trace HOOK BATCH CAPTURE`,
--- `walk HOOK BATCH CAPTURE OUT`, and no other words
+-- `show BATCH`, `run JOB`, `recheck JOB REPORT`, `gen N PREFIX`, `trace JOB REPORT`,
+-- `trace HOOK BATCH CAPTURE`, `walk HOOK BATCH CAPTURE OUT`, and no other words
 abbrev pub request_of : List (List ℕ) → Option Request
 request_of (verb ∷ name ∷ []) = request_of_one verb name
 request_of (verb ∷ first ∷ second ∷ []) = request_of_two verb first second
@@ -85,6 +87,7 @@ runs_job (Run job) = true
 runs_job (Recheck job report) = false
 runs_job (Gen count front) = true
 runs_job (Trace hook batch capture) = false
+runs_job (TraceReport job report) = false
 
 abbrev pub asks_for_job : Option Request → Bool
 asks_for_job None = false

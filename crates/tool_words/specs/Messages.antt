@@ -3,9 +3,9 @@ use Rattle.std.specs.Prelude.{ℕ, List, [], ◌++◌, Option, Some, None, codes
 use Rattle.tool_words.specs.declared.status.Status.{Status}
 use Rattle.tool_words.specs.declared.status.Status.TheVariants as statuses
 
--- the six commands, and the words of each
+-- the seven commands, and the words of each
 abbrev pub usage : List ℕ
-usage = codes "usage: walk HOOK BATCH CAPTURE OUT | show BATCH | run JOB | recheck JOB REPORT | trace HOOK BATCH CAPTURE | gen N PREFIX"
+usage = codes "usage: walk HOOK BATCH CAPTURE OUT | show BATCH | run JOB | recheck JOB REPORT | trace HOOK BATCH CAPTURE | trace JOB REPORT | gen N PREFIX"
 
 -- the text of a status. Of one that names a file nothing is said, since control characters of a name are escaped.
 abbrev pub message_of : Status → Option (List ℕ)

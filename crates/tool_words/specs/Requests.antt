@@ -5,7 +5,7 @@ use Rattle.tc_base.specs.declared.hook.Hook.{Hook}
 use Rattle.tool_words.specs.declared.command.Command.{Command}
 use Rattle.tool_words.specs.declared.command.Command.TheVariants as commands
 use Rattle.tool_words.specs.declared.command.WalkNames.{WalkNames}
-use Rattle.tool_words.specs.Command.{Request, Walk, Show, Run, Recheck, Gen, Trace}
+use Rattle.tool_words.specs.Command.{Request, Walk, Show, Run, Recheck, Gen, Trace, TraceReport}
 
 abbrev pub request : Command → Request
 request (commands.Walk hook b c o) = Walk hook b.now c.now o.now
@@ -14,6 +14,7 @@ request (commands.Run job) = Run job.now
 request (commands.Recheck job report) = Recheck job.now report.now
 request (commands.Gen count front) = Gen count front.now
 request (commands.Trace hook b c) = Trace hook b.now c.now
+request (commands.TraceReport job report) = TraceReport job.now report.now
 
 -- `gen` is asked for 1 to 4,096 filters
 abbrev pub HasFewFilters : Command → Type 0

@@ -39,6 +39,10 @@ pub enum Command<'a> {
         batch: &'a str,
         capture: &'a str,
     },
+    TraceReport {
+        job: &'a str,
+        report: &'a str,
+    },
 }
 
 /// The files of a walk.
@@ -132,6 +136,10 @@ fn with_two<'a>(verb: &str, first: &'a str, second: &'a str) -> Option<Command<'
             report: second,
         }),
         "gen" => gen_command(count_named(first), second),
+        "trace" => Some(Command::TraceReport {
+            job: first,
+            report: second,
+        }),
         _ => None,
     }
 }

@@ -8,7 +8,7 @@ use tc_base::Bytes;
 
 const USAGE: &str =
     "usage: walk HOOK BATCH CAPTURE OUT | show BATCH | run JOB | recheck JOB REPORT \
-    | trace HOOK BATCH CAPTURE | gen N PREFIX";
+    | trace HOOK BATCH CAPTURE | trace JOB REPORT | gen N PREFIX";
 
 // A file's name as it was given; one with control characters, which would reach the terminal, is quoted and
 // they are escaped. Words of the command line are text, so other bytes do not come.

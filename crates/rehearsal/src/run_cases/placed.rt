@@ -7,11 +7,11 @@ use crate::run_cases::schedule::{Schedule, Turn, Watch};
 use crate::run_cases::trouble::Trouble;
 use crate::run_cases::twin_lines::whole_batch;
 use crate::run_cases::twin_walk::{Met, Past, Sight, walk};
-use run_report::{EventKind, OutcomeView, RoundRecord};
 use std::alloc::Global;
 use std::sync::Wait;
 use std::thread::Threads;
 use tc_base::{MemShelf, NoMemory, Point};
+use tool_run::{EventKind, OutcomeView, RoundRecord};
 use walk_rules::Verdict;
 
 /// A job of two rounds. In the first one a base is applied. In the second one control 1 applies lines,

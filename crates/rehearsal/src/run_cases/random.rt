@@ -4,13 +4,13 @@ use crate::run_cases::dice::Dice;
 use crate::run_cases::random_jobs::random_job;
 use crate::run_cases::running::run_held;
 use crate::run_cases::trouble::Trouble;
-use run_report::{CounterLine, RoundRecord, RunRecord};
 use std::alloc::Global;
 use std::sync::Wait;
 use std::test::Fail;
 use std::thread;
 use std::thread::Threads;
 use tc_base::{Gate, MemShelf, NoTender};
+use tool_run::{CounterLine, RoundRecord, RunRecord};
 
 // The gate at which everybody lets others go first, so that few steps come in the order of one thread.
 struct Courtesy;

@@ -1,18 +1,14 @@
 //! A job that is run at a gate.
 ghost use Rattle.std.specs.Prelude.{IfOk};
-ghost use Rattle.lawful_runs.specs.Given.{IsLoaded};
-ghost use Rattle.lawful_runs.specs.Lawful.{IsLawfulRun};
+ghost use Rattle.tool_run.specs.Passed.{IsLoaded, IsLawfulRun};
 
 use crate::run_cases::trouble::Trouble;
-use job_files::load_job;
 use job_rounds::{make_hooks, run_job_heard};
-use lawful_runs::LoadedJob;
-use run_report::{RunRecord, write_report};
 use std::alloc::Global;
 use std::sync::Wait;
 use std::thread::Threads;
 use tc_base::{Gate, MemShelf, MemSink, NoEar, Numbers, Tender};
-use tool_run::{Check, recheck};
+use tool_run::{Check, LoadedJob, RunRecord, load_job, recheck, write_report};
 
 /// A run, its report, and whether `recheck` finds that lawful.
 #[derive(Drop)]

@@ -121,7 +121,8 @@ const ROUND_FILES: &[(&str, Held)] = &[
     ("report", Held::Text(REPORT)),
 ];
 
-/// All commands. Of `run` and `recheck` the files are those that the job names, in its order.
+/// All commands. Of `run`, `recheck` and the `trace` of a report the files are those that the job names, in its
+/// order.
 pub(crate) const CASES: &[Case] = &[
     Case {
         words: &["show", "batch"],
@@ -222,6 +223,21 @@ pub(crate) const CASES: &[Case] = &[
     // The batch that the job names `more` is no report.
     Case {
         words: &["recheck", "job", "more"],
+        files: ROUND_FILES,
+        calls: &[
+            Call::Fetch("job"),
+            Call::Fetch("rules"),
+            Call::Fetch("none"),
+            Call::Fetch("more"),
+            Call::Fetch("two"),
+            Call::Fetch("more"),
+        ],
+        status: "7 report not lawful at line 1",
+        written: Written::Whole("unlawful 1\n"),
+    },
+    // Of what is no report, `trace` writes what `recheck` writes.
+    Case {
+        words: &["trace", "job", "more"],
         files: ROUND_FILES,
         calls: &[
             Call::Fetch("job"),

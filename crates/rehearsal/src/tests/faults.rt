@@ -250,9 +250,9 @@ impl Case<'_> {
     }
 }
 
-// Of the shelf, by commands: 1 + 1 of show, 3 + 3 + 3 of walk, 7 + 5 of run, 6 + 6 of recheck, and 4 of gen. Of
-// the sink, by lines: 5 + 3 of show, 5 + 20 + 5 of walk, and 4 of gen. All others write by one call: two runs and
-// two rechecks.
+// Of the shelf, by commands: 1 + 1 of show, 3 + 3 + 3 of walk, 7 + 5 of run, 6 + 6 of recheck, 6 of trace, and
+// 4 of gen. Of the sink, by lines: 5 + 3 of show, 5 + 20 + 5 of walk, and 4 of gen. All others write by one call:
+// two runs, two rechecks and a trace.
 #[test]
 fn each_call_outside_fails(rt: HostRuntime) -> Result<(), Fail> {
     let mut failed = (0u32, 0u32);
@@ -261,6 +261,6 @@ fn each_call_outside_fails(rt: HostRuntime) -> Result<(), Fail> {
         failed.0 = failed.0.saturating_add(at_shelf);
         failed.1 = failed.1.saturating_add(at_sink);
     }
-    same(&rt, failed, (39, 46));
+    same(&rt, failed, (45, 47));
     Ok(())
 }

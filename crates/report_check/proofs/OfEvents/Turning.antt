@@ -1,11 +1,13 @@
 -- The events of a round, one line after the other.
 use Rattle.std.proofs.Common.{◌≡◌, ◌∙◌, ℕ, zero, suc, ◌+◌, ◌-◌, ◌<◌, ◌≤◌, Bool, true, false, List, [], ◌∷◌, ◌++◌, length, Option, Some, None, refl, sym, ap, subst, arith, append_assoc, append-nil, ◌⊎◌, inl, inr}
-use Rattle.std.specs.Prelude.{◌||◌, if◌then◌else◌, replicate, nat_lt, is_some}
+use Rattle.std.specs.Prelude.{◌||◌, if◌then◌else◌, replicate, nat_lt, is_some, map, filter}
 use Rattle.std.specs.Option.{IfNone}
 use Rattle.std.proofs.lemmas.Bool.Decides.{nat_tests}
 use Rattle.std.specs.List.{slice_get}
-use Rattle.std.proofs.lemmas.List.{length-append}
+use Rattle.std.proofs.lemmas.List.{length-append, map-append}
+use Rattle.std.proofs.lemmas.List.Elements.{filter-append}
 use Rattle.std.proofs.lemmas.List.Sums.{sum_by-cons}
+use Rattle.edit_lines.specs.declared.line.LinePlace.{LinePlace}
 use Rattle.tc_words.specs.Lines.{words_of}
 use Rattle.filter_state.specs.declared.edit.Edit.{Edit}
 use Rattle.filter_state.specs.States.{no_state}
@@ -16,6 +18,7 @@ use Rattle.pcap_io.specs.declared.capture.Capture.{Capture}
 use Rattle.job_lines.specs.declared.job.Round.{Round}
 use Rattle.run_report.specs.declared.events.Event.{Event}
 use Rattle.run_report.specs.declared.events.EventKind.{EventKind}
+use Rattle.run_report.specs.declared.events.EventKind.TheVariants as kinds
 use Rattle.run_report.specs.declared.rounds.RoundRecord.{RoundRecord}
 use Rattle.run_report.specs.Counts.{is_accepted, accepted_count, edits_in}
 use Rattle.run_report.specs.EventTexts.{event_line}
@@ -52,6 +55,7 @@ use Rattle.report_check.specs.declared.events.cursor.Cursor.{Cursor}
 use Rattle.report_check.specs.declared.events.replay.Replay.{Replay}
 use Rattle.report_check.specs.declared.events.events.NamedLine.{NamedLine}
 use Rattle.report_check.specs.OfEvents.Cursors.{IsAt, IsStuck, MustBe}
+use Rattle.report_check.specs.OfEvents.Placed.{place_of, places_of}
 use Rattle.report_check.specs.OfEvents.Replays.{IsKept}
 use Rattle.report_check.specs.OfEvents.Lines.{NamesNone, SomeLeft, NoLines}
 use Rattle.report_check.specs.OfEvents.Told.{IsRoundAt, HasBegun, AreTold, GoOn, AreOver, IsTurn}
@@ -175,6 +179,19 @@ event_from one other control line kind =
 pub unended : (its : List RoundRecord) (before : List Edit) (it : RoundRecord) (edits : List Edit) → IsOpen (inside its before it edits)
 unended its before it edits = λ run journal is. cc is
 
+-- ---- where the accepted edits were read
+pub places_append : (xs ys : List Event) → places_of (xs ++ ys) ≡ places_of xs ++ places_of ys
+places_append xs ys =
+    let kept : Event → Bool = λ (e : Event). is_accepted e.kind in
+    ap (map place_of) (filter-append kept xs ys) ∙ map-append place_of (filter kept xs) (filter kept ys)
+
+-- a line adds its place where its edit is accepted
+pub placed_one : (kind : EventKind) (control line : ℕ) (old new : List LinePlace) → (is_accepted kind ≡ true → new ≡ old ++ (record { control = control; line = line } ∷ [])) → (is_accepted kind ≡ false → new ≡ old)
+    → new ≡ old ++ places_of (record { control = control; line = line; kind = kind } ∷ [])
+placed_one (kinds.Accepted done) control line old new met unmet = met refl
+placed_one (kinds.Refused refusal) control line old new met unmet = unmet refl ∙ sym (append-nil old)
+placed_one (kinds.Syntax word) control line old new met unmet = unmet refl ∙ sym (append-nil old)
+
 -- ---- a control's turn
 module _ (loaded : LoadedJob) (bytes : List ℕ) (number : ℕ) (its : List RoundRecord) (round : GivenRound) (first : Replay) (cursor : Cursor) (replay : Replay) (places : List Place) where
   begun_in : GoOn loaded bytes number its round first cursor replay places → (events : List Event) → AreBegun (batches_of (files_of loaded number)) events → AreBegun round.batches events
@@ -250,11 +267,11 @@ module _ (loaded : LoadedJob) (bytes : List ℕ) (number : ℕ) (its : List Roun
     text_here text count is many = ap (λ (n : ℕ). event_line n event_here) (sym (many ∙ count_is turn.goes turn.goes.told)) ∙ sym is
 
     -- the events go on behind its line
-    pub goes_further : (now : Cursor) (after : Replay) (goes : Bool) (text : List ℕ) (count : ℕ) → later ≡ after.journal.items → IsKept after → after.refused ≡ replay.refused + (if is_accepted kind then 0 else 1)
+    pub goes_further : (now : Cursor) (after : Replay) (goes : Bool) (text : List ℕ) (count : ℕ) → later ≡ after.journal.items → IsKept after → after.places.items ≡ replay.places.items ++ places_of (event_here ∷ []) → after.refused ≡ replay.refused + (if is_accepted kind then 0 else 1)
         → goes ≡ (named.next.force || is_accepted kind) → text ≡ event_line count event_here → count ≡ length replay.journal.items
         → ((stand next : Stand) → IsAt loaded bytes cursor stand → Takes loaded stand text next → IsAt loaded bytes now next) → now.line ≡ cursor.line + 1
         → GoOn loaded bytes number its round first now after (moved_on places named.control named.next.line named.next.next goes)
-    goes_further now after goes text count same kept refused on is many moves line =
+    goes_further now after goes text count same kept places refused on is many moves line =
         let told = turn.goes.told in
         let more : List Event = told.it.events ++ (event_here ∷ []) in
         let accepted : accepted_count more ≡ length (told.edits ++ met.1) =
@@ -275,6 +292,8 @@ module _ (loaded : LoadedJob) (bytes : List ℕ) (number : ℕ) (its : List Roun
                 (subst (λ (t : List ℕ). Takes loaded (inside its first.journal.items told.it told.edits) t (inside its first.journal.items (with_event told.it event_here) (told.edits ++ met.1))) (text_here text count is many) takes_here);
             unwalked = told.unwalked;
             kept = kept;
+            placed = places ∙ ap (λ (ps : List LinePlace). ps ++ places_of (event_here ∷ [])) told.placed ∙ append_assoc first.places.items (places_of told.it.events) (places_of (event_here ∷ []))
+                ∙ ap (λ (ps : List LinePlace). first.places.items ++ ps) (sym (places_append told.it.events (event_here ∷ [])));
             journal_is = sym same ∙ met.3 ∙ ap (λ (es : List Edit). es ++ met.1) told.journal_is ∙ append_assoc first.journal.items told.edits met.1;
             accepted = accepted;
             refused = omega (arith, refused, many_events, own, both, split, before);
@@ -350,6 +369,7 @@ goes_first loaded bytes number controls its round cursor replay places is begun 
     unwalked = refl;
     kept = begun.kept;
     journal_is = sym (append-nil replay.journal.items);
+    placed = sym (append-nil replay.places.items);
     accepted = refl;
     refused = refl;
     fewer = begun.fewer;

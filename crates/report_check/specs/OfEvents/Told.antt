@@ -16,6 +16,7 @@ use Rattle.report_check.specs.declared.events.replay.Replay.{Replay}
 use Rattle.report_check.specs.declared.events.events.NamedLine.{NamedLine}
 use Rattle.report_check.specs.OfEvents.Cursors.{IsAt}
 use Rattle.report_check.specs.OfEvents.Lines.{IsNamed}
+use Rattle.report_check.specs.OfEvents.Placed.{places_of}
 use Rattle.report_check.specs.OfEvents.Replays.{IsKept}
 
 -- the round of that number is the job's next one behind these
@@ -42,6 +43,7 @@ pub record AreTold (loaded : LoadedJob) (bytes : List ℕ) (its : List RoundReco
   pub unwalked : it.outcomes ≡ []
   pub kept : IsKept replay
   pub journal_is : replay.journal.items ≡ first.journal.items ++ edits
+  pub placed : replay.places.items ≡ first.places.items ++ places_of it.events
   pub accepted : accepted_count it.events ≡ length edits
   pub refused : replay.refused + length edits ≡ first.refused + length it.events
   pub fewer : replay.refused ≤ cursor.line

@@ -14,6 +14,7 @@ ghost use Rattle.report_check.specs.OfEvents.Told.{HasBegun, GoOn, IsTurn, AreOv
 use crate::events::control::control_of;
 use crate::events::cursor::Cursor;
 use crate::events::replay::Replay;
+use edit_lines::LinePlace;
 use round_terms::{Event, LoadedJob, NextLine, Place, first_file, goes_on, next_line};
 use run_report::push_event_line;
 use std::alloc::Global;
@@ -98,7 +99,11 @@ fn take_event(
         → IsStuck loaded report.now cursor.new }
 {
     let before = replay.past.point();
-    let kind = replay.meet(alloc, named.next.text)?;
+    let place = LinePlace {
+        control: named.control,
+        line: named.next.line,
+    };
+    let kind = replay.meet(alloc, named.next.text, place)?;
     let goes = goes_on(named.next.force, &kind);
     let event = Event {
         control: named.control,

@@ -21,7 +21,7 @@ use Rattle.point_walks.specs.Visits.{visit_more, visits_over}
 use Rattle.walk_rules.specs.OfPoints.Points.{Visit}
 use Rattle.report_laws.specs.OfNextLines.Walks.{answers_of, AgreesFrom}
 
-abbrev Headless : Place → Type 0
+abbrev pub Headless : Place → Type 0
 Headless at_head = ⊥
 Headless place = Unit {0}
 
@@ -33,7 +33,7 @@ either_headless : (b : Bool) (one other : Place) → Headless one → Headless o
 either_headless true one other first second = first
 either_headless false one other first second = second
 
-stop_headless : (chain ether : ℕ) (heads : List Head) → Headless (first_stop chain ether heads)
+pub stop_headless : (chain ether : ℕ) (heads : List Head) → Headless (first_stop chain ether heads)
 stop_headless chain ether [] = tt
 stop_headless chain ether (head ∷ tables) =
     let rest = stop_headless chain ether tables in
@@ -59,7 +59,7 @@ found_headless : (st : Standing) (head : Head) (tables : List Head) (actions : L
 found_headless st head tables [] = tt
 found_headless st head tables (action ∷ actions) = tt
 
-headless : (st : Standing) (place : Place) (answer : Answer) → Headless place → Headless (after_at st place answer).place
+pub headless : (st : Standing) (place : Place) (answer : Answer) → Headless place → Headless (after_at st place answer).place
 headless st at_head answer is = absurd is
 headless st (at_mask head [] tables) (told_heads heads) is = tt
 headless st (at_mask head [] tables) told_no_filter is = tt
@@ -78,11 +78,11 @@ headless st (ended verdict) answer is = tt
 
 -- ---- the same answers
 module _ (answers : Answering) (journal : List Edit) (hook : Hook) (first : ℕ) (agrees : AgreesFrom answers journal hook first) where
-  same_cond : (b : Bool) (o : Option Question) (point : ℕ) → answered_at answers point o ≡ answered_at (answers_of journal) point o → answered_at answers point (cond b o None) ≡ answered_at (answers_of journal) point (cond b o None)
+  pub same_cond : (b : Bool) (o : Option Question) (point : ℕ) → answered_at answers point o ≡ answered_at (answers_of journal) point o → answered_at answers point (cond b o None) ≡ answered_at (answers_of journal) point (cond b o None)
   same_cond true o point same = same
   same_cond false o point same = refl
 
-  same_at : (st : Standing) (place : Place) (point : ℕ) → Headless place → answered_at answers point (question_at st place) ≡ answered_at (answers_of journal) point (question_at st place)
+  pub same_at : (st : Standing) (place : Place) (point : ℕ) → Headless place → answered_at answers point (question_at st place) ≡ answered_at (answers_of journal) point (question_at st place)
   same_at st at_head point is = absurd is
   same_at st (at_mask head [] tables) point is = refl
   same_at st (at_mask head (mask ∷ masks) tables) point is = agrees.filters point head.serial mask (frame_values st.frame.bytes)

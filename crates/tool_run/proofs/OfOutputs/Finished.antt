@@ -22,7 +22,7 @@ use Rattle.lawful_runs.specs.Given.{Arrival, IsLoaded, arrivals_at, given_arriva
 use Rattle.lawful_runs.specs.Outcomes.{AreWalked}
 use Rattle.lawful_runs.specs.Points.{seen_by}
 use Rattle.lawful_runs.specs.Lawful.{AreRounds, IsLawfulRun}
-use Rattle.run_counts.proofs.OfShortWalks.ShortRuns.{frame_short}
+use Rattle.report_trace.proofs.Passed.{frame_short}
 use Rattle.tool_run.specs.OfOutputs.Ready.{AreWalks, IsReady, AreReady}
 
 -- ---- the walks of one round

@@ -1,5 +1,5 @@
 use Rattle.std.proofs.Common.{arith}
-use Rattle.report_laws.proofs.ShortRuns.{events_few, packets_few}
+use Rattle.tool_run.proofs.Passed.{events_few, packets_few}
 use Rattle.rehearsal.proofs.run_job.deliver.Goals as goal
 
 pub write_report-requires-clause-events : goal.write_report-requires-clause-events

@@ -3,12 +3,12 @@ use Rattle.std.proofs.lemmas.Result.{err_from_is_err_and}
 use Rattle.tc_base.specs.Outside.{Asked}
 use Rattle.tool_words.specs.declared.status.Status.{Status}
 use Rattle.tool_words.specs.Command.{Run}
-use Rattle.job_files.specs.Inputs.{FetchesInput}
+use Rattle.tool_run.specs.Passed.{FetchesInput}
 use Rattle.tool_run.specs.Runs.{IsRunOfHeld, status_of_run}
 use Rattle.tool_run.specs.Work.{Ends}
 use Rattle.tool_run.proofs.Asking.{outputs_of_held}
 use Rattle.tool_run.proofs.Writing.{delivery_caused}
-use Rattle.report_laws.proofs.ShortRuns.{events_few, packets_few}
+use Rattle.tool_run.proofs.Passed.{events_few, packets_few}
 use Rattle.rehearsal.proofs.run_job.run_named.Goals as goal
 
 pub returns-in_err-deliver-clause-cause : goal.returns-in_err-deliver-clause-cause

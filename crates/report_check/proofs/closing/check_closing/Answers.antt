@@ -23,7 +23,7 @@ returns-clause-through c = λ is loaded b.
     let long : c.len.result ≡ length journal = search rules in
     let behind = c.in_ok-take_counters.ensures.taken (ap (λ (t : Bool). Ok t) yes) loaded run journal (end_lines p)
     (subst (λ (made : List MadeAction). IsAt loaded c.args.report.now p.cursor (closing run journal (counted_lines p.walkers.counts made ++ end_lines p))) (sym c.as_slice.ensures.value) (at_closing loaded c.args.report.now p b)) in
-    (run, journal, c.take_summary.ensures.taken is loaded run journal ((101 ∷ 110 ∷ 100 ∷ 10 ∷ []) ∷ []) (at_end loaded c.args.report.now p c.take_counters.new.cursor run journal c.len.result long behind))
+    (run, b.placed, c.take_summary.ensures.taken is loaded run journal ((101 ∷ 110 ∷ 100 ∷ 10 ∷ []) ∷ []) (at_end loaded c.args.report.now p c.take_counters.new.cursor run journal c.len.result long behind))
 
 pub returns-clause-stuck : goal.returns-clause-stuck
 returns-clause-stuck c = λ is loaded b.

@@ -1,28 +1,4 @@
-use Rattle.std.proofs.Common.{rules, ◌≡◌, [], true, false, refl}
-use Rattle.report_laws.specs.Stands.{start, settled}
-use Rattle.report_check.proofs.LastLines.{at_title, title_must_be, title_takes, start_open, titled, first_between}
 use Rattle.report_check.proofs.rechecking.recheck.Goals as goal
 
-pub returns-then-not-take-clause-check : goal.returns-then-not-take-clause-check
-returns-then-not-take-clause-check c =
-    let no : c.take.result ≡ false = search rules in
-    c.stuck_at.ensures.check c.args.job.now c.requires
-    (c.take.ensures.stuck no c.args.job.now start (at_title c.args.job.now c.args.report.now c.start-cursor.result c.start-cursor.ensures) start_open (title_must_be c.args.job.now c.args.report.now c.start-cursor.result))
-
-pub judge-requires-clause-between : goal.judge-requires-clause-between
-judge-requires-clause-between c =
-    let loaded = c.args.job.now in
-    let yes : c.take.result ≡ true = search rules in
-    let at = c.take.ensures.taken yes loaded start (settled loaded [] []) (at_title loaded c.args.report.now c.start-cursor.result c.start-cursor.ensures) (title_takes loaded) in
-    first_between loaded c.args.report.now (record { cursor = c.take.new.self; replay = c.new-2.result; walkers = c.in_ok-walkers.walkers; captures = 0 }) at c.new-2.ensures.kept c.new-2.ensures.journal c.new-2.ensures.refused c.in_ok-walkers.ensures refl
-
--- the first line was the title
-pub returns-in_err-walkers-clause-untitled : goal.returns-in_err-walkers-clause-untitled
-returns-in_err-walkers-clause-untitled c = λ untitled.
-    let yes : c.take.result ≡ true = search rules in
-    absurd (titled c.args.report.now c.start-cursor.result c.start-cursor.ensures (c.take.ensures.next yes) untitled)
-
-pub returns-clause-untitled : goal.returns-clause-untitled
-returns-clause-untitled c = λ untitled.
-    let yes : c.take.result ≡ true = search rules in
-    absurd (titled c.args.report.now c.start-cursor.result c.start-cursor.ensures (c.take.ensures.next yes) untitled)
+pub returns-clause-check : goal.returns-clause-check
+returns-clause-check c = c.answer_of.ensures.check c.args.job.now c.args.report.now c.in_ok-replay.ensures.replayed

@@ -4,9 +4,8 @@ use Rattle.std.specs.Borrow.{Bor}
 use Rattle.tc_base.specs.Outside.{Held}
 use Rattle.walk_ends.specs.declared.limits.TheConstants.{PACKETS_MAX}
 use Rattle.batch_run.specs.Commands.{commands_in}
-use Rattle.batch_trace.specs.Accepted.{AreAccepted}
-use Rattle.batch_trace.specs.Traced.{told_trace}
-use Rattle.batch_trace.proofs.Parts.{told_is_trace}
+use Rattle.report_trace.specs.Passed.{AreAccepted, told_trace}
+use Rattle.report_trace.proofs.Passed.{told_is_trace}
 use Rattle.tool_words.specs.Command.{Trace}
 use Rattle.tool_words.specs.Ends.{status_after}
 use Rattle.job_files.specs.OfInputs.Holdings.{Holds, HasCapture}

@@ -1,4 +1,3 @@
-use Rattle.std.proofs.lemmas.Result.{err_from_is_err_and}
 use Rattle.tool_run.proofs.Asking.{one_done}
 use Rattle.tool_run.proofs.run_walk.deliver.Goals as goal
 

@@ -19,3 +19,6 @@ returns-in-Ok-run_trace-clause-cause g c =
     (traced_caused g.S.Shelf.held g.S.Shelf.read_faults g.S.Shelf.failed_name g.S.Shelf.write_faults
     g.O.Sink.faults c.args.shelf.now c.run_trace.new.shelf c.args.out.now c.run_trace.new.out c.in-Trace.hook
     c.in-Trace.batch.now c.in-Trace.capture.now _ c.in-Ok-run_trace.refused c.in-Ok-run_trace.ensures.done.gives)
+
+pub returns-in-TraceReport-clause-cause : goal.returns-in-TraceReport-clause-cause
+returns-in-TraceReport-clause-cause g c = rw c.in-TraceReport.is (c.serve_trace.ensures.cause)

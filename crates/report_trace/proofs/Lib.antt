@@ -1,0 +1,16 @@
+pub mod Passed
+pub mod Fit
+pub mod Heads
+pub mod OneTrace
+pub mod Own
+pub mod Plain
+pub mod Steps
+pub mod Knowing
+pub mod Kept
+pub mod Packets
+pub mod Rounding
+pub mod Walkers
+pub mod Decided
+pub mod RoundsAt
+pub mod Turns
+pub mod Whole

@@ -1,0 +1,5 @@
+use Rattle.report_trace.proofs.OneTrace.{one_text}
+use Rattle.report_trace.proofs.laws.one_trace.Goals as goal
+
+pub returns : goal.returns
+returns c = one_text

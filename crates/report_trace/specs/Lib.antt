@@ -1,0 +1,5 @@
+pub mod Traced
+pub mod Knowing
+pub mod Writing
+pub mod Rounds
+pub mod Passed
