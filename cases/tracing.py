@@ -1,15 +1,15 @@
 #!/usr/bin/env python3
-"""Prints what `trace HOOK BATCH CAPTURE` is to write: a twin of the rules in docs/FORMATS.md and
-docs/DEFINITIONS.md, which shares nothing with the program or with tools/.
+"""Prints what `trace HOOK BATCH CAPTURE` and `trace JOB REPORT` are to write: a twin of the rules in
+docs/FORMATS.md and docs/DEFINITIONS.md, which shares nothing with the program or with tools/.
 
     python3 cases/tracing.py HOOK BATCH CAPTURE
     python3 cases/tracing.py JOB REPORT
 
-The second shape is ahead of the program, which has no command for it yet: it tells the same of a lawful
-report, and its lines have more words, the point of a visit and the edit that took a filter. Of a report it
-reads in which order lines were applied, and which worker and points each packet has; all else of its text
-follows, and it ends with 1 where the report says otherwise. Inputs are taken to be well formed. The walk stands
-in Walk; states, lines and frames are in device_states.py, batch_edits.py and frame_values.py.
+The second shape tells the same of a lawful report, and its lines have more words, the point of a visit and the
+edit that took a filter. Of a report it reads in which order lines were applied, and which worker and points
+each packet has; all else of its text follows, and it ends with 1 where the report says otherwise. Inputs are
+taken to be well formed. The walk stands in Walk; states, lines and frames are in device_states.py,
+batch_edits.py and frame_values.py.
 """
 import struct
 import sys

@@ -23,11 +23,11 @@ _clsact_words() {
     done < <(compgen -W "$*" -- "$word")
 }
 
-# Sets at and command: the place of the word without redirections, and the command before it. Fails where the word
-# is itself the name behind a redirection.
+# Sets at, command and first: the place of the word without redirections, the command before it, and the word behind
+# that. Fails where the word is itself the name behind a redirection.
 _clsact_place() {
     local number is_name=
-    at=0 command=
+    at=0 command='' first=
     for ((number = 1; number <= COMP_CWORD; number++)); do
         if [ "$is_name" ]; then
             is_name=
@@ -37,13 +37,14 @@ _clsact_place() {
         else
             ((++at))
             [ "$at" = 1 ] && command=${COMP_WORDS[number]}
+            [ "$at" = 2 ] && first=${COMP_WORDS[number]}
         fi
     done
     [ ! "$is_name" ]
 }
 
 _clsact() {
-    local word=${COMP_WORDS[COMP_CWORD]} command at
+    local word=${COMP_WORDS[COMP_CWORD]} command first at
     local commands="walk show gen run recheck trace check explain json text export import convert picture sum package help"
     COMPREPLY=()
     if [[ $word == *\$* ]]; then
@@ -60,9 +61,20 @@ _clsact() {
         return
     fi
     case $command:$at in
-        walk:2 | trace:2 | explain:2) _clsact_words "$word" ingress egress ;;
-        walk:3 | trace:3 | explain:3 | show:2 | export:2) _clsact_files "$word" .tc ;;
-        walk:4 | walk:5 | trace:4 | explain:4) _clsact_files "$word" .pcap ;;
+        walk:2 | explain:2) _clsact_words "$word" ingress egress ;;
+        walk:3 | explain:3 | show:2 | export:2) _clsact_files "$word" .tc ;;
+        walk:4 | walk:5 | explain:4) _clsact_files "$word" .pcap ;;
+        trace:2)
+            _clsact_words "$word" ingress egress
+            _clsact_files "$word" .job
+            ;;
+        trace:3 | trace:4)
+            case $first:$at in
+                ingress:3 | egress:3) _clsact_files "$word" .tc ;;
+                ingress:4 | egress:4) _clsact_files "$word" .pcap ;;
+                *:3) _clsact_files "$word" ;;
+            esac
+            ;;
         check:2 | check:3)
             case $word:$at in
                 -*) _clsact_words "$word" --no-warnings ;;

@@ -42,7 +42,7 @@ def check_capture_alone(given: Given, file: BinaryIO) -> int:
 
 
 def check_report(given: Given, file: BinaryIO) -> int:
-    """Tells what a report has, or the first line that no report has."""
+    """Tells what a report has, or the trace of one, or the first line that neither has."""
     name, counts = shown(given.name), Counter[str]()
     with Progress("clsact check", "lines") as progress:
         for said in progress.upto(parts_of_text(iter(lambda: file.read(BLOCK), b""), name)):
@@ -51,12 +51,21 @@ def check_report(given: Given, file: BinaryIO) -> int:
                 raise Fault(f"{name}:{progress.count}: no report has such a line here")
             counts[sort] += said.count(b"\n") if isinstance(said, bytes) else 1
     parts = ", ".join(f"{counts[sort]} {what}" for sort, what in OF_REPORT.items() if what)
-    print(f"{name}: the report of a run, {parts}; ./clsact recheck JOB {again(given.name)}")
+    is_trace = counts["at"] + counts["decided"] > 0
+    of = "a trace of the report" if is_trace else "the report"
+    print(f"{name}: {of} of a run, {parts}; {judged_by(given.name, is_trace)}")
     return 0
 
 
+def judged_by(name: str, is_trace: bool) -> str:
+    """The command that judges a report, which is what is left of a trace without its own lines."""
+    if is_trace:
+        return f"grep -v -e '^at ' -e '^decided ' {again(name)} | ./clsact recheck JOB -"
+    return f"./clsact recheck JOB {again(name)}"
+
+
 OF_REPORT = {"report": "", "round": "rounds", "end round": "", "edit": "edits", "refused": "refused lines",
-             "packet": "packets", "counter": "", "summary": "", "end": ""}
+             "packet": "packets", "at": "", "decided": "", "counter": "", "summary": "", "end": ""}
 
 
 def check_list(given: Given, file: BinaryIO) -> int:

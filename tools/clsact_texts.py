@@ -3,8 +3,9 @@
 Each form of a line stands once, as a template of text_forms.py, by which it is read and spelt. An action of
 `show` is two lines, its own and that of its counts.
 
-Forms are those of docs/FORMATS.md: `walk`, `show`, `gen`, `trace`, the report of a run, and what a check of a
-report answers. What isn't promised: that a text which has these lines is one that the program would write.
+Forms are those of docs/FORMATS.md: `walk`, `show`, `gen`, the report of a run, `trace` of a walk or of a report,
+and what a check of a report answers. What isn't promised: that a text which has these lines is one that the program
+would write.
 """
 import json
 import re
@@ -74,14 +75,15 @@ FILTER = "filter add dev eth0 {hook} protocol {protocol} pref {pref} chain {chai
 LEFT = "[ priority {priority:class} mark {mark} queue {queue}]"
 SUMS = " packets {packets} passed {passed} dropped {dropped}"
 BROUGHT = " edit {edit} control {control:number} line {line}"
+POINT = "[ point {point}]"
 MET = (
-    "visit {number} {visit=head} {hook} tables {tables}",
+    "visit {number} {visit=head} {hook} tables {tables}" + POINT,
     "{what=table} chain {chain} pref {pref} protocol {protocol}",
     "{what=fields} protocol {protocol}{fields}",
-    "visit {number} {visit=miss}{fields:under}",
-    "visit {number} {visit=match}{fields:under} handle {handle}" + BROUGHT,
+    "visit {number} {visit=miss}{fields:under}" + POINT,
+    "visit {number} {visit=match}{fields:under} handle {handle}" + BROUGHT + POINT,
     "visit {number} {visit=run} {position} of {length} serial {serial} {action:action}[ {room}]"
-    "[ length {frame}]" + BROUGHT,
+    "[ length {frame}]" + BROUGHT + POINT,
     "{what=restart} chain {chain} left {left}",
     "{what=spent}",
 )
@@ -93,7 +95,7 @@ TEMPLATES = (
     *(("refused", f"refused {{refused}} control {{control:number}} line {{line}} {it}") for it in SAID),
     ("packet", "packet {packet}[ worker {worker}] {verdict} length {length}" + LEFT + "[ points {points}]"),
     *(("at", "at {packet} " + it) for it in MET),
-    ("decided", "decided {times}" + BROUGHT + PLACE),
+    ("decided", "decided {times}" + BROUGHT + PLACE + "[ gone {gone}]"),
     ("counter", "counter serial {serial} {kind} index {index} packets {packets} bytes {bytes}"),
     ("summary", "summary edits {edits} refused {refused}" + SUMS),
     ("report", "clsact report {version=1}"),

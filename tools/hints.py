@@ -26,6 +26,7 @@ SUFFIXES = (".gz", ".bz2", ".xz", ".zst", ".pcapng", ".ntar", ".pcap", ".cap", "
 ESCAPES = {0: "\\0", 9: "\\t", 10: "\\n", 13: "\\r", 34: '\\"', 92: "\\\\"}
 MOST_OF_JOB = 1 << 24
 CUT = "editcap -F pcap -c 1000000"
+HOOKS = ("ingress", "egress")
 
 
 @dataclass(frozen=True)
@@ -42,7 +43,12 @@ class Asked:
     @property
     def has_job(self) -> bool:
         """Whether the first name is a job's."""
-        return self.command in ("run", "recheck") and len(self.words) > 1
+        return self.command in ("run", "recheck") and len(self.words) > 1 or self.is_report_trace
+
+    @property
+    def is_report_trace(self) -> bool:
+        """Whether a report is to be traced."""
+        return self.command == "trace" and len(self.words) == 3
 
     def job(self) -> JobFile | None:
         """The job of the command, where it has one that can be read again."""
@@ -179,12 +185,12 @@ def too_long(it: Broken) -> str:
 
 
 def too_many_packets(it: Broken) -> str:
-    more = ", or the job's captures have together" * (it.asked.command != "walk")
+    more = ", or the job's captures have together" * it.asked.has_job
     return f"{it.name} has more than 1048576 packets{more}: {CUT} {quoted(it.file)} piece.pcap; docs/SCALE.md"
 
 
 def too_many_lines(it: Broken) -> str:
-    more = ", of all batches of a job together" * (it.asked.command in ("run", "recheck"))
+    more = ", of all batches of a job together" * it.asked.has_job
     return f"{it.name}:{it.place}: 262144 lines with words are the most{more}"
 
 
@@ -219,6 +225,8 @@ def beside_job(asked: Asked, name: str) -> str:
 def cannot_read(asked: Asked, told: str) -> str:
     """Why the file can't be read that the program tells of."""
     name = next((it for it in asked.inputs() if as_told(it) == told), told)
+    if asked.is_report_trace and name == asked.words[1] in HOOKS and not os.path.lexists(name):
+        return f"{name}: no file has that name; at a hook a batch and a capture are traced: trace HOOK BATCH CAPTURE"
     why = beside_job(asked, name) or read_fault(name)
     return f"{named(name)}: {why or 'it can be read now'}"
 

@@ -9,6 +9,7 @@ import shutil
 import tempfile
 from collections.abc import Iterator
 from dataclasses import dataclass, field
+from operator import itemgetter
 from typing import IO
 
 from batch_lines import Line, lines_of, read
@@ -20,6 +21,10 @@ from progress import Progress
 from report_checks import event_fault, packet_fault
 from run_samples import Met, Sample
 from tool_ends import BLOCK, Fault, shown
+
+# What stands between the thousands of a packet's number and its worker: to spell each number whole takes longer.
+TAILS = [b"%03d worker " % it for it in range(1000)]
+
 
 @dataclass(frozen=True)
 class Event:
@@ -165,11 +170,11 @@ class Report:
         """Which of these packets met several points, by their places; nothing where one of them can't be so. A worker is
         one digit, and what stands behind it is known from other lines mostly, so that it isn't read anew."""
         due = self.rounds[-1].packets + 1
-        fronts = [b"packet %d worker " % it for it in range(due, due + len(lines))]
+        fronts = fronts_from(due, len(lines))
         at = len(fronts[0])
-        if [it[:at] for it in lines] != fronts or min(map(len, lines)) <= at:
+        if list(map(itemgetter(slice(at)), lines)) != fronts or min(map(len, lines)) <= at:
             return None
-        workers, mets = [it[at] for it in lines], self.sample.met([it[at + 1:] for it in lines])
+        workers, mets = list(map(itemgetter(at), lines)), self.sample.met(list(map(itemgetter(slice(at + 1, None)), lines)))
         seen = self.seen_behind(workers, mets) if mets and self.seen.keys() >= set(workers) else None
         if not mets or not seen or max(it.highest for it in set(mets)) > self.point:
             return None
@@ -211,6 +216,18 @@ class Report:
     def take_other(self, said: Object) -> None:
         if said["type"] not in ("counter", "end") and not self.foreign:
             self.foreign = self.fault("no report has such a line")
+
+
+def fronts_from(due: int, count: int) -> list[bytes]:
+    """What stands before the workers of so many packets in order, whose numbers have as many digits."""
+    if due < len(TAILS):
+        return [b"packet %d worker " % it for it in range(due, due + count)]
+    fronts: list[bytes] = []
+    while len(fronts) < count:
+        thousands, place = divmod(due + len(fronts), len(TAILS))
+        front = b"packet %d" % thousands
+        fronts += [front + it for it in TAILS[place:place + count - len(fronts)]]
+    return fronts
 
 
 def opened(name: str) -> IO[bytes]:

@@ -79,7 +79,7 @@ CODECS = {
     "control": Codec("ok|drop|continue|pipe|reclassify", str),
     "reason": Codec("[A-Z][A-Za-z]+", str),
     "fields": Codec("(?: (?!action )[a-z_]+ [!-~]+)*", fields_of, fields_text),
-    "under": Codec("(?: (?!handle )[a-z_]+ [!-~]+)*", fields_of, fields_text),
+    "under": Codec("(?: (?!handle |point )[a-z_]+ [!-~]+)*", fields_of, fields_text),
     "room": Codec("no room", lambda _: False, no_room),
     "bound": Codec(f"(?: action {KIND} index {N})*", bound_of, bound_text),
     "serials": Codec(f"none|{N}(?:,{N})*", serials_of, serials_text),

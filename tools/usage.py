@@ -33,10 +33,15 @@ def tool_words() -> list[str]:
         return re.findall(r"^    ([a-z]+)\) exec python3", file.read(), re.M)
 
 
-def commands() -> dict[str, list[str]]:
-    """The words that stand behind each command of the program."""
+def forms() -> list[list[str]]:
+    """The program's commands, each with the words behind it. One word may have several."""
     tools = tool_words()
-    return {form[0]: form[1:] for form in synopsis() if form[0] not in tools}
+    return [form for form in synopsis() if form[0] not in tools]
+
+
+def forms_of(command: str) -> list[list[str]]:
+    """The words that stand behind a command, in each of its forms; nothing where there is no such command."""
+    return [form[1:] for form in forms() if form[0] == command]
 
 
 def whole_usage() -> str:
@@ -48,7 +53,7 @@ def whole_usage() -> str:
 
 def usage_line() -> str:
     """The program's own usage, which it writes on standard error."""
-    return "usage: " + " | ".join(" ".join([name, *words]) for name, words in commands().items())
+    return "usage: " + " | ".join(map(" ".join, forms()))
 
 
 def wrong_value(name: str, word: str) -> str:
@@ -70,11 +75,20 @@ def unknown(command: str) -> str:
     return f"{shown(command)}: no such command" + (f"; the nearest is {nearest[0]}" if nearest else "")
 
 
+def meant(those: list[list[str]], given: list[str]) -> list[str]:
+    """Which of a command's forms is meant by these words: one of as many words, a longer one that they begin
+    well, or the longest."""
+    same = [it for it in those if len(it) == len(given)]
+    begun = [it for it in those if len(it) > len(given) and not any(map(wrong_value, it, given))]
+    return (same + begun + [max(those, key=len)])[0]
+
+
 def fault_of(words: list[str]) -> str:
     """What is wrong with the words, as far as it is seen here; nothing where they may be a command."""
-    if words[0] not in commands():
+    those, given = forms_of(words[0]), words[1:]
+    if not those:
         return unknown(words[0])
-    names, given = commands()[words[0]], words[1:]
+    names = meant(those, given)
     for name, word in zip(names, given):
         if why := wrong_value(name, word):
             return f"{words[0]}: {why}"
@@ -88,7 +102,7 @@ def fault_of(words: list[str]) -> str:
 def told_of(words: list[str]) -> list[str]:
     """The lines on what is wrong, and on the tools where the first word is no command's."""
     told = [f"clsact: {it}" for it in [fault_of(words) if words else ""] if it]
-    if not words or words[0] not in commands():
+    if not words or not forms_of(words[0]):
         told.append(f"tools beside the program: {' '.join(tool_words())}; ./clsact help tells of all")
     return told
 
@@ -97,7 +111,7 @@ def main(words: list[str]) -> int:
     if words[:1] == ["--all"]:
         sys.stdout.write(whole_usage())
         return 0
-    if words[:1] == ["--of"] and words[1] in commands():
+    if words[:1] == ["--of"] and forms_of(words[1]):
         sys.stdout.write(text_of(item_of([it for it in pieces_of(PAGE) if it.section == "DESCRIPTION"], words[1])))
         return 0
     is_first = words[:1] in (["--line"], ["--of"])
