@@ -3,3 +3,4 @@ pub mod Brought
 pub mod Origins
 pub mod Noted
 pub mod Knows
+pub mod Passed

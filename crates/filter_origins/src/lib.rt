@@ -32,3 +32,6 @@ pub use brought::Brought;
 pub use edit_lines::{Line, LinePlace, Origin};
 pub use laws::{action_has_line, look_up_has_line};
 pub use origins::Origins;
+
+// Passed on: who stands above needs no other crate for it.
+pub use state_past::StatePast;

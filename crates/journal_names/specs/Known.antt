@@ -7,8 +7,7 @@ use Rattle.batch_run.specs.declared.made_action.MadeAction.{MadeAction}
 use Rattle.lawful_runs.specs.Lawful.{made_by}
 use Rattle.walk_rules.specs.Answers.{answer_of}
 use Rattle.point_walks.specs.Over.{Answering}
-use Rattle.state_past.specs.declared.past.StatePast.{StatePast}
-use Rattle.state_past.specs.Remembering.{Remembers}
+use Rattle.filter_origins.specs.Passed.{Remembers, StatePast}
 use Rattle.filter_origins.specs.declared.origins.Origins.{Origins}
 use Rattle.filter_origins.specs.Entries.{Entry, edits_of}
 use Rattle.filter_origins.specs.Origins.{origin_at, maker_at}

@@ -3,9 +3,8 @@
 use batch_run::MadeAction;
 use edit_lines::{Line, LinePlace, Origin};
 use filter_lists::Edit;
-use filter_origins::Origins;
+use filter_origins::{Origins, StatePast};
 use flow_fields::Key;
-use state_past::StatePast;
 use std::marker::Model;
 use tc_base::Point;
 use trace_lines::Naming;

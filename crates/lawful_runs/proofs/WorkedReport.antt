@@ -2,7 +2,7 @@
 use Rattle.std.proofs.Common.{◌≡◌, refl}
 use Rattle.std.specs.Fmt.{digits}
 use Rattle.line_texts.specs.Texts.{handle_text}
-use Rattle.walk_texts.specs.Texts.{counted, end_text, action_text, count_text, edits_text, verdicts_text}
+use Rattle.run_report.specs.Passed.{counted, end_text, action_text, count_text, edits_text, verdicts_text}
 use Rattle.run_report.specs.EventTexts.{filter_name, filter_text, edit_place}
 use Rattle.run_report.specs.PacketTexts.{packet_name, points_text}
 use Rattle.run_report.specs.Reports.{numbered_line, report_text}

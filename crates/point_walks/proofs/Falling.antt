@@ -7,6 +7,7 @@ use Rattle.std.proofs.lemmas.Bool.Decides.{nat_tests}
 use Rattle.walk_rules.specs.Questions.{Question, heads_of, filter_of, params_of}
 use Rattle.walk_rules.specs.OfPoints.Points.{Visit, IsSameThing}
 use Rattle.point_walks.specs.declared.at_points.Thing.{Thing}
+use Rattle.point_walks.specs.Faults.{Falls}
 use Rattle.point_walks.specs.Visits.{thing_of, is_same}
 
 -- ---- questions of one thing
@@ -152,12 +153,24 @@ one_more visits visit never up early late one other order first second same = el
   ]
 ]
 
-pub one_falls : (visits more : List Visit) (visit : Visit) → visit.point < highest (thing_of visit.question) visits → NeverFall (visits ++ (visit ∷ more)) → ⊥
-one_falls visits more visit less never =
+pub one_fall : (visits more : List Visit) (visit : Visit) → visit.point < highest (thing_of visit.question) visits → Falls (visits ++ (visit ∷ more))
+one_fall visits more visit less =
     let it = highest_found (thing_of visit.question) visits visit.point less in
     let within = inside visits it.place it.visit it.there in
-    let order : it.place ≤ length visits = omega (arith, within) in
-    let fall = never it.place (length visits) it.visit visit order (in_front visits (visit ∷ more) it.visit it.place it.there) (at_seam visits more visit)
-    (same_thing it.visit.question visit.question it.same) in
-    let above = it.above in
-    omega (arith, above, fall)
+    record {
+      early = it.place;
+      late = length visits;
+      one = it.visit;
+      other = visit;
+      order = omega (arith, within);
+      first = in_front visits (visit ∷ more) it.visit it.place it.there;
+      second = at_seam visits more visit;
+      same = same_thing it.visit.question visit.question it.same;
+      fall = it.above;
+    }
+
+pub never_both_fall : (visits : List Visit) → Falls visits → NeverFall visits → ⊥
+never_both_fall visits falls never =
+    let up = never falls.early falls.late falls.one falls.other falls.order falls.first falls.second falls.same in
+    let down = falls.fall in
+    omega (arith, up, down)

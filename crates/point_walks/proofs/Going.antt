@@ -10,10 +10,11 @@ use Rattle.point_walks.specs.declared.at_points.Thing.{Thing}
 use Rattle.point_walks.specs.declared.at_points.Thing.TheVariants as things
 use Rattle.point_walks.specs.declared.bounds.Bounds.{Bounds}
 use Rattle.point_walks.specs.declared.latest.LatestPoints.{LatestPoints}
+use Rattle.point_walks.specs.Faults.{Falls}
 use Rattle.point_walks.specs.Over.{Answering, stands_after}
 use Rattle.point_walks.specs.Visits.{visits_over, thing_of, is_same}
 use Rattle.point_walks.specs.Latest.{latest_of, are_within}
-use Rattle.point_walks.proofs.Falling.{NeverFall, highest, highest_push, one_more, one_falls}
+use Rattle.point_walks.proofs.Falling.{NeverFall, highest, highest_push, one_more, one_fall}
 use Rattle.point_walks.proofs.Within.{lawful_of}
 use Rattle.point_walks.proofs.Visited.{points_are, visits_more, visits_whole}
 
@@ -75,15 +76,15 @@ module _ (answers : Answering) (first : Standing) (points : List ℕ) (place : �
       ∙ sym (highest_push other (visits_over answers first (take place points)) (record { question = question; point = get_or points place 0 }))
       ∙ ap (highest other) (sym more)
 
-  pub falls : (now : Standing) → stands_after answers first (take (place + 1) points) ≡ Some now → nat_le (latest_of old thing) (get_or points place 0) ≡ false → NeverFall (visits_over answers first points) → ⊥
-  falls now stands sinks never =
+  pub falls : (now : Standing) → stands_after answers first (take (place + 1) points) ≡ Some now → nat_le (latest_of old thing) (get_or points place 0) ≡ false → Falls (visits_over answers first points)
+  falls now stands sinks =
       let rest : List Visit = visits_over answers now (drop (place + 1) points) in
       let whole : visits_over answers first points ≡ visits_over answers first (take place points) ++ (record { question = question; point = get_or points place 0 } ∷ rest) =
       visits_whole answers first now points (place + 1) stands ∙ ap (λ (vs : List Visit). vs ++ rest) more
       ∙ append_assoc (visits_over answers first (take place points)) (record { question = question; point = get_or points place 0 } ∷ []) rest in
       let under = below (latest_of old thing) (get_or points place 0) sinks in
       let same = here in
-      one_falls (visits_over answers first (take place points)) rest (record { question = question; point = get_or points place 0 }) (omega (arith, under, same)) (subst NeverFall whole never)
+      subst Falls (sym whole) (one_fall (visits_over answers first (take place points)) rest (record { question = question; point = get_or points place 0 }) (omega (arith, under, same)))
 
 pub all_lawful : (answers : Answering) (first end : Standing) (bounds : Bounds) (points : List ℕ) (k : ℕ) → length points ≤ k → stands_after answers first points ≡ Some end → are_within bounds points ≡ true
     → NeverFall (visits_over answers first (take k points)) → AreLawfulPoints bounds.floor bounds.ceiling (visits_over answers first points)

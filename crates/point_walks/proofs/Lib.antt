@@ -5,3 +5,5 @@ pub mod Visited
 pub mod Lasts
 pub mod Told
 pub mod Going
+pub mod Faulty
+pub mod OneFault

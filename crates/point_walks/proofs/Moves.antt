@@ -70,7 +70,7 @@ went_on answers first st next points place d question answer within so_far asks 
     stands_more answers first st points place d (Some (after st answer)) within so_far (visit_is answers (get_or points place d) st question (Some answer) asks is)
     ∙ ap (λ (s : Standing). Some s) (sym goes)
 
-nothing_after : (answers : Answering) (first : Standing) (points : List ℕ) (k : ℕ) → stands_after answers first (take k points) ≡ None → stands_after answers first points ≡ None
+pub nothing_after : (answers : Answering) (first : Standing) (points : List ℕ) (k : ℕ) → stands_after answers first (take k points) ≡ None → stands_after answers first points ≡ None
 nothing_after answers first points k none = ap (stands_after answers first) (sym (take-append-drop k points)) ∙ none_behind answers first (take k points) (drop k points) none
 
 never_both : (o : Option Standing) (st : Standing) → o ≡ None → o ≡ Some st → ⊥

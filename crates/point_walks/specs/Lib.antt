@@ -3,3 +3,4 @@ pub mod Visits
 pub mod Answereds
 pub mod Lasts
 pub mod Latest
+pub mod Faults

@@ -19,7 +19,7 @@ impl Answered {
 
     /// What was asked for.
     #[inline]
-    pub(crate) fn thing(&self) -> Thing
+    pub fn thing(&self) -> Thing
         ensures { result ≡ thing_answered self.now }
     {
         match self {

@@ -59,6 +59,16 @@ impl LastPoints {
         self.walk += 1;
     }
 
+    /// The serial's last point, or 0.
+    pub(crate) fn last(&self, serial: u32) -> Point
+        ensures { result ≡ last_of self.now serial }
+    {
+        match self.places.get(serial as usize) {
+            Some(place) => point_in(*place, self.walk),
+            None => 0,
+        }
+    }
+
     /// Whether that point is no lower than the serial's last one, whose place it then takes.
     pub(crate) fn rise(&mut self, serial: u32, point: Point) -> Result<bool, NoMemory>
         ensures rises { IfOk result (λ rises. rises ≡ nat_le (last_of self.old serial) point) }

@@ -27,16 +27,27 @@ impl LatestPoints {
     }
 
     /// A walk begins: it asked for nothing yet.
-    pub(crate) fn begin(&mut self)
+    pub fn begin(&mut self)
         ensures { (thing : ThingValue) → latest_of self.new thing ≡ 0 }
     {
         self.masks.begin();
         self.actions.begin();
     }
 
+    /// The point at which the walk asked for the thing last, or 0.
+    pub fn last(&self, thing: Thing) -> Point
+        ensures { result ≡ latest_of self.now thing }
+    {
+        match thing {
+            Thing::Tables => 0,
+            Thing::Mask(serial) => self.masks.last(serial),
+            Thing::Action(serial) => self.actions.last(serial),
+        }
+    }
+
     /// Whether that point is no lower than the thing's last one, whose place it then takes. The tables of a
     /// hook are asked for once.
-    pub(crate) fn rise(&mut self, thing: Thing, point: Point) -> Result<bool, NoMemory>
+    pub fn rise(&mut self, thing: Thing, point: Point) -> Result<bool, NoMemory>
         ensures rises { IfOk result (λ rises. rises ≡ nat_le (latest_of self.old thing) point) }
         ensures set { result ≡ Ok true → (other : ThingValue) → latest_of self.new other
             ≡ (if is_same thing other then point else latest_of self.old other) }

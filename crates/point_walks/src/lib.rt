@@ -3,9 +3,9 @@
 //! A report tells at which point each visit of a walk was answered. Whoever judges it walks again: each visit
 //! is answered by the state of its point (`PointAnswers`), and as the answers are functions of the points,
 //! the walk is one too. So there is no search: where a visit has no answer, or the walk has ended before the
-//! last point or not with it, no walk has these points. `walk_at` says yes with where the walk stands at its
-//! end, and no only where no walk at these points is lawful. Whoever tells of a walk makes its visits one by
-//! one: `visit_at` says what was asked and answered.
+//! last point or not with it, no walk has these points. `walk_at` leaves the walk where it stands at its end,
+//! or says why no walk at these points is lawful. It notes what was asked for and copies no answer. Whoever
+//! tells of a walk makes its visits one by one: `visit_at` says what was asked and answered.
 //!
 //! Points are lawful within bounds: the first is the tables' and no lower than the worker's floor, none is
 //! lower than that or above the ceiling, and those of one mask or one action never fall. For the last,
@@ -20,14 +20,18 @@
 
 mod answered;
 mod answers;
+mod asked_at;
 mod at_points;
 mod bounds;
+mod fault;
 mod last_points;
 mod latest;
 mod walking;
 
 pub use answered::Answered;
 pub use answers::PointAnswers;
+pub use at_points::Thing;
 pub use bounds::Bounds;
+pub use fault::PointFault;
 pub use latest::LatestPoints;
 pub use walking::{visit_at, walk_at};

@@ -1,16 +1,20 @@
 //! The walk at given points.
 ghost use Rattle.frame_edit.specs.declared.limits.TheConstants.{FRAME_MAX};
-ghost use Rattle.std.specs.Prelude.{◌≡◌, ◌≤◌, true, false, length, Ok, None, IfSome};
+ghost use Rattle.std.specs.Prelude.{◌≡◌, ◌≤◌, length, Ok, Some, None, IfSome};
 ghost use Rattle.walk_rules.specs.Steps.{Standing, question_of};
 ghost use Rattle.walk_steps.specs.Walking.{IsOnWay, progress_of};
 ghost use Rattle.point_walks.specs.Answereds.{IsVisitAt};
+ghost use Rattle.point_walks.specs.Faults.{IsFault};
 ghost use Rattle.point_walks.specs.Over.{answered_at};
 ghost use Rattle.point_walks.specs.Visits.{IsWalkAt};
+ghost use Rattle.point_walks.specs.declared.fault.PointFault.{PointFault as PointFaultValue};
 
 use crate::answered::Answered;
 use crate::answers::PointAnswers;
-use crate::at_points::AtPoint;
+use crate::asked_at::AskedAt;
+use crate::at_points::{AtPoint, Thing};
 use crate::bounds::Bounds;
+use crate::fault::PointFault;
 use crate::latest::LatestPoints;
 use tc_base::{Hook, NoMemory, Point};
 use walk_steps::{Progress, Walk};
@@ -43,8 +47,9 @@ pub fn visit_at<A: PointAnswers>(
     }
 }
 
-/// Walks a frame of at most 262,144 bytes with a visit at each of these points, and tells whether that is a
-/// walk: its last visit is the last one, and the points are lawful within these bounds.
+/// Walks a frame of at most 262,144 bytes with a visit at each of these points, and tells why that isn't a
+/// walk; nothing, where it is one: its last visit is the last one, and the points are lawful within these
+/// bounds.
 ///
 /// `NoMemory`: memory was refused.
 pub fn walk_at<A: PointAnswers>(
@@ -55,32 +60,44 @@ pub fn walk_at<A: PointAnswers>(
     bytes: &[u8],
     bounds: Bounds,
     points: &[Point],
-) -> Result<bool, NoMemory>
+) -> Result<Option<PointFault>, NoMemory>
     requires { length bytes.now ≤ FRAME_MAX }
-    ensures yes { result ≡ Ok true
+    ensures yes { result ≡ Ok None
         → IsWalkAt (A.answer answers.now) hook bytes.now bounds points.now walk.new.standing }
-    ensures no { result ≡ Ok false → (end : Standing)
+    ensures fault { (fault : PointFaultValue) → result ≡ Ok (Some fault)
+        → IsFault (A.answer answers.now) hook bytes.now bounds points.now fault }
+    ensures no { (fault : PointFaultValue) → result ≡ Ok (Some fault) → (end : Standing)
         → IsWalkAt (A.answer answers.now) hook bytes.now bounds points.now end → ⊥ }
 {
     if !bounds.allow(points) {
-        return Ok(false);
+        return Ok(Some(bounds.fault(points)));
     }
     walk.begin(hook, bytes);
     latest.begin();
     let mut place = 0;
     while place < points.len() {
         let point = points[place];
-        let Some((answered, progress)) = visit_at(walk, answers, point) else {
-            return Ok(false);
+        let mut visits = AskedAt {
+            answers,
+            point,
+            thing: Thing::Tables,
+            failed: false,
         };
-        let rises = latest.rise(answered.thing(), point)?;
+        let progress = walk.step(&mut visits);
+        if visits.failed {
+            return Ok(Some(PointFault::Gone(visits.thing)));
+        }
+        let rises = latest.rise(visits.thing, point)?;
         if !rises {
-            return Ok(false);
+            return Ok(Some(PointFault::Falling));
         }
         place += 1;
         if let Progress::Ended = progress {
-            return Ok(place == points.len());
+            if place == points.len() {
+                return Ok(None);
+            }
+            return Ok(Some(PointFault::TooMany));
         }
     }
-    Ok(false)
+    Ok(Some(PointFault::TooFew))
 }

@@ -5,7 +5,7 @@ use Rattle.tc_base.specs.declared.hook.Hook.{Hook}
 use Rattle.pcap_io.specs.declared.capture.Packet.{Packet}
 use Rattle.lawful_runs.specs.Given.{Arrival}
 use Rattle.report_check.specs.declared.events.cursor.Cursor.{Cursor}
-use Rattle.report_check.specs.declared.events.replay.Replay.{Replay}
+use Rattle.journal_replay.specs.declared.replay.Replay.{Replay}
 use Rattle.report_check.specs.declared.walkers.Walkers.{Walkers}
 use Rattle.report_check.specs.Rounds.{ToldRound, AreWalked, IsNextPacket, IsAtPackets}
 

@@ -1,5 +1,5 @@
 -- The lines behind the rounds, and what a whole report comes to.
-use Rattle.std.proofs.Common.{◌≡◌, ◌∙◌, ℕ, zero, suc, ◌+◌, ◌-◌, ◌^◌, ◌<◌, List, [], ◌∷◌, ◌++◌, length, map, take, drop, Option, Some, None, refl, sym, ap, subst, arith, append-nil}
+use Rattle.std.proofs.Common.{◌≡◌, ◌∙◌, ℕ, zero, suc, ◌+◌, ◌-◌, ◌^◌, ◌<◌, ◌≤◌, List, [], ◌∷◌, ◌++◌, length, map, take, drop, Option, Some, None, refl, sym, ap, subst, arith, append-nil}
 use Rattle.std.specs.Prelude.{slice_get, codes, if◌then◌else◌}
 use Rattle.std.proofs.lemmas.List.{length-append}
 use Rattle.std.proofs.lemmas.List.Sums.{sum_by-append, sum_by-cons}
@@ -28,16 +28,18 @@ use Rattle.report_laws.proofs.OfWholePaths.Completing.{completes}
 use Rattle.report_laws.proofs.OfWholePaths.Reached.{run_of_path}
 use Rattle.report_laws.proofs.OfWholePaths.Cutting.{joined_cut}
 use Rattle.report_laws.proofs.OfWholePaths.Exact.{bad_line, cut_short, whole_report}
+use Rattle.tool_words.specs.declared.reason.Reason.TheVariants as reasons
+use Rattle.report_check.specs.Reasons.{IsReasonAt, due_reason}
 use Rattle.report_check.specs.declared.events.cursor.Cursor.{Cursor}
-use Rattle.report_check.specs.OfEvents.Cursors.{lines_left, IsNextLine, IsAt, GetsStuck, IsStuck, MustBe}
-use Rattle.report_check.specs.declared.events.replay.Replay.{Replay}
+use Rattle.report_check.specs.OfEvents.Cursors.{lines_left, IsNextLine, IsAt, GetsStuck, IsStuck, IsRefused, MustBe}
+use Rattle.journal_replay.specs.declared.replay.Replay.{Replay}
 use Rattle.report_check.specs.declared.rounds.Progress.{Progress}
 use Rattle.run_counts.specs.Counting.{count_of, counted_in}
 use Rattle.report_check.specs.Counting.{counted_lines}
 use Rattle.report_check.specs.Checks.{IsUntitled}
 use Rattle.report_check.specs.Replayed.{IsReplayOf}
-use Rattle.report_check.specs.OfEvents.Placed.{places_in}
-use Rattle.report_check.specs.OfEvents.Replays.{IsKept}
+use Rattle.journal_replay.specs.Placed.{places_in}
+use Rattle.journal_replay.specs.Replays.{IsKept}
 use Rattle.report_check.specs.Walked.{AreWalkers}
 use Rattle.report_check.specs.Between.{IsBetween}
 use Rattle.report_check.proofs.Captures.{given_end}
@@ -123,8 +125,17 @@ module _ (loaded : LoadedJob) (bytes : List ℕ) (progress : Progress) (b : IsBe
       ∙ ap (λ (s : Summary). counted_lines progress.walkers.counts progress.replay.made.items ++ (summary_line s ∷ codes "end\n" ∷ [])) (sym summary_is) in
       subst (λ (ls : List (List ℕ)). IsAt loaded bytes progress.cursor (closing run progress.replay.journal.items ls)) lines (subst (IsAt loaded bytes progress.cursor) closed b.is_at)
 
+-- ---- a counter is due before two lines at least
+due_three : (first : List ℕ) (lines : List (List ℕ)) → 2 ≤ length lines → reasons.Counter ≡ due_reason (first ∷ lines)
+due_three first [] two = absurd (omega (arith, two))
+due_three first (last ∷ []) two = absurd (omega (arith, two))
+due_three first (summary ∷ last ∷ left) two = refl
+
+pub counter_due : (first : List ℕ) (lines left : List (List ℕ)) → 2 ≤ length left → reasons.Counter ≡ due_reason (first ∷ (lines ++ left))
+counter_due first lines left two = due_three first (lines ++ left) (let sum = length-append lines left in omega (arith, sum, two))
+
 -- ---- what is answered
-short_path : (loaded : LoadedJob) (stand : Stand) (lines : List (List ℕ)) → IsLoaded loaded → IsPath loaded start lines stand → journal_length stand < 2 ^ 64
+pub short_path : (loaded : LoadedJob) (stand : Stand) (lines : List (List ℕ)) → IsLoaded loaded → IsPath loaded start lines stand → journal_length stand < 2 ^ 64
 short_path loaded stand lines is path =
     let whole = completes loaded stand lines is path in
     let grows = path_grows loaded stand (closing whole.run whole.journal []) whole.more whole.path in
@@ -145,6 +156,18 @@ first_bad loaded bytes cursor is it = by_lines (lines_left bytes cursor) it.is_a
         subst (IsFirstBadLine loaded bytes) (ap (λ (ls : List (List ℕ)). length ls + 1) all ∙ number) (cut_short loaded bytes it.stand is path (short_path loaded it.stand (cut bytes) is path) unended)
     by_lines (line ∷ rest) gone none =
         subst (IsFirstBadLine loaded bytes) number (bad_line loaded bytes it.stand it.is_at.lines rest line is gone it.is_at.path (short_path loaded it.stand it.is_at.lines is it.is_at.path) none)
+
+-- and why none goes on with it
+pub reason_at : (loaded : LoadedJob) (bytes : List ℕ) (cursor : Cursor) → IsStuck loaded bytes cursor → IsReasonAt loaded bytes (cursor.line + 1) cursor.reason
+reason_at loaded bytes cursor it = record {
+  before = it.is_at.lines;
+  left = lines_left bytes cursor;
+  stand = it.stand;
+  whole = it.is_at.gone;
+  count = ap (λ (n : ℕ). n + 1) (sym it.is_at.counted);
+  path = it.is_at.path;
+  why = it.why;
+}
 
 pub is_lawful : (loaded : LoadedJob) (bytes : List ℕ) (cursor : Cursor) (run : RunRecord) (journal : List Edit) → IsAt loaded bytes cursor (closing run journal []) → lines_left bytes cursor ≡ [] → IsLawfulReport loaded bytes
 is_lawful loaded bytes cursor run journal at none =
@@ -172,13 +195,8 @@ replay_of loaded report replay run is kept placed (lawful, reported) = record {
 }
 
 -- a line behind the last one
-pub too_many : (loaded : LoadedJob) (bytes : List ℕ) (cursor : Cursor) (run : RunRecord) (journal : List Edit) (line : List ℕ) (rest : List (List ℕ)) → IsAt loaded bytes cursor (closing run journal []) → lines_left bytes cursor ≡ line ∷ rest
-    → IsStuck loaded bytes cursor
-too_many loaded bytes cursor run journal line rest at some = record {
-  stand = closing run journal [];
-  is_at = at;
-  stuck = subst (GetsStuck loaded (closing run journal [])) (sym some) (λ next takes. takes);
-}
+pub too_many : (loaded : LoadedJob) (bytes : List ℕ) (cursor : Cursor) (run : RunRecord) (journal : List Edit) → IsRefused loaded bytes cursor (closing run journal []) reasons.Behind
+too_many loaded bytes cursor run journal = λ line is_next. ((λ next takes. takes), refl)
 
 -- the summary with the journal's length as it is counted
 pub at_end : (loaded : LoadedJob) (bytes : List ℕ) (progress : Progress) (cursor : Cursor) (run : RunRecord) (journal : List Edit) (edits : ℕ) → edits ≡ length progress.replay.journal.items → IsAt loaded bytes cursor (closing run journal (end_lines progress))
@@ -198,7 +216,7 @@ counters_next counts (first ∷ made) (suc place) action line is text =
     counters_next counts made place action line is text ∙ ap (λ (n : ℕ). line ∷ counted_lines counts (drop n (first ∷ made))) (sym more)
 
 -- ---- before the first round
-pub at_title : (loaded : LoadedJob) (bytes : List ℕ) (cursor : Cursor) → cursor ≡ record { at = 0; line = 0 } → IsAt loaded bytes cursor start
+pub at_title : (loaded : LoadedJob) (bytes : List ℕ) (cursor : Cursor) → cursor ≡ record { at = 0; line = 0; reason = reasons.Cut } → IsAt loaded bytes cursor start
 at_title loaded bytes cursor is = subst (λ (c : Cursor). IsAt loaded bytes c start) (sym is) (record { lines = []; gone = refl; counted = refl; path = refl })
 
 pub title_must_be : (loaded : LoadedJob) (bytes : List ℕ) (cursor : Cursor) → MustBe loaded bytes cursor start (codes "clsact report 1\n")
@@ -207,9 +225,9 @@ title_must_be loaded bytes cursor = λ line next is_next takes. takes.0
 pub title_takes : (loaded : LoadedJob) → Takes loaded start (codes "clsact report 1\n") (settled loaded [] [])
 title_takes loaded = (refl, refl)
 
-pub titled : (bytes : List ℕ) (cursor : Cursor) → cursor ≡ record { at = 0; line = 0 } → IsNextLine bytes cursor (codes "clsact report 1\n") → IsUntitled bytes → ⊥
+pub titled : (bytes : List ℕ) (cursor : Cursor) → cursor ≡ record { at = 0; line = 0; reason = reasons.Cut } → IsNextLine bytes cursor (codes "clsact report 1\n") → IsUntitled bytes → ⊥
 titled bytes cursor is next untitled =
-    let from : IsNextLine bytes (record { at = 0; line = 0 }) (codes "clsact report 1\n") = subst (λ (c : Cursor). IsNextLine bytes c (codes "clsact report 1\n")) is next in
+    let from : IsNextLine bytes (record { at = 0; line = 0; reason = reasons.Cut }) (codes "clsact report 1\n") = subst (λ (c : Cursor). IsNextLine bytes c (codes "clsact report 1\n")) is next in
     untitled _ from.first
 
 pub start_open : IsOpen start

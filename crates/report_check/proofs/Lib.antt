@@ -4,12 +4,15 @@ pub mod Begun
 pub mod Stuck
 pub mod Again
 pub mod Walking
+pub mod Parting
+pub mod Refusing
 pub mod Seen
 pub mod Ended
 pub mod Arriving
 pub mod Captures
 pub mod Rounding
 pub mod LastLines
+pub mod OneReason
 pub mod OneCheck
 pub mod OfEvents
 pub mod OfReading

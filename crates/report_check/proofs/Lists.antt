@@ -13,7 +13,7 @@ use Rattle.hook_lists.specs.declared.kept.Kept.{Kept}
 use Rattle.filter_lists.specs.Spells.{Spells}
 use Rattle.filter_lists.specs.Edits.{IsStepped, MayStep}
 use Rattle.std.proofs.lemmas.List.{length-take}
-use Rattle.report_check.proofs.OfEvents.Meeting.{may_step}
+use Rattle.journal_replay.proofs.Meeting.{may_step}
 use Rattle.tc_base.specs.Memory.{no_memory}
 
 step_from : (s : State) (journal : List Edit) (k : ℕ) (edit : Edit) → slice_get journal k ≡ Some edit

@@ -1,4 +1,3 @@
 pub mod Parts
 pub mod AtLines
-pub mod Meeting
 pub mod Turning

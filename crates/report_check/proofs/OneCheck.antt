@@ -1,8 +1,9 @@
 -- Bytes have at most one answer.
-use Rattle.std.proofs.Common.{◌≡◌, ◌∙◌, ◌⊎◌, inl, inr, ℕ, ◌<◌, ◌≤◌, List, length, take, drop, refl, sym, ap, arith}
+use Rattle.std.proofs.Common.{◌≡◌, ◌∙◌, ◌⊎◌, inl, inr, ℕ, ◌<◌, ◌≤◌, List, length, take, drop, refl, sym, ap, subst, arith}
 use Rattle.std.proofs.lemmas.List.{take-append-drop}
 use Rattle.run_report.specs.Reports.{report_lines}
 use Rattle.lawful_runs.specs.declared.loaded.LoadedJob.{LoadedJob}
+use Rattle.lawful_runs.specs.Given.{IsLoaded}
 use Rattle.lawful_runs.specs.Lawful.{IsLawfulReport}
 use Rattle.report_laws.specs.OfLineCuts.Cuts.{cut}
 use Rattle.report_laws.proofs.OfLineCuts.Cutting.{cut_joined}
@@ -10,7 +11,10 @@ use Rattle.report_laws.specs.OfWholePaths.FirstBadLines.{Begins, IsFirstBadLine}
 use Rattle.report_laws.proofs.ReportLines.{report_is_lines}
 use Rattle.report_check.specs.declared.check.Check.{Check}
 use Rattle.report_check.specs.declared.check.Check.TheVariants as checks
+use Rattle.tool_words.specs.declared.reason.Reason.{Reason}
 use Rattle.report_check.specs.Checks.{IsCheckOf}
+use Rattle.report_check.specs.Reasons.{IsReasonAt}
+use Rattle.report_check.proofs.OneReason.{one_reason}
 
 module _ (loaded : LoadedJob) (bytes : List ℕ) where
   within_or_past : (at : ℕ) → (at ≤ length (cut bytes)) ⊎ (length (cut bytes) < at)
@@ -51,8 +55,11 @@ module _ (loaded : LoadedJob) (bytes : List ℕ) where
       by_order (inr (inl less)) = absurd (not_before at later first second less)
       by_order (inr (inr more)) = absurd (not_before later at second first more)
 
-  pub one_answer : (one other : Check) → IsCheckOf loaded bytes one → IsCheckOf loaded bytes other → one ≡ other
-  one_answer checks.Lawful checks.Lawful first second = refl
-  one_answer checks.Lawful (checks.Unlawful line) lawful bad = absurd (not_both line lawful bad)
-  one_answer (checks.Unlawful line) checks.Lawful bad lawful = absurd (not_both line lawful bad)
-  one_answer (checks.Unlawful line) (checks.Unlawful other) first second = ap checks.Unlawful (one_line line other first second)
+  pub one_answer : (one other : Check) → IsLoaded loaded → IsCheckOf loaded bytes one → IsCheckOf loaded bytes other → one ≡ other
+  one_answer checks.Lawful checks.Lawful is first second = refl
+  one_answer checks.Lawful (checks.Unlawful line reason) is lawful bad = absurd (not_both line lawful bad.0)
+  one_answer (checks.Unlawful line reason) checks.Lawful is bad lawful = absurd (not_both line lawful bad.0)
+  one_answer (checks.Unlawful line reason) (checks.Unlawful other why) is first second =
+      let lines = one_line line other first.0 second.0 in
+      let reasons = one_reason loaded bytes line reason why is first.1 (subst (λ (n : ℕ). IsReasonAt loaded bytes n why) (sym lines) second.1) in
+      ap (λ (n : ℕ). checks.Unlawful n reason) lines ∙ ap (λ (r : Reason). checks.Unlawful other r) reasons

@@ -26,9 +26,11 @@ use Rattle.report_laws.proofs.Paths.{outcomes_push}
 use Rattle.report_laws.proofs.Texts.{edits_append, edits_cons}
 use Rattle.report_laws.proofs.OfNextLines.NextOutcomes.{takes_end_alone}
 use Rattle.report_check.specs.declared.events.cursor.Cursor.{Cursor}
-use Rattle.report_check.specs.declared.events.replay.Replay.{Replay}
+use Rattle.journal_replay.specs.declared.replay.Replay.{Replay}
+use Rattle.tool_words.specs.declared.reason.Reason.TheVariants as reasons
+use Rattle.report_check.specs.Reasons.{IsReason}
 use Rattle.report_check.specs.OfEvents.Cursors.{IsAt, MustBe}
-use Rattle.report_check.specs.OfEvents.Placed.{places_of, places_in}
+use Rattle.journal_replay.specs.Placed.{places_of, places_in}
 use Rattle.report_check.specs.OfEvents.Told.{HasBegun, AreOver}
 use Rattle.report_check.specs.declared.rounds.Progress.{Progress}
 use Rattle.report_check.specs.declared.walkers.Walkers.{Walkers}
@@ -129,6 +131,9 @@ module _ (told : ToldRound) (replay : Replay) (of : IsToldRound told replay) (ou
   pub last_must_be : (bytes : List ℕ) (cursor : Cursor) (number : ℕ) → number ≡ length told.its + 1 → MustBe told.loaded bytes cursor (stand_with told outcomes) (numbered_line (codes "end round ") number)
   last_must_be bytes cursor number is = λ line next is_next takes.
       (takes_end_alone told.loaded told.round told.its told.before (record_with told outcomes) told.edits of.is_loaded of.there line next of.none each takes).0 ∙ ap (numbered_line (codes "end round ")) (sym is)
+
+  pub last_reason : (line : List ℕ) → IsReason told.loaded (stand_with told outcomes) line reasons.Round
+  last_reason line = (told.round, of.there, inr (inr (record { all = of.order; each = each }, refl)))
 
 -- ---- the packets of captures
 pub packets_on : (loaded : LoadedJob) (k captures : ℕ) (round : Round) (given : GivenRound) → IsLoaded loaded → slice_get loaded.job.rounds k ≡ Some round → slice_get (given_rounds loaded) k ≡ Some given → captures ≡ captures_named (take k loaded.job.rounds)

@@ -6,8 +6,11 @@ use Rattle.report_laws.specs.OfLineCuts.Cuts.{byte_before, cut}
 use Rattle.report_laws.specs.Stands.{Stand, Takes}
 use Rattle.report_laws.specs.OfWholePaths.FirstBadLines.{IsOpen}
 use Rattle.report_check.specs.declared.events.cursor.Cursor.{Cursor}
-use Rattle.report_check.specs.OfEvents.Cursors.{IsWithin, IsNextLine, lines_left, IsAt, IsStuck}
-use Rattle.report_check.proofs.OfEvents.AtLines.{next_is, stuck_at_end, stuck_at_line}
+use Rattle.tool_words.specs.declared.reason.Reason.{Reason}
+use Rattle.tool_words.specs.declared.reason.Reason.TheVariants as reasons
+use Rattle.report_check.specs.Reasons.{IsReason, IsWhy}
+use Rattle.report_check.specs.OfEvents.Cursors.{IsWithin, IsNextLine, lines_left, IsAt, GetsStuck, IsStuck, IsRefused, IsReasonUnless, MustBe}
+use Rattle.report_check.proofs.OfEvents.AtLines.{next_is, at_same}
 
 abbrev IsRest : List ℕ → List ℕ → List (List ℕ) → Type 0
 IsRest bytes line rest = cut (drop (length line) bytes) ≡ rest
@@ -38,17 +41,35 @@ rest_is (byte ∷ bytes) line rest is = rest_before byte bytes (cut bytes) line 
 pub next_line_is : (bytes : List ℕ) (cursor : Cursor) (line : List ℕ) (rest : List (List ℕ)) → IsWithin bytes cursor → lines_left bytes cursor ≡ line ∷ rest → IsNextLine bytes cursor line
 next_line_is bytes cursor line rest within is =
     let text : List ℕ = drop cursor.at bytes in
-    next_is bytes text line (drop (length line) text) cursor within refl (is ∙ ap (λ (ls : List (List ℕ)). line ∷ ls) (sym (rest_is text line rest is)))
+    next_is bytes text line (drop (length line) text) cursor.at within.0 refl (is ∙ ap (λ (ls : List (List ℕ)). line ∷ ls) (sym (rest_is text line rest is)))
 
 -- no line that comes next may come
 abbrev pub MayNot : LoadedJob → List ℕ → Cursor → Stand → Type 0
 MayNot loaded bytes cursor stand = (line : List ℕ) (next : Stand) → IsNextLine bytes cursor line → Takes loaded stand line next → ⊥
 
-pub stuck_unless : (loaded : LoadedJob) (bytes : List ℕ) (cursor : Cursor) (stand : Stand) → IsWithin bytes cursor → IsAt loaded bytes cursor stand → IsOpen stand → MayNot loaded bytes cursor stand → IsStuck loaded bytes cursor
-stuck_unless loaded bytes cursor stand within at unended never = by_lines (lines_left bytes cursor) refl
+pub stuck_for : (loaded : LoadedJob) (bytes : List ℕ) (cursor : Cursor) (stand : Stand) (reason told : Reason) → IsWithin bytes cursor → (lines_left bytes cursor ≡ [] → told ≡ reasons.Cut) → ((line : List ℕ) → IsNextLine bytes cursor line → told ≡ reason)
+    → IsAt loaded bytes cursor stand → (lines_left bytes cursor ≡ [] → IsOpen stand) → IsRefused loaded bytes cursor stand reason → IsStuck loaded bytes (record cursor { reason = told })
+stuck_for loaded bytes cursor stand reason told within cut_is told_is at unended refused = by_lines (lines_left bytes cursor) refl
   where
-    by_lines : (lines : List (List ℕ)) → lines_left bytes cursor ≡ lines → IsStuck loaded bytes cursor
-    by_lines [] is = stuck_at_end bytes cursor is loaded stand at unended
+    by_lines : (lines : List (List ℕ)) → lines_left bytes cursor ≡ lines → IsStuck loaded bytes (record cursor { reason = told })
+    by_lines [] is = record {
+      stand = stand;
+      is_at = at_same loaded bytes cursor told stand at;
+      stuck = subst (GetsStuck loaded stand) (sym is) (unended is);
+      why = subst (λ (ls : List (List ℕ)). IsWhy loaded stand ls told) (sym is) (cut_is is);
+    }
     by_lines (line ∷ rest) is =
         let next = next_line_is bytes cursor line rest within is in
-        stuck_at_line bytes line cursor next loaded stand at (λ behind takes. never line behind next takes)
+        let never = refused line next in
+        record {
+          stand = stand;
+          is_at = at_same loaded bytes cursor told stand at;
+          stuck = subst (GetsStuck loaded stand) (sym is) never.0;
+          why = subst (λ (ls : List (List ℕ)). IsWhy loaded stand ls told) (sym is) (subst (IsReason loaded stand line) (sym (told_is line next)) never.1);
+        }
+
+-- a text that has to come, and doesn't
+pub refused_unless : (loaded : LoadedJob) (bytes : List ℕ) (cursor : Cursor) (stand : Stand) (text : List ℕ) (reason : Reason) → ((line : List ℕ) → IsNextLine bytes cursor line → line ≡ text → ⊥) → MustBe loaded bytes cursor stand text
+    → IsReasonUnless loaded bytes cursor stand text reason → IsRefused loaded bytes cursor stand reason
+refused_unless loaded bytes cursor stand text reason other must why = λ line next.
+    ((λ behind takes. other line next (must line behind next takes)), why line next (other line next))

@@ -21,8 +21,9 @@ use Rattle.report_laws.proofs.OfNextLines.Walked.{walked}
 use Rattle.report_laws.proofs.OfNextLines.NextPackets.{is_walked}
 use Rattle.report_laws.proofs.OfNextLines.NextOutcomes.{takes_walk, takes_walk_alone}
 use Rattle.report_check.specs.OfReading.Packets.{IsSmall}
+use Rattle.report_check.proofs.OfReading.PacketParts.{shows_packet}
 use Rattle.report_check.specs.declared.events.cursor.Cursor.{Cursor}
-use Rattle.report_check.specs.declared.events.replay.Replay.{Replay}
+use Rattle.journal_replay.specs.declared.replay.Replay.{Replay}
 use Rattle.report_check.specs.OfEvents.Cursors.{IsNextLine, IsAt, MustBe}
 use Rattle.report_check.proofs.OfEvents.Turning.{short_journal, unended}
 use Rattle.report_check.specs.declared.walkers.Walkers.{Walkers}
@@ -65,7 +66,7 @@ module _ (told : ToldRound) (bytes : List ℕ) (cursor : Cursor) (replay : Repla
   pub is_open : IsOpen (stand_with told outcomes)
   is_open = unended told.its told.before (record_with told outcomes) told.edits
 
-  arrives : slice_get told.round.arrivals (length outcomes) ≡ Some it.packet.arrival
+  pub arrives : slice_get told.round.arrivals (length outcomes) ≡ Some it.packet.arrival
   arrives = ap (slice_get told.round.arrivals) it.walked.place_is ∙ it.packet.there
 
   moved : (floor : ℕ) (points : List ℕ) (end : Standing) → IsWalkAt (answers_of (journal_of told)) it.packet.arrival.hook it.packet.arrival.packet.bytes (record { floor = floor; ceiling = length (journal_of told) }) points end
@@ -105,7 +106,7 @@ module _ (told : ToldRound) (bytes : List ℕ) (cursor : Cursor) (replay : Repla
   pub none_shown : (points : List ℕ) → ShowsWalk bytes cursor None points → MayNot told.loaded bytes cursor (stand_with told outcomes)
   none_shown points shows line next is_next takes =
       let it = shown line next takes in
-      let both = shows line (1 + length outcomes) (recorded_by it.worker it.points it.ended) is_next it.small it.text in
+      let both = shows line (1 + length outcomes) it.worker it.points is_next (shows_packet line (1 + length outcomes) (recorded_by it.worker it.points it.ended) it.small it.text) in
       cc both.0
 
   same_worker : (one other : ℕ) → ◌≡◌ {A = Option ℕ} (Some one) (Some other) → one ≡ other
@@ -114,7 +115,7 @@ module _ (told : ToldRound) (bytes : List ℕ) (cursor : Cursor) (replay : Repla
   pub no_worker : (worker : ℕ) (points : List ℕ) → ShowsWalk bytes cursor (Some worker) points → (1 ≤ worker → worker ≤ told.loaded.job.workers → ⊥) → MayNot told.loaded bytes cursor (stand_with told outcomes)
   no_worker worker points shows never line next is_next takes =
       let it = shown line next takes in
-      let both = shows line (1 + length outcomes) (recorded_by it.worker it.points it.ended) is_next it.small it.text in
+      let both = shows line (1 + length outcomes) it.worker it.points is_next (shows_packet line (1 + length outcomes) (recorded_by it.worker it.points it.ended) it.small it.text) in
       let same = same_worker worker it.worker both.0 in
       let least = it.least in
       let most = it.most in
@@ -126,7 +127,7 @@ module _ (told : ToldRound) (bytes : List ℕ) (cursor : Cursor) (replay : Repla
       → (end : Standing) × (ended : WalkOutcome) × WalksTo (journal_of told) hook frame floor points end × (outcome_of end ≡ Some ended) × (line ≡ packet_line (1 + length outcomes) (recorded_by worker points ended))
   walks_shown worker floor points shows floor_is line next is_next takes =
       let it = shown line next takes in
-      let both = shows line (1 + length outcomes) (recorded_by it.worker it.points it.ended) is_next it.small it.text in
+      let both = shows line (1 + length outcomes) it.worker it.points is_next (shows_packet line (1 + length outcomes) (recorded_by it.worker it.points it.ended) it.small it.text) in
       let by = same_worker worker it.worker both.0 in
       let floors : floor ≡ max (length told.before) (seen_by it.worker (outcomes_in told.its ++ outcomes)) = floor_is ∙ ap (λ (w : ℕ). max (length told.before) (seen_by w (outcomes_in told.its ++ outcomes))) by in (
         it.end,
@@ -148,17 +149,22 @@ module _ (told : ToldRound) (bytes : List ℕ) (cursor : Cursor) (replay : Repla
       let it = walked (journal_of told) (begun hook frame) end points refl refl walks.stands walks.over in
       record { ended = it.walk; is = it.outcome }
 
+  pub walks_here : (worker floor : ℕ) (points : List ℕ) (end : Standing) (ended : WalkOutcome) → floor ≡ max (length told.before) (seen_by worker (outcomes_in told.its ++ outcomes))
+      → WalksTo (journal_of told) hook frame floor points end → outcome_of end ≡ Some ended
+      → WalksAt (journal_of told) (max (length told.before) (seen_by worker (outcomes_in told.its ++ outcomes))) (length (journal_of told)) it.packet.arrival points ended
+  walks_here worker floor points end ended floor_is walks is =
+      let at = back floor points end walks in
+      subst (λ (f : ℕ). WalksAt (journal_of told) f (length (journal_of told)) it.packet.arrival points ended) floor_is (record { end = end; stands = at.stands; over = at.over; outcome = is; lawful = at.lawful })
+
   takes_here : (worker floor : ℕ) (points : List ℕ) (end : Standing) (ended : WalkOutcome) → 1 ≤ worker → worker ≤ told.loaded.job.workers → floor ≡ max (length told.before) (seen_by worker (outcomes_in told.its ++ outcomes))
       → WalksTo (journal_of told) hook frame floor points end → outcome_of end ≡ Some ended
       → Takes told.loaded (stand_with told outcomes) (packet_line (1 + length outcomes) (recorded_by worker points ended)) (stand_with told (outcomes ++ (recorded_by worker points ended ∷ [])))
   takes_here worker floor points end ended low high floor_is walks is =
-      let at = back floor points end walks in
-      let Lawful : ℕ → Type 0 = λ (f : ℕ). WalksAt (journal_of told) f (length (journal_of told)) it.packet.arrival points ended in
       takes_walk told.loaded told.round told.its told.before (record_with told outcomes) told.edits it.of.is_loaded it.of.there worker it.packet.arrival points ended it.of.order (record {
         there = arrives;
         least = low;
         most = high;
-        walks = subst Lawful floor_is (record { end = end; stands = at.stands; over = at.over; outcome = is; lawful = at.lawful });
+        walks = walks_here worker floor points end ended floor_is walks is;
       })
 
   -- its line may come

@@ -7,10 +7,10 @@ use Rattle.lawful_runs.specs.Given.{captures_named, packet_count}
 use Rattle.lawful_runs.specs.Lawful.{outcomes_in}
 use Rattle.report_laws.specs.Stands.{settled}
 use Rattle.report_check.specs.declared.events.cursor.Cursor.{Cursor}
-use Rattle.report_check.specs.declared.events.replay.Replay.{Replay}
+use Rattle.journal_replay.specs.declared.replay.Replay.{Replay}
 use Rattle.report_check.specs.OfEvents.Cursors.{IsAt}
-use Rattle.report_check.specs.OfEvents.Placed.{places_in}
-use Rattle.report_check.specs.OfEvents.Replays.{IsKept}
+use Rattle.journal_replay.specs.Placed.{places_in}
+use Rattle.journal_replay.specs.Replays.{IsKept}
 use Rattle.report_check.specs.declared.rounds.Progress.{Progress}
 use Rattle.report_check.specs.declared.walkers.Walkers.{Walkers}
 use Rattle.report_check.specs.Walked.{AreWalkers}

@@ -1,3 +1,4 @@
+pub mod Reasons
 pub mod Checks
 pub mod Replayed
 pub mod Counting

@@ -13,9 +13,9 @@ use Rattle.lawful_runs.specs.Lawful.{outcomes_in}
 use Rattle.report_laws.specs.Stands.{Stand, inside}
 use Rattle.report_laws.specs.OfNextLines.Left.{NoneLeft}
 use Rattle.report_check.specs.declared.events.cursor.Cursor.{Cursor}
-use Rattle.report_check.specs.declared.events.replay.Replay.{Replay}
+use Rattle.journal_replay.specs.declared.replay.Replay.{Replay}
 use Rattle.report_check.specs.OfEvents.Cursors.{IsAt}
-use Rattle.report_check.specs.OfEvents.Replays.{IsKept}
+use Rattle.journal_replay.specs.Replays.{IsKept}
 use Rattle.report_check.specs.declared.walkers.Walkers.{Walkers}
 use Rattle.report_check.specs.Walked.{AreWalkers}
 

@@ -1,5 +1,5 @@
 //! The lines behind the rounds of a report.
-ghost use Rattle.std.specs.Prelude.{◌≡◌, ◌+◌, ◌<◌, ◌^◌, ◌++◌, ◌∷◌, [], List, ℕ, true, false, codes};
+ghost use Rattle.std.specs.Prelude.{◌≡◌, ◌+◌, ◌≤◌, ◌<◌, ◌^◌, ◌++◌, ◌∷◌, [], List, ℕ, true, false, codes};
 ghost use Rattle.std.specs.Prelude.{length, Ok};
 ghost use Rattle.filter_state.specs.declared.edit.Edit.{Edit};
 ghost use Rattle.walk_texts.specs.Texts.{counter_line, summary_line};
@@ -8,32 +8,35 @@ ghost use Rattle.lawful_runs.specs.declared.loaded.LoadedJob.{LoadedJob};
 ghost use Rattle.lawful_runs.specs.Given.{IsLoaded};
 ghost use Rattle.report_laws.specs.Stands.{closing};
 ghost use Rattle.report_check.specs.OfEvents.Cursors.{IsWithin, IsAt, IsStuck};
-ghost use Rattle.report_check.specs.OfEvents.Placed.{places_in};
+ghost use Rattle.journal_replay.specs.Placed.{places_in};
 ghost use Rattle.report_check.specs.Between.{IsBetween};
 ghost use Rattle.report_check.specs.Counting.{counted_lines};
+ghost use Rattle.report_check.specs.Reasons.{due_reason};
 
 use crate::events::Cursor;
 use crate::rounds::Progress;
 use batch_run::MadeAction;
 use run_counts::RunCounts;
 use tc_base::NoMemory;
+use tool_words::Reason;
 use walk_texts::{Summary, push_counter, push_summary};
 
 /// Goes behind the next line where it is this one, the first of those that are left.
-pub(crate) fn take_left(report: &[u8], cursor: &mut Cursor, text: &[u8]) -> bool
+pub(crate) fn take_left(report: &[u8], cursor: &mut Cursor, text: &[u8], reason: Reason) -> bool
     requires { IsWithin report.now cursor.old }
     ensures within { IsWithin report.now cursor.new }
     ensures taken { result ≡ true → (loaded : LoadedJob) (run : RunRecord) (journal : List Edit)
         (left : List (List ℕ)) → IsAt loaded report.now cursor.old (closing run journal (text.now ∷ left))
         → IsAt loaded report.now cursor.new (closing run journal left) }
     ensures stuck { result ≡ false → (loaded : LoadedJob) (run : RunRecord) (journal : List Edit)
-        (left : List (List ℕ)) → IsAt loaded report.now cursor.old (closing run journal (text.now ∷ left))
+        (left : List (List ℕ)) → reason ≡ due_reason (text.now ∷ left)
+        → IsAt loaded report.now cursor.old (closing run journal (text.now ∷ left))
         → IsStuck loaded report.now cursor.new }
 {
-    cursor.take(report, text)
+    cursor.demand(report, text, reason)
 }
 
-/// Goes behind the lines of these actions' counters.
+/// Goes behind the lines of these actions' counters, before two lines at least.
 pub(crate) fn take_counters(
     report: &[u8],
     cursor: &mut Cursor,
@@ -48,14 +51,14 @@ pub(crate) fn take_counters(
         → IsAt loaded report.now cursor.old (closing run journal (counted_lines counts.now made.now ++ left))
         → IsAt loaded report.now cursor.new (closing run journal left) }
     ensures stuck { result ≡ Ok false → (loaded : LoadedJob) (run : RunRecord) (journal : List Edit)
-        (left : List (List ℕ))
+        (left : List (List ℕ)) → 2 ≤ length left
         → IsAt loaded report.now cursor.old (closing run journal (counted_lines counts.now made.now ++ left))
         → IsStuck loaded report.now cursor.new }
 {
     for action in made {
         text.clear();
         push_counter(text, action, &counts.of(action.serial))?;
-        if !take_left(report, cursor, text.as_slice()) {
+        if !take_left(report, cursor, text.as_slice(), Reason::Counter) {
             return Ok(false);
         }
     }
@@ -77,13 +80,13 @@ pub(crate) fn take_summary(
         → IsAt loaded report.now cursor.old (closing run journal (summary_line summary.now ∷ left))
         → IsAt loaded report.now cursor.new (closing run journal left) }
     ensures stuck { result ≡ Ok false → (loaded : LoadedJob) (run : RunRecord) (journal : List Edit)
-        (left : List (List ℕ))
-        → IsAt loaded report.now cursor.old (closing run journal (summary_line summary.now ∷ left))
+        (last : List ℕ)
+        → IsAt loaded report.now cursor.old (closing run journal (summary_line summary.now ∷ last ∷ []))
         → IsStuck loaded report.now cursor.new }
 {
     text.clear();
     push_summary(text, summary)?;
-    Ok(take_left(report, cursor, text.as_slice()))
+    Ok(take_left(report, cursor, text.as_slice(), Reason::Summary))
 }
 
 /// Goes behind the lines that follow the rounds, but for the last one.

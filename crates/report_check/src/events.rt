@@ -11,19 +11,14 @@
 //! (`Replay`). What that comes to is the event, and its line is compared. A line that names no control with a
 //! command left is bad as long as any control has one.
 //!
-//! A `Replay` is the journal of the accepted edits, with the lists that it leads to, what stood at each of
-//! its points (`state_past`), the names of the actions that it made, and how many lines were refused.
-//!
 //! # Who may call what
 //!
-//! Plain data, one thread at a time. All memory is taken by `Replay::meet`, for the edit and for what is
-//! remembered of it, and by `check_events`, for one line's text and, for each round, for the places of its
-//! controls. Behind `NoMemory` nothing is promised of a `Replay`.
+//! Plain data, one thread at a time. All memory is taken by `Replay::meet` (`journal_replay`), and by
+//! `check_events`, for one line's text and, for each round, for the places of its controls. Behind `NoMemory`
+//! nothing is promised of a `Replay`.
 mod control;
 mod cursor;
 mod events;
-mod replay;
 
 pub use cursor::Cursor;
 pub use events::check_events;
-pub use replay::Replay;

@@ -35,7 +35,7 @@ mod walker;
 mod walkers;
 
 pub use check::Check;
-pub use events::Replay;
+pub use journal_replay::Replay;
 pub use law::one_check;
 pub use rechecking::{Replayed, recheck, replay};
 pub use walker::Walker;

@@ -1,14 +1,17 @@
 //! Lines of a label and a number.
-ghost use Rattle.std.specs.Prelude.{◌≡◌, ◌+◌, true, false, Ok, OnOk};
+ghost use Rattle.std.specs.Prelude.{◌≡◌, ◌+◌, ℕ, List, true, false, Ok, OnOk};
 ghost use Rattle.lawful_runs.specs.declared.loaded.LoadedJob.{LoadedJob};
 ghost use Rattle.run_report.specs.Reports.{numbered_line};
 ghost use Rattle.report_laws.specs.Stands.{Stand, Takes};
 ghost use Rattle.report_laws.specs.OfWholePaths.FirstBadLines.{IsOpen};
 ghost use Rattle.report_check.specs.OfEvents.Cursors.{IsWithin, IsAt, IsStuck, MustBe};
+ghost use Rattle.tool_words.specs.declared.reason.Reason.TheVariants as reasons;
+ghost use Rattle.report_check.specs.Reasons.{IsReason};
 
 use crate::events::Cursor;
 use std::alloc::AllocError;
 use tc_base::NoMemory;
+use tool_words::Reason;
 use walk_texts::{push_count, push_text};
 
 // Puts the line of a label and a number in place of what is there.
@@ -38,8 +41,9 @@ pub(crate) fn take_numbered(
     ensures stuck { result ≡ Ok false → (loaded : LoadedJob) (stand : Stand)
         → IsAt loaded report.now cursor.old stand → IsOpen stand
         → MustBe loaded report.now cursor.old stand (numbered_line label.now number)
+        → ((line : List ℕ) → IsReason loaded stand line reasons.Round)
         → IsStuck loaded report.now cursor.new }
 {
     put_numbered(text, label, number)?;
-    Ok(cursor.take(report, text.as_slice()))
+    Ok(cursor.demand(report, text.as_slice(), Reason::Round))
 }

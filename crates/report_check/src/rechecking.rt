@@ -7,6 +7,7 @@ ghost use Rattle.run_report.specs.Reports.{report_text};
 ghost use Rattle.lawful_runs.specs.Given.{IsLoaded};
 ghost use Rattle.lawful_runs.specs.Lawful.{IsRunWith};
 ghost use Rattle.report_laws.specs.Stands.{closing};
+ghost use Rattle.tool_words.specs.declared.reason.Reason.{Reason as ReasonValue};
 ghost use Rattle.report_check.specs.OfEvents.Cursors.{IsWithin, IsAt, IsStuck};
 ghost use Rattle.report_check.specs.Checks.{IsCheckOf, IsUntitled};
 ghost use Rattle.report_check.specs.Between.{IsBetween};
@@ -14,24 +15,27 @@ ghost use Rattle.report_check.specs.Replayed.{IsReplayOf, IsReplayedOf};
 
 use crate::check::Check;
 use crate::closing::{check_closing, take_left};
-use crate::events::{Cursor, Replay};
+use crate::events::Cursor;
 use crate::rounds::{Progress, check_rounds};
 use crate::walkers::Walkers;
+use journal_replay::Replay;
 use lawful_runs::LoadedJob;
 use std::alloc::Global;
 use tc_base::NoMemory;
+use tool_words::Reason;
 
 // The answer where the report is stuck.
 fn stuck_at(report: &[u8], cursor: Cursor) -> Check
     requires { IsWithin report.now cursor }
     ensures check { (loaded : LoadedValue) → IsLoaded loaded → IsStuck loaded report.now cursor
         → IsCheckOf loaded report.now result }
-    ensures line { result ≡ Check.Unlawful (cursor.line + 1) }
+    ensures line { result ≡ Check.Unlawful (cursor.line + 1) cursor.reason }
 {
     // For the proof: a report has fewer bytes than a number of 64 bits counts.
     let _bytes = report.len();
     Check::Unlawful {
         line: cursor.line + 1,
+        reason: cursor.reason,
     }
 }
 
@@ -46,7 +50,11 @@ fn ended_at(report: &[u8], cursor: Cursor) -> Check
 {
     match cursor.next_line(report) {
         None => Check::Lawful,
-        Some(_) => stuck_at(report, cursor),
+        Some(_) => {
+            let mut cursor = cursor;
+            cursor.refuse(report, Reason::Behind);
+            stuck_at(report, cursor)
+        }
     }
 }
 
@@ -61,7 +69,7 @@ fn closed_at(report: &[u8], cursor: Cursor) -> Check
         → IsRunWith loaded run journal × (report.now ≡ report_text run) }
 {
     let mut cursor = cursor;
-    if !take_left(report, &mut cursor, b"end\n") {
+    if !take_left(report, &mut cursor, b"end\n", Reason::End) {
         return stuck_at(report, cursor);
     }
     ended_at(report, cursor)
@@ -98,33 +106,36 @@ pub enum Replayed {
     Lawful(Replay),
     /// No lawful report goes on with this line, counted from 1. It is the first such line. One more than the
     /// number of lines says that the report is cut.
-    Unlawful { line: u64 },
+    Unlawful { line: u64, reason: Reason },
 }
 
 // What a judged report is, with the replay behind it.
 fn handed_on(check: Check, replay: Replay) -> Replayed
     ensures replayed { (loaded : LoadedValue) (report : List ℕ) → IsCheckOf loaded report check
         → (check ≡ Check.Lawful → IsReplayOf loaded report replay) → IsReplayedOf loaded report result }
-    ensures line { (line : ℕ) → check ≡ Check.Unlawful line → result ≡ Replayed.Unlawful line }
 {
     match check {
         Check::Lawful => Replayed::Lawful(replay),
-        Check::Unlawful { line } => Replayed::Unlawful { line },
+        Check::Unlawful { line, reason } => Replayed::Unlawful { line, reason },
     }
 }
 
-/// What bytes are as the report of a job: that of a lawful run, with the run's journal, or else the first line
-/// with which no lawful report goes on.
+/// What bytes are as the report of a job: that of a lawful run, with the run's journal, or else the first
+/// line with which no lawful report goes on, and why.
 ///
 /// Of a report that doesn't begin with its title no memory is wanted. `NoMemory`: memory was refused.
 pub fn replay(alloc: Global, job: &LoadedJob, report: &[u8]) -> Result<Replayed, NoMemory>
     requires { IsLoaded job.now }
     ensures replayed { IfOk result (IsReplayedOf job.now report.now) }
-    ensures untitled { IsUntitled report.now → result ≡ Ok (Replayed.Unlawful 1) }
+    ensures untitled { IsUntitled report.now
+        → (reason : ReasonValue) × (result ≡ Ok (Replayed.Unlawful 1 reason)) }
 {
     let mut cursor = Cursor::start();
-    if !cursor.take(report, b"clsact report 1\n") {
-        return Ok(Replayed::Unlawful { line: 1 });
+    if !cursor.demand(report, b"clsact report 1\n", Reason::Title) {
+        return Ok(Replayed::Unlawful {
+            line: 1,
+            reason: cursor.reason,
+        });
     }
     let walkers = Walkers::new(alloc, job.job.workers)?;
     let mut progress = Progress {
@@ -142,22 +153,27 @@ pub fn replay(alloc: Global, job: &LoadedJob, report: &[u8]) -> Result<Replayed,
 fn answer_of(replayed: &Replayed) -> Check
     ensures check { (loaded : LoadedValue) (report : List ℕ) → IsReplayedOf loaded report replayed.now
         → IsCheckOf loaded report result }
-    ensures line { (line : ℕ) → replayed.now ≡ Replayed.Unlawful line → result ≡ Check.Unlawful line }
+    ensures told { (line : ℕ) (reason : ReasonValue) → replayed.now ≡ Replayed.Unlawful line reason
+        → result ≡ Check.Unlawful line reason }
 {
     match replayed {
         Replayed::Lawful(_) => Check::Lawful,
-        Replayed::Unlawful { line } => Check::Unlawful { line: *line },
+        Replayed::Unlawful { line, reason } => Check::Unlawful {
+            line: *line,
+            reason: *reason,
+        },
     }
 }
 
 /// Whether bytes are the report of a lawful run of a job, or else the first line with which no lawful report
-/// goes on.
+/// goes on, and why.
 ///
 /// Of a report that doesn't begin with its title no memory is wanted. `NoMemory`: memory was refused.
 pub fn recheck(alloc: Global, job: &LoadedJob, report: &[u8]) -> Result<Check, NoMemory>
     requires { IsLoaded job.now }
     ensures check { IfOk result (IsCheckOf job.now report.now) }
-    ensures untitled { IsUntitled report.now → result ≡ Ok (Check.Unlawful 1) }
+    ensures untitled { IsUntitled report.now
+        → (reason : ReasonValue) × (result ≡ Ok (Check.Unlawful 1 reason)) }
 {
     Ok(answer_of(&replay(alloc, job, report)?))
 }

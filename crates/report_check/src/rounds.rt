@@ -6,10 +6,11 @@ ghost use Rattle.report_check.specs.OfEvents.Cursors.{IsWithin, IsStuck};
 ghost use Rattle.report_check.specs.Rounds.{ToldRound, AreWalked};
 ghost use Rattle.report_check.specs.Between.{IsBetween, IsAtCapture};
 
-use crate::events::{Cursor, Replay, check_events};
+use crate::events::{Cursor, check_events};
 use crate::lines::take_numbered;
 use crate::packets::check_packets;
 use crate::walkers::Walkers;
+use journal_replay::Replay;
 use lawful_runs::LoadedJob;
 use std::alloc::Global;
 use tc_base::{NoMemory, Point};

@@ -11,8 +11,8 @@ use Rattle.run_report.specs.Counts.{is_accepted, accepted_count, edits_in}
 use Rattle.lawful_runs.specs.declared.loaded.LoadedJob.{LoadedJob}
 use Rattle.lawful_runs.specs.Given.{IsLoaded, given_rounds}
 use Rattle.lawful_runs.proofs.Rounds.{rounds_counted}
-use Rattle.report_check.specs.declared.events.replay.Replay.{Replay}
-use Rattle.report_check.specs.OfEvents.Placed.{place_of, places_of, places_in}
+use Rattle.report_check.specs.Passed.{Replay}
+use Rattle.report_check.specs.Passed.{place_of, places_of, places_in}
 use Rattle.report_check.specs.Replayed.{IsReplayOf}
 use Rattle.report_check.proofs.Passed.{edits_cons}
 use Rattle.batch_trace.specs.Passed.{Origins, Entry, Knows, entries_of}

@@ -12,7 +12,7 @@ use Rattle.batch_trace.specs.Passed.{Origins}
 use Rattle.batch_trace.specs.Passed.{Entry, edits_of, entries_of}
 use Rattle.batch_trace.proofs.Passed.{edits_are, entries_long}
 use Rattle.batch_trace.specs.Passed.{AreKnown}
-use Rattle.report_check.specs.declared.events.replay.Replay.{Replay}
+use Rattle.report_check.specs.Passed.{Replay}
 use Rattle.report_trace.specs.Knowing.{entries_in_replay, IsKnown}
 
 -- the journal of its entries

@@ -7,7 +7,7 @@ use Rattle.tc_base.proofs.Appends.{Appended-then, AppendsUpTo-then, AppendsUpTo-
 use Rattle.walk_texts.specs.Texts.{joined}
 use Rattle.report_check.specs.Passed.{cut}
 use Rattle.report_check.proofs.Passed.{joined_cut}
-use Rattle.report_check.specs.OfEvents.Cursors.{IsNextLine}
+use Rattle.report_check.specs.OfEvents.Cursors.{IsLineAt}
 use Rattle.report_trace.specs.Writing.{is_plain, ArePlain, IsWritten, IsBehind}
 
 -- some of the plain lines are gone
@@ -37,7 +37,7 @@ heads_same a b xs ys is = cc is
 pub tails_same : (a b : List ℕ) (xs ys : List (List ℕ)) → a ∷ xs ≡ b ∷ ys → xs ≡ ys
 tails_same a b xs ys is = cc is
 
-module _ (bytes : List ℕ) (at : ℕ) (line : List ℕ) (lines : List (List ℕ)) (last : is_plain line ≡ false) (next : List ℕ) (is_next : IsNextLine bytes (record { at = at; line = 0 }) next) where
+module _ (bytes : List ℕ) (at : ℕ) (line : List ℕ) (lines : List (List ℕ)) (last : is_plain line ≡ false) (next : List ℕ) (is_next : IsLineAt bytes at next) where
   -- a plain line goes
   front_more : take (at + length next) bytes ≡ take at bytes ++ next
   front_more =

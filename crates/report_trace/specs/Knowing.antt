@@ -4,8 +4,8 @@ use Rattle.batch_run.specs.declared.limit.TheConstants.{COMMANDS_MAX}
 use Rattle.batch_trace.specs.Passed.{Origins}
 use Rattle.batch_trace.specs.Passed.{Entry, entries_of}
 use Rattle.batch_trace.specs.Passed.{Knows}
-use Rattle.report_check.specs.declared.events.replay.Replay.{Replay}
-use Rattle.report_check.specs.OfEvents.Replays.{IsKept}
+use Rattle.report_check.specs.Passed.{Replay}
+use Rattle.report_check.specs.Passed.{IsKept}
 
 -- the edits of a replay, each with its place
 abbrev pub entries_in_replay : Replay → List Entry

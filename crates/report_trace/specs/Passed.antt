@@ -2,7 +2,7 @@
 -- crate for it.
 pub use Rattle.report_check.specs.declared.check.Check.{Check}
 pub use Rattle.report_check.specs.declared.check.Check.TheVariants as checks
-pub use Rattle.report_check.specs.declared.events.replay.Replay.{Replay}
+pub use Rattle.report_check.specs.Passed.{Replay}
 pub use Rattle.report_check.specs.declared.rechecking.Replayed.{Replayed}
 pub use Rattle.report_check.specs.declared.rechecking.Replayed.TheVariants as replayed
 pub use Rattle.report_check.specs.Checks.{IsCheckOf}

@@ -16,7 +16,7 @@ use Rattle.run_report.specs.Reports.{numbered_line, counter_lines, report_text}
 use Rattle.lawful_runs.specs.declared.loaded.LoadedJob.{LoadedJob}
 use Rattle.lawful_runs.specs.Given.{GivenRound, Arrival, given_rounds}
 use Rattle.lawful_runs.specs.Lawful.{IsRunWith}
-use Rattle.report_check.specs.OfEvents.Placed.{places_in}
+use Rattle.report_check.specs.Passed.{places_in}
 use Rattle.batch_trace.specs.Passed.{Brought}
 use Rattle.batch_trace.specs.Passed.{Entry, entries_of}
 use Rattle.batch_trace.specs.Passed.{brought_of}

@@ -5,7 +5,7 @@ ghost use Rattle.std.specs.Option.{IfNone};
 ghost use Rattle.tc_base.specs.Outside.{Appended, AppendsUpTo, PutCounts};
 ghost use Rattle.walk_texts.specs.Texts.{joined};
 ghost use Rattle.report_check.specs.Passed.{cut};
-ghost use Rattle.report_check.specs.OfEvents.Cursors.{IsNextLine};
+ghost use Rattle.report_check.specs.OfEvents.Cursors.{IsLineAt};
 ghost use Rattle.report_trace.specs.Writing.{is_plain, ArePlain, IsWritten, IsBehind};
 
 use report_check::reading::next_line;
@@ -33,7 +33,7 @@ pub(crate) fn cut_first(bytes: &[u8]) -> (&[u8], &[u8])
 fn line_at(bytes: &[u8], at: usize) -> Option<&[u8]>
     requires { at ≤ length bytes.now }
     ensures none { IfNone result (cut (drop at bytes.now) ≡ []) }
-    ensures some { IfSome result (λ line. IsNextLine bytes.now (record { at = at; line = 0 }) line.now) }
+    ensures some { IfSome result (λ line. IsLineAt bytes.now at line.now) }
 {
     match next_line(&bytes[at..]) {
         Some((line, _)) => Some(line),

@@ -5,3 +5,4 @@ pub mod PacketTails
 pub mod Reports
 pub mod Kept
 pub mod Pages
+pub mod Passed

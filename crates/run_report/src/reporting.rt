@@ -14,9 +14,9 @@ use crate::pieces::push_numbered_line;
 use crate::record::RunRecord;
 use crate::rounds::RoundRecord;
 use crate::summing::summary_of;
-use batch_run::MadeAction;
 use std::alloc::Global;
 use tc_base::{Put, Sink};
+use tc_report::MadeAction;
 use walk_ends::Count;
 use walk_texts::{push_counter, push_summary, push_text};
 

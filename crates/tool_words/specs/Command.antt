@@ -1,4 +1,4 @@
--- What the words of the command line ask for. The seven shapes are this project's own.
+-- What the words of the command line ask for. The eight commands are this project's own.
 use Rattle.gen_files.specs.declared.limits.TheConstants.{GEN_MAX}
 use Rattle.std.specs.Prelude.{ℕ, Bool, true, false, ◌&&◌, ◌==◌, nat_le, List, [], ◌∷◌, length, Option, Some}
 use Rattle.std.specs.Prelude.{None, if◌then◌else◌, codes, map, string_bytes, String}
@@ -10,6 +10,12 @@ use Rattle.tc_base.specs.declared.hook.Hook.{Hook}
 use Rattle.tc_base.specs.declared.hook.Hook.TheVariants.{Ingress, Egress}
 use Rattle.tc_words.specs.Numbers.{decimal_of}
 
+-- the files of a change: a batch, the change that is applied behind it, and a capture
+pub record ChangeFiles : Type 0 where
+  pub batch : List ℕ
+  pub change : List ℕ
+  pub capture : List ℕ
+
 -- a command with the names that it was given
 pub data Request : Type 0 where
   Walk : (hook : Hook) (batch capture output : List ℕ) → Request
@@ -19,6 +25,7 @@ pub data Request : Type 0 where
   Gen : (count : ℕ) (front : List ℕ) → Request
   Trace : (hook : Hook) (batch capture : List ℕ) → Request
   TraceReport : (job report : List ℕ) → Request
+  Foresee : (hook : Hook) (files : ChangeFiles) (force : Bool) → Request
 
 abbrev pub texts : List (String Global) → List (List ℕ)
 texts words = map string_bytes words
@@ -66,17 +73,29 @@ request_of_three verb hook batch capture =
     if bytes_eq verb (codes "trace") then option_map (λ h. Trace h batch capture) (hook_of hook) else None
 
 abbrev pub request_of_four : List ℕ → List ℕ → List ℕ → List ℕ → List ℕ → Option Request
-request_of_four verb hook batch capture output =
-    if bytes_eq verb (codes "walk") then option_map (λ h. Walk h batch capture output) (hook_of hook) else
-    None
+request_of_four verb hook batch second third =
+    if bytes_eq verb (codes "walk") then option_map (λ h. Walk h batch second third) (hook_of hook)
+    else if bytes_eq verb (codes "foresee") then
+    option_map (λ h. Foresee h (record { batch = batch; change = second; capture = third }) false) (hook_of hook)
+    else None
+
+-- the last word is the only one that may stand behind the files of a change
+abbrev pub request_of_five : List ℕ → List ℕ → List ℕ → List ℕ → List ℕ → List ℕ → Option Request
+request_of_five verb hook batch change capture last =
+    if bytes_eq verb (codes "foresee") && bytes_eq last (codes "force") then
+    option_map (λ h. Foresee h (record { batch = batch; change = change; capture = capture }) true) (hook_of hook)
+    else None
 
 -- `show BATCH`, `run JOB`, `recheck JOB REPORT`, `gen N PREFIX`, `trace JOB REPORT`,
--- `trace HOOK BATCH CAPTURE`, `walk HOOK BATCH CAPTURE OUT`, and no other words
+-- `trace HOOK BATCH CAPTURE`, `walk HOOK BATCH CAPTURE OUT`, `foresee HOOK BATCH CHANGE CAPTURE` with `force` behind
+-- it or nothing, and no other words
 abbrev pub request_of : List (List ℕ) → Option Request
 request_of (verb ∷ name ∷ []) = request_of_one verb name
 request_of (verb ∷ first ∷ second ∷ []) = request_of_two verb first second
 request_of (verb ∷ hook ∷ batch ∷ capture ∷ []) = request_of_three verb hook batch capture
-request_of (verb ∷ hook ∷ batch ∷ capture ∷ output ∷ []) = request_of_four verb hook batch capture output
+request_of (verb ∷ hook ∷ batch ∷ second ∷ third ∷ []) = request_of_four verb hook batch second third
+request_of (verb ∷ hook ∷ batch ∷ change ∷ capture ∷ last ∷ []) =
+    request_of_five verb hook batch change capture last
 request_of words = None
 
 -- a command that runs a job, and so may start threads
@@ -88,6 +107,7 @@ runs_job (Recheck job report) = false
 runs_job (Gen count front) = true
 runs_job (Trace hook batch capture) = false
 runs_job (TraceReport job report) = false
+runs_job (Foresee hook files force) = false
 
 abbrev pub asks_for_job : Option Request → Bool
 asks_for_job None = false

@@ -20,11 +20,18 @@ abbrev pub status_of_refused : ℕ → Status
 status_of_refused zero = statuses.Done
 status_of_refused (suc more) = statuses.LinesRefused (suc more)
 
--- all was done, whether or not a line was refused, or a report is lawful
+-- where all was told of a change: so many lines were refused, which goes before so many packets that weren't hitless
+abbrev pub status_of_foreseen : ℕ → ℕ → Status
+status_of_foreseen zero zero = statuses.Done
+status_of_foreseen zero (suc more) = statuses.NotHitless (suc more)
+status_of_foreseen (suc more) count = statuses.LinesRefused (suc more)
+
+-- all was done, whether or not a line was refused, a report is lawful, or a change is hitless
 abbrev pub IsAllDone : Status → Type 0
 IsAllDone statuses.Done = Unit {0}
 IsAllDone (statuses.LinesRefused count) = Unit {0}
-IsAllDone (statuses.NotLawful line) = Unit {0}
+IsAllDone (statuses.NotLawful line reason) = Unit {0}
+IsAllDone (statuses.NotHitless count) = Unit {0}
 IsAllDone status = ⊥
 
 -- the number with which the process ends
@@ -36,4 +43,5 @@ exit_of (statuses.BadInput name place kind) = 3
 exit_of (statuses.ReadFault name) = 4
 exit_of statuses.WriteFault = 5
 exit_of (statuses.NoMemory memory) = 6
-exit_of (statuses.NotLawful line) = 7
+exit_of (statuses.NotLawful line reason) = 7
+exit_of (statuses.NotHitless count) = 8

@@ -2,3 +2,4 @@ pub mod Command
 pub mod Ends
 pub mod Messages
 pub mod Requests
+pub mod Reasons

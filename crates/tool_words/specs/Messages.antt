@@ -1,11 +1,12 @@
--- The line on standard error, without its end. The texts are this project's own.
+-- The line on standard error, without its end; the two lines of a report that isn't lawful. The texts are this project's own.
 use Rattle.std.specs.Prelude.{ℕ, List, [], ◌++◌, Option, Some, None, codes, decimal}
 use Rattle.tool_words.specs.declared.status.Status.{Status}
 use Rattle.tool_words.specs.declared.status.Status.TheVariants as statuses
+use Rattle.tool_words.specs.Reasons.{words_of}
 
--- the seven commands, and the words of each
+-- the eight commands, and the words of each
 abbrev pub usage : List ℕ
-usage = codes "usage: walk HOOK BATCH CAPTURE OUT | show BATCH | run JOB | recheck JOB REPORT | trace HOOK BATCH CAPTURE | trace JOB REPORT | gen N PREFIX"
+usage = codes "usage: walk HOOK BATCH CAPTURE OUT | show BATCH | run JOB | recheck JOB REPORT | trace HOOK BATCH CAPTURE | trace JOB REPORT | foresee HOOK BATCH CHANGE CAPTURE [ force ] | gen N PREFIX"
 
 -- the text of a status. Of one that names a file nothing is said, since control characters of a name are escaped.
 abbrev pub message_of : Status → Option (List ℕ)
@@ -16,4 +17,7 @@ message_of (statuses.BadInput name place kind) = None
 message_of (statuses.ReadFault name) = None
 message_of statuses.WriteFault = Some (codes "cannot write")
 message_of (statuses.NoMemory memory) = Some (codes "no memory")
-message_of (statuses.NotLawful line) = Some (codes "report not lawful at line " ++ decimal line)
+message_of (statuses.NotLawful line reason) =
+    Some (codes "report not lawful at line " ++ (decimal line ++ (codes "\nline " ++ (decimal line
+    ++ (codes ": no lawful report goes on so: " ++ words_of reason)))))
+message_of (statuses.NotHitless count) = Some (decimal count ++ codes " packets not hitless")

@@ -2,9 +2,10 @@ ghost use Rattle.gen_files.specs.declared.limits.TheConstants.{GEN_MAX};
 ghost use Rattle.std.specs.Prelude.{◌≡◌, ◌≤◌, IfSome};
 ghost use Rattle.std.specs.List.{list_all};
 ghost use Rattle.std.specs.Option.{option_map};
+ghost use Rattle.tool_words.specs.Command.{Walk, Foresee};
 ghost use Rattle.tool_words.specs.Command.{texts, hook_of, is_name_byte, is_front, count_of, gen_request};
 ghost use Rattle.tool_words.specs.Command.{request_of_one, request_of_two, request_of_three};
-ghost use Rattle.tool_words.specs.Command.{request_of_four, request_of};
+ghost use Rattle.tool_words.specs.Command.{request_of_four, request_of_five, request_of};
 ghost use Rattle.tool_words.specs.Requests.{request, HasFewFilters};
 
 use gen_files::GEN_MAX;
@@ -43,6 +44,13 @@ pub enum Command<'a> {
         job: &'a str,
         report: &'a str,
     },
+    Foresee {
+        hook: Hook,
+        batch: &'a str,
+        change: &'a str,
+        capture: &'a str,
+        force: bool,
+    },
 }
 
 /// The files of a walk.
@@ -51,6 +59,14 @@ pub struct WalkNames<'a> {
     pub batch: &'a str,
     pub capture: &'a str,
     pub output: &'a str,
+}
+
+/// The files of a change: a batch, the change that is applied behind it, and a capture.
+#[derive(Clone, Copy)]
+pub struct ChangeNames<'a> {
+    pub batch: &'a str,
+    pub change: &'a str,
+    pub capture: &'a str,
 }
 
 fn hook_named(word: &str) -> Option<Hook>
@@ -161,21 +177,16 @@ fn with_three<'a>(verb: &str, hook: &str, batch: &'a str, capture: &'a str) -> O
     }
 }
 
-fn with_four<'a>(
-    verb: &str,
-    hook: &str,
+fn walk_command<'a>(
+    hook: Option<Hook>,
     batch: &'a str,
     capture: &'a str,
     output: &'a str,
 ) -> Option<Command<'a>>
-    ensures value { option_map request result ≡ request_of_four verb.now hook.now batch.now capture.now
-        output.now }
+    ensures value { option_map request result ≡ option_map (λ h. Walk h batch.now capture.now output.now) hook }
     ensures few { IfSome result HasFewFilters }
 {
-    if verb != "walk" {
-        return None;
-    }
-    match hook_named(hook) {
+    match hook {
         None => None,
         Some(hook) => Some(Command::Walk {
             hook,
@@ -183,6 +194,66 @@ fn with_four<'a>(
             capture,
             output,
         }),
+    }
+}
+
+fn foresee_command<'a>(
+    hook: Option<Hook>,
+    batch: &'a str,
+    change: &'a str,
+    capture: &'a str,
+    force: bool,
+) -> Option<Command<'a>>
+    ensures value { option_map request result
+        ≡ option_map (λ h. Foresee h (record { batch = batch.now; change = change.now; capture = capture.now }) force)
+        hook }
+    ensures few { IfSome result HasFewFilters }
+{
+    match hook {
+        None => None,
+        Some(hook) => Some(Command::Foresee {
+            hook,
+            batch,
+            change,
+            capture,
+            force,
+        }),
+    }
+}
+
+fn with_four<'a>(
+    verb: &str,
+    hook: &str,
+    batch: &'a str,
+    second: &'a str,
+    third: &'a str,
+) -> Option<Command<'a>>
+    ensures value { option_map request result ≡ request_of_four verb.now hook.now batch.now second.now third.now }
+    ensures few { IfSome result HasFewFilters }
+{
+    match verb {
+        "walk" => walk_command(hook_named(hook), batch, second, third),
+        "foresee" => foresee_command(hook_named(hook), batch, second, third, false),
+        _ => None,
+    }
+}
+
+fn with_five<'a>(
+    verb: &str,
+    hook: &str,
+    batch: &'a str,
+    change: &'a str,
+    capture: &'a str,
+    last: &str,
+) -> Option<Command<'a>>
+    ensures value { option_map request result ≡ request_of_five verb.now hook.now batch.now change.now
+        capture.now last.now }
+    ensures few { IfSome result HasFewFilters }
+{
+    if verb == "foresee" && last == "force" {
+        foresee_command(hook_named(hook), batch, change, capture, true)
+    } else {
+        None
     }
 }
 
@@ -201,12 +272,20 @@ pub fn command_of(words: &[String]) -> Option<Command<'_>>
             batch.as_str(),
             capture.as_str(),
         ),
-        [verb, hook, batch, capture, output] => with_four(
+        [verb, hook, batch, second, third] => with_four(
             verb.as_str(),
             hook.as_str(),
             batch.as_str(),
+            second.as_str(),
+            third.as_str(),
+        ),
+        [verb, hook, batch, change, capture, last] => with_five(
+            verb.as_str(),
+            hook.as_str(),
+            batch.as_str(),
+            change.as_str(),
             capture.as_str(),
-            output.as_str(),
+            last.as_str(),
         ),
         _ => None,
     }

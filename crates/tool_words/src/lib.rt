@@ -1,6 +1,6 @@
 //! What the command line says, and what the program answers to it: commands and statuses, and no file.
 //!
-//! `command_of` reads the words as one of seven commands, with the names that they give
+//! `command_of` reads the words as one of eight commands, with the names that they give
 //! (`specs/Command.antt`). A `Status` is how a run ended: it has an exit number (`specs/Ends.antt`), and its
 //! text is the line for standard error (`specs/Messages.antt`). Names come into that line as they were given,
 //! unless they have control characters: a terminal obeys those, so they are escaped.
@@ -15,7 +15,9 @@
 
 mod command;
 mod messages;
+mod reason;
 mod status;
 
-pub use command::{Command, WalkNames, command_of};
+pub use command::{ChangeNames, Command, WalkNames, command_of};
+pub use reason::Reason;
 pub use status::{Break, InputKind, Status};

@@ -8,7 +8,8 @@ use tc_base::Bytes;
 
 const USAGE: &str =
     "usage: walk HOOK BATCH CAPTURE OUT | show BATCH | run JOB | recheck JOB REPORT \
-    | trace HOOK BATCH CAPTURE | trace JOB REPORT | gen N PREFIX";
+    | trace HOOK BATCH CAPTURE | trace JOB REPORT \
+    | foresee HOOK BATCH CHANGE CAPTURE [ force ] | gen N PREFIX";
 
 // A file's name as it was given; one with control characters, which would reach the terminal, is quoted and
 // they are escaped. Words of the command line are text, so other bytes do not come.
@@ -35,7 +36,8 @@ impl fmt::Display for InputKind {
     }
 }
 
-/// The line that is written on standard error, without its end. `Done` has none.
+/// The line that is written on standard error, without its end, or the two of a report that isn't lawful.
+/// `Done` has none.
 impl fmt::Display for Status {
     ghost output = { message_of };
 
@@ -50,7 +52,11 @@ impl fmt::Display for Status {
             Status::ReadFault { name } => write!(f, "cannot read {}", Name(name)),
             Status::WriteFault => write!(f, "cannot write"),
             Status::NoMemory(_) => write!(f, "no memory"),
-            Status::NotLawful { line } => write!(f, "report not lawful at line {line}"),
+            Status::NotLawful { line, reason } => write!(
+                f,
+                "report not lawful at line {line}\nline {line}: no lawful report goes on so: {reason}"
+            ),
+            Status::NotHitless { count } => write!(f, "{count} packets not hitless"),
         }
     }
 }

@@ -2,6 +2,7 @@ ghost use Rattle.std.specs.Prelude.{◌≡◌};
 ghost use Rattle.tool_words.specs.declared.status.Status.TheVariants as statuses;
 ghost use Rattle.tc_base.specs.Memory.{no_memory};
 
+use crate::reason::Reason;
 use std::alloc::{AllocError, AllocFailed};
 use tc_base::{Bytes, NoMemory, Put};
 
@@ -64,9 +65,15 @@ pub enum Status {
     WriteFault,
     /// Memory ran out.
     NoMemory(NoMemory),
-    /// The report is not that of a lawful run, first at `line`.
+    /// The report is not that of a lawful run, first at `line`, and why.
     NotLawful {
         line: u64,
+        reason: Reason,
+    },
+    /// Every line was accepted, and of `count` packets, above 0, an end between the state before a change and
+    /// the state behind it is told or left open; all was told.
+    NotHitless {
+        count: u32,
     },
 }
 
@@ -87,6 +94,7 @@ impl Status {
             Status::WriteFault => 5,
             Status::NoMemory(_) => 6,
             Status::NotLawful { .. } => 7,
+            Status::NotHitless { .. } => 8,
         }
     }
 }

@@ -1,16 +1,16 @@
--- A cursor goes behind a line, or gets stuck at it.
-use Rattle.std.proofs.Common.{◌≡◌, ◌∙◌, ℕ, zero, suc, ◌+◌, ◌≤◌, ◌==◌, Bool, true, false, List, [], ◌∷◌, ◌++◌, length, drop, refl, sym, ap, subst, arith, append_assoc}
+-- A cursor goes behind a line.
+use Rattle.std.proofs.Common.{◌≡◌, ◌∙◌, ℕ, zero, suc, ◌+◌, ◌≤◌, ◌==◌, Bool, true, false, List, [], ◌∷◌, ◌++◌, length, drop, refl, sym, ap, arith, append_assoc}
 use Rattle.std.specs.Prelude.{if◌then◌else◌}
 use Rattle.std.proofs.Math.Seq.{drop-append_seam}
 use Rattle.std.proofs.lemmas.List.{length-append, length-drop}
 use Rattle.lawful_runs.specs.declared.loaded.LoadedJob.{LoadedJob}
 use Rattle.report_laws.specs.OfLineCuts.Cuts.{byte_before, cut, joined}
 use Rattle.report_laws.specs.Stands.{Stand, start, Takes}
-use Rattle.report_laws.specs.OfWholePaths.FirstBadLines.{TakesNone, IsOpen}
 use Rattle.report_laws.proofs.Paths.{path_append}
 use Rattle.report_laws.proofs.OfWholePaths.Cutting.{joined_cut}
+use Rattle.tool_words.specs.declared.reason.Reason.{Reason}
 use Rattle.report_check.specs.declared.events.cursor.Cursor.{Cursor}
-use Rattle.report_check.specs.OfEvents.Cursors.{IsWithin, IsNextLine, lines_left, IsAt, GetsStuck, IsStuck}
+use Rattle.report_check.specs.OfEvents.Cursors.{IsLineAt, IsNextLine, IsAt}
 
 -- ---- a line of bytes has a byte
 first_some : (byte : ℕ) (b : Bool) (first : List ℕ) (lines : List (List ℕ)) (line : List ℕ) (rest : List (List ℕ)) → (if b then (byte ∷ []) ∷ first ∷ lines else (byte ∷ first) ∷ lines) ≡ line ∷ rest → 1 ≤ length line
@@ -35,23 +35,22 @@ drop_more n zero bytes = let same : n ≡ zero + n = omega arith in ap (λ (k : 
 drop_more n (suc m) [] = nothing n ∙ sym (nothing (suc m + n))
 drop_more n (suc m) (byte ∷ bytes) = let same : suc (m + n) ≡ suc m + n = omega arith in drop_more n m bytes ∙ ap (λ (k : ℕ). drop k (byte ∷ bytes)) same
 
-pub next_is : (bytes text line rest : List ℕ) (cursor : Cursor) → IsWithin bytes cursor → text ≡ drop cursor.at bytes → cut text ≡ line ∷ cut rest → IsNextLine bytes cursor line
-next_is bytes text line rest cursor in_bytes is cut_is =
+pub next_is : (bytes text line rest : List ℕ) (at : ℕ) → at ≤ length bytes → text ≡ drop at bytes → cut text ≡ line ∷ cut rest → IsLineAt bytes at line
+next_is bytes text line rest at in_bytes is cut_is =
     let whole : text ≡ line ++ rest = sym (joined_cut text) ∙ ap joined cut_is ∙ ap (λ (bs : List ℕ). line ++ bs) (joined_cut rest) in
-    let left : rest ≡ drop (cursor.at + length line) bytes =
-    sym (drop-append_seam line rest) ∙ ap (drop (length line)) (sym whole ∙ is) ∙ drop_more (length line) cursor.at bytes in
+    let left : rest ≡ drop (at + length line) bytes =
+    sym (drop-append_seam line rest) ∙ ap (drop (length line)) (sym whole ∙ is) ∙ drop_more (length line) at bytes in
     let long = ap length whole in
     let sum = length-append line rest in
-    let few = ap length is ∙ length-drop cursor.at bytes in
-    let at = in_bytes.0 in
+    let few = ap length is ∙ length-drop at bytes in
     record {
       first = ap cut (sym is) ∙ cut_is ∙ ap (λ (bs : List ℕ). line ∷ cut bs) left;
-      within = omega (arith, long, sum, few, at);
+      within = omega (arith, long, sum, few, in_bytes);
       some = line_some text line (cut rest) cut_is;
     }
 
 abbrev pub behind_line : Cursor → List ℕ → Cursor
-behind_line cursor line = record { at = cursor.at + length line; line = cursor.line + 1 }
+behind_line cursor line = record cursor { at = cursor.at + length line; line = cursor.line + 1 }
 
 -- the path goes on with a line that may come
 pub at_next : (bytes line : List ℕ) (cursor : Cursor) → IsNextLine bytes cursor line → (loaded : LoadedJob) (stand next : Stand) → IsAt loaded bytes cursor stand → Takes loaded stand line next
@@ -64,16 +63,6 @@ at_next bytes line cursor is loaded stand next at takes = record {
 }
 
 -- ---- stuck
-pub stuck_at_end : (bytes : List ℕ) (cursor : Cursor) → lines_left bytes cursor ≡ [] → (loaded : LoadedJob) (stand : Stand) → IsAt loaded bytes cursor stand → IsOpen stand → IsStuck loaded bytes cursor
-stuck_at_end bytes cursor none loaded stand at unended = record {
-  stand = stand;
-  is_at = at;
-  stuck = subst (GetsStuck loaded stand) (sym none) unended;
-}
-
-pub stuck_at_line : (bytes line : List ℕ) (cursor : Cursor) → IsNextLine bytes cursor line → (loaded : LoadedJob) (stand : Stand) → IsAt loaded bytes cursor stand → TakesNone loaded stand line → IsStuck loaded bytes cursor
-stuck_at_line bytes line cursor next loaded stand at none = record {
-  stand = stand;
-  is_at = at;
-  stuck = subst (GetsStuck loaded stand) (sym next.first) none;
-}
+-- a place is the same whatever reason is noted there
+pub at_same : (loaded : LoadedJob) (bytes : List ℕ) (cursor : Cursor) (reason : Reason) (stand : Stand) → IsAt loaded bytes cursor stand → IsAt loaded bytes (record cursor { reason = reason }) stand
+at_same loaded bytes cursor reason stand at = record { lines = at.lines; gone = at.gone; counted = at.counted; path = at.path }

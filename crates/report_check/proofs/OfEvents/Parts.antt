@@ -1,14 +1,11 @@
 -- What stands behind the first blank, and the control that an event's line names.
 use Rattle.std.proofs.Common.{◌≡◌, ◌∙◌, ℕ, zero, suc, ◌+◌, ◌-◌, ◌<◌, ◌==◌, true, false, List, [], ◌∷◌, ◌++◌, length, take, drop, get_or, Some, None, refl, sym, ap, subst, arith, append_assoc}
-use Rattle.std.specs.Prelude.{codes}
+use Rattle.std.specs.Prelude.{Bool, codes, nat_lt, if◌then◌else◌}
 use Rattle.std.specs.Fmt.{decimal}
 use Rattle.std.specs.List.{join_with_byte}
-use Rattle.std.proofs.Math.Seq.{drop-append-add}
-use Rattle.std.proofs.lemmas.List.{length-append, length-drop, take_all}
+use Rattle.std.proofs.lemmas.List.{length-drop, take_all}
 use Rattle.std.proofs.lemmas.Fmt.{decimal_digit}
-use Rattle.std.proofs.lemmas.Bool.{eq-eqb}
 use Rattle.std.proofs.lemmas.Bool.Decides.{nat_tests}
-use Rattle.memchr.specs.Find.{IsFirstByte, is_byte}
 use Rattle.tc_report.specs.Refusals.{refused_line, refusal_words, syntax_words}
 use Rattle.walk_texts.specs.Texts.{counted}
 use Rattle.run_report.specs.declared.events.Event.{Event}
@@ -16,42 +13,43 @@ use Rattle.run_report.specs.declared.events.EventKind.{EventKind}
 use Rattle.run_report.specs.declared.events.EventKind.TheVariants as kinds
 use Rattle.run_report.specs.EventTexts.{edit_place, done_text, kind_line, event_line}
 use Rattle.report_laws.proofs.OfLineCuts.Digits.{High, digits_high}
-use Rattle.report_check.specs.OfEvents.Blanks.{HasNo}
+use Rattle.report_check.specs.OfEvents.Blanks.{HasNo, begins_event, behind_blank, control_in, first_digit}
 
--- ---- the first place of a byte
-inner : (byte : ℕ) (front rest : List ℕ) (k : ℕ) → HasNo byte front → k < length front → (get_or (front ++ rest) k 0 == byte) ≡ true → ⊥
-inner byte [] rest k none less is = absurd (omega (arith, less))
-inner byte (first ∷ front) rest zero none less is = none.0 (grind (arith, nat_tests, is))
-inner byte (first ∷ front) rest (suc k) none less is = inner byte front rest k none.1 (omega (arith, less)) is
-
-seam : (byte : ℕ) (front back : List ℕ) → get_or (front ++ (byte ∷ back)) (length front) 0 ≡ byte
-seam byte [] back = refl
-seam byte (first ∷ front) back = seam byte front back
-
-seam_passes : (byte : ℕ) (front back : List ℕ) → (get_or (front ++ (byte ∷ back)) (length front) 0 == byte) ≡ true
-seam_passes byte front back = eq-eqb (get_or (front ++ (byte ∷ back)) (length front) 0) byte (seam byte front back)
-
-longer : (byte : ℕ) (front back : List ℕ) → length front < length (front ++ (byte ∷ back))
-longer byte front back = let sum = length-append front (byte ∷ back) in omega (arith, sum)
-
-place_is : (byte : ℕ) (front back : List ℕ) (place : ℕ) → HasNo byte front → IsFirstByte (is_byte byte) (front ++ (byte ∷ back)) (Some place) → place ≡ length front
-place_is byte front back place none found = omega (arith, low, high)
+-- ---- behind the first blank
+not_blank : (byte : ℕ) → (byte ≡ 32 → ⊥) → (byte == 32) ≡ false
+not_blank byte other = by_test (byte == 32) refl
   where
-    low : place < length front → ⊥
-    low less = inner byte front (byte ∷ back) place none less found.1
+    by_test : (b : Bool) → (byte == 32) ≡ b → b ≡ false
+    by_test true is = absurd (other (grind (arith, nat_tests, is)))
+    by_test false is = refl
 
-    high : length front < place → ⊥
-    high less = found.0.before (length front) (omega arith) less (seam_passes byte front back)
+test_false : (b : Bool) → (b ≡ true → ⊥) → b ≡ false
+test_false true other = absurd (other refl)
+test_false false other = refl
 
-pub behind : (text front back : List ℕ) (place : ℕ) → HasNo 32 front → text ≡ front ++ (32 ∷ back) → IsFirstByte (is_byte 32) text (Some place) → drop (place + 1) text ≡ back
-behind text front back place none is found =
-    let at = place_is 32 front back place none (subst (λ (bs : List ℕ). IsFirstByte (is_byte 32) bs (Some place)) is found) in
-    ap (λ (n : ℕ). drop (n + 1) text) at ∙ ap (drop (length front + 1)) is ∙ drop-append-add front (32 ∷ back) 1
+skips : (byte : ℕ) (bytes : List ℕ) → (byte == 32) ≡ false → behind_blank (byte ∷ bytes) ≡ behind_blank bytes
+skips byte bytes is = ap (λ (b : Bool). if b then bytes else behind_blank bytes) is
 
-pub none_behind : (text front back : List ℕ) {A : Type 0} → text ≡ front ++ (32 ∷ back) → IsFirstByte (is_byte 32) text None → A
-none_behind text front back is nowhere =
-    let here : IsFirstByte (is_byte 32) (front ++ (32 ∷ back)) None = subst (λ (bs : List ℕ). IsFirstByte (is_byte 32) bs None) is nowhere in
-    absurd (here (length front) (omega arith) (longer 32 front back) (seam_passes 32 front back))
+stops : (byte : ℕ) (bytes : List ℕ) → (byte == 32) ≡ true → behind_blank (byte ∷ bytes) ≡ bytes
+stops byte bytes is = ap (λ (b : Bool). if b then bytes else behind_blank bytes) is
+
+pub behind_seam : (front back : List ℕ) → HasNo 32 front → behind_blank (front ++ (32 ∷ back)) ≡ back
+behind_seam [] back none = refl
+behind_seam (byte ∷ front) back none = skips byte (front ++ (32 ∷ back)) (not_blank byte none.0) ∙ behind_seam front back none.1
+
+pub behind_at : (text : List ℕ) (place : ℕ) → place < length text → (get_or text place 0 == 32) ≡ true → ((k : ℕ) → k < place → (get_or text k 0 == 32) ≡ true → ⊥) → drop (place + 1) text ≡ behind_blank text
+behind_at [] place less is before = absurd (omega (arith, less))
+behind_at (byte ∷ text) zero less is before = sym (stops byte text is)
+behind_at (byte ∷ text) (suc place) less is before =
+    let one : suc place + 1 ≡ suc (place + 1) = omega arith in
+    ap (λ (n : ℕ). drop n (byte ∷ text)) one
+    ∙ behind_at text place (omega (arith, less)) is (λ k fewer here. before (suc k) (omega (arith, fewer)) here)
+    ∙ sym (skips byte text (test_false (byte == 32) (λ here. before 0 (omega arith) here)))
+
+pub behind_none : (text : List ℕ) → ((k : ℕ) → k < length text → (get_or text k 0 == 32) ≡ true → ⊥) → behind_blank text ≡ []
+behind_none [] none = refl
+behind_none (byte ∷ text) none =
+    skips byte text (test_false (byte == 32) (λ here. none 0 (omega arith) here)) ∙ behind_none text (λ k less here. none (suc k) (omega (arith, less)) here)
 
 -- ---- bytes without a blank
 high_free : (bytes : List ℕ) → High bytes → HasNo 32 bytes
@@ -128,18 +126,32 @@ kind_parted before control line (kinds.Syntax word) = refused_parted before cont
 pub event_parted : (before : ℕ) (event : Event) (line : List ℕ) → line ≡ event_line before event → IsParted line event.control
 event_parted before event line is = subst (λ (l : List ℕ). IsParted l event.control) (sym is) (kind_parted before event.control event.line event.kind)
 
--- ---- what three steps behind a blank lead to
-pub record IsBehind (text rest : List ℕ) : Type 0 where
-  pub there : (front back : List ℕ) → HasNo 32 front → text ≡ front ++ (32 ∷ back) → rest ≡ back
+-- ---- the control that an event's line names
+kind_begins : (before control line : ℕ) (kind : EventKind) → begins_event (kind_line before control line kind) ≡ true
+unfolding edit_place counted
+kind_begins before control line (kinds.Accepted done) = refl
+kind_begins before control line (kinds.Refused refusal) = refl
+kind_begins before control line (kinds.Syntax word) = refl
 
-pub digit_there : (line one two three : List ℕ) (control : ℕ) → control < 10 → IsParted line control → IsBehind line one → IsBehind one two → IsBehind two three
-    → (tail : List ℕ) × (three ≡ (48 + control) ∷ tail)
-digit_there line one two three control low it first second third =
+one_digit : (control : ℕ) (tail : List ℕ) → control < 10 → first_digit ((48 + control) ∷ tail) ≡ Some control
+one_digit control tail low =
+    let high : nat_lt (48 + control) 48 ≡ false = grind (arith, nat_tests) in
+    let same : 48 + control - 48 ≡ control = omega arith in
+    ap (λ (b : Bool). if b then None else Some (48 + control - 48)) high ∙ ap (λ (n : ℕ). Some n) same
+
+three_behind : (line : List ℕ) (control : ℕ) → control < 10 → IsParted line control → first_digit (behind_blank (behind_blank (behind_blank line))) ≡ Some control
+three_behind line control low it =
     let more : List ℕ = decimal control ++ it.tail in
-    let a = first.there it.word (decimal it.count ++ (32 ∷ (codes "control" ++ (32 ∷ more)))) it.free it.parts in
-    let b = second.there (decimal it.count) (codes "control" ++ (32 ∷ more)) (number_free it.count) a in
-    let c = third.there (codes "control") more control_free b in
-    (it.tail, c ∙ ap (λ (ds : List ℕ). ds ++ it.tail) (decimal_digit control low))
+    let a : behind_blank line ≡ decimal it.count ++ (32 ∷ (codes "control" ++ (32 ∷ more))) = ap behind_blank it.parts ∙ behind_seam it.word (decimal it.count ++ (32 ∷ (codes "control" ++ (32 ∷ more)))) it.free in
+    let b : behind_blank (behind_blank line) ≡ codes "control" ++ (32 ∷ more) = ap behind_blank a ∙ behind_seam (decimal it.count) (codes "control" ++ (32 ∷ more)) (number_free it.count) in
+    let c : behind_blank (behind_blank (behind_blank line)) ≡ more = ap behind_blank b ∙ behind_seam (codes "control") more control_free in
+    ap first_digit (c ∙ ap (λ (ds : List ℕ). ds ++ it.tail) (decimal_digit control low)) ∙ one_digit control it.tail low
+
+pub event_named : (before : ℕ) (event : Event) (line : List ℕ) → event.control < 10 → line ≡ event_line before event → control_in line ≡ Some event.control
+event_named before event line low is =
+    ap control_in is
+    ∙ ap (λ (b : Bool). if b then first_digit (behind_blank (behind_blank (behind_blank (event_line before event)))) else None) (kind_begins before event.control event.line event.kind)
+    ∙ three_behind (event_line before event) event.control low (event_parted before event (event_line before event) refl)
 
 -- ---- the rest of bytes, as a slice gives it
 pub whole_rest : (bytes : List ℕ) (n : ℕ) → take (length bytes - n) (drop n bytes) ≡ drop n bytes

@@ -52,14 +52,17 @@ use Rattle.report_laws.proofs.OfWholePaths.Reached.{run_of_path}
 use Rattle.report_laws.proofs.OfNextLines.Next.{all_told}
 use Rattle.report_laws.proofs.OfNextLines.NextLines.{takes_next, takes_no_other}
 use Rattle.report_check.specs.declared.events.cursor.Cursor.{Cursor}
-use Rattle.report_check.specs.declared.events.replay.Replay.{Replay}
+use Rattle.journal_replay.specs.declared.replay.Replay.{Replay}
 use Rattle.report_check.specs.declared.events.events.NamedLine.{NamedLine}
-use Rattle.report_check.specs.OfEvents.Cursors.{IsAt, IsStuck, MustBe}
-use Rattle.report_check.specs.OfEvents.Placed.{place_of, places_of}
-use Rattle.report_check.specs.OfEvents.Replays.{IsKept}
-use Rattle.report_check.specs.OfEvents.Lines.{NamesNone, SomeLeft, NoLines}
+use Rattle.tool_words.specs.declared.reason.Reason.TheVariants as reasons
+use Rattle.report_check.specs.Reasons.{IsReason, NamesNoBatch}
+use Rattle.report_check.specs.OfEvents.Blanks.{control_in}
+use Rattle.report_check.specs.OfEvents.Cursors.{IsAt, IsNextLine, IsRefused, MustBe}
+use Rattle.journal_replay.specs.Placed.{place_of, places_of}
+use Rattle.journal_replay.specs.Replays.{IsKept}
+use Rattle.report_check.specs.OfEvents.Lines.{NamesNone, SomeLeft, TellsNone, NoLines}
 use Rattle.report_check.specs.OfEvents.Told.{IsRoundAt, HasBegun, AreTold, GoOn, AreOver, IsTurn}
-use Rattle.report_check.proofs.OfEvents.AtLines.{stuck_at_end, stuck_at_line}
+use Rattle.report_check.proofs.OfEvents.Parts.{event_named}
 
 -- ---- commands that are met are begun, and the first that is left is next
 begun_on : (b force : Bool) (commands : List Command) (events : List Event) (left : List Command) → (HasCome force commands events left → IsBegun force commands events) → ComesOn b (HasCome force commands events left) events left
@@ -130,7 +133,7 @@ round_count : (rounds : List Round) (files : List (List ℕ)) (captures : List C
 round_count [] files captures = refl
 round_count (round ∷ rounds) files captures = ap suc (round_count rounds _ _)
 
-got_within : {X : Type 0} (xs : List X) (n : ℕ) (x : X) → slice_get xs n ≡ Some x → n < length xs
+pub got_within : {X : Type 0} (xs : List X) (n : ℕ) (x : X) → slice_get xs n ≡ Some x → n < length xs
 got_within [] n x is = absurd (cc is)
 got_within (first ∷ xs) zero x is = omega arith
 got_within (first ∷ xs) (suc n) x is = let rest = got_within xs n x is in omega (arith, rest)
@@ -314,7 +317,9 @@ module _ (loaded : LoadedJob) (bytes : List ℕ) (number : ℕ) (its : List Roun
         let low = batch_low turn.is_loaded turn.goes it.batch it.given in
         let by = it.control in
         let lines : turn.names.text ≡ line = cc (sym turn.names.is_next.first ∙ is_next.first) in
-        let control : other.0.control ≡ named.control = turn.names.tells (edits_in its + accepted_count told.it.events) other.0 (omega (arith, low, by)) (lines ∙ other.3) in
+        let own_control : control_in line ≡ Some other.0.control = event_named (edits_in its + accepted_count told.it.events) other.0 line (omega (arith, low, by)) other.3 in
+        let names : control_in line ≡ Some named.control = ap control_in (sym lines) ∙ turn.names.tells in
+        let control : other.0.control ≡ named.control = (let both : ◌≡◌ {A = Option ℕ} (Some other.0.control) (Some named.control) = sym own_control ∙ names in cc both) in
         let batch : it.batch ≡ given_of own_here.file = one_batch round.batches it.batch (given_of own_here.file) (given_here turn.is_loaded turn.goes) it.given (among_in turn.goes (given_of own_here.file) own_here.among) (sym by ∙ control ∙ sym own_here.by) in
         let command : it.command ≡ record { line = named.next.line; words = words_of named.next.text.now } =
         (let both : ◌≡◌ {A = Option Command} (Some it.command) (Some (record { line = named.next.line; words = words_of named.next.text.now })) = sym it.next ∙ ap (next_in told.it.events) batch ∙ own_here.next in cc both) in
@@ -323,25 +328,47 @@ module _ (loaded : LoadedJob) (bytes : List ℕ) (number : ℕ) (its : List Roun
         let same : other.0 ≡ event_here = event_from other.0 event_here control (it.line ∙ ap (λ (c : Command). c.line) command) kinds.0 in
         other.3 ∙ ap (event_line (edits_in its + accepted_count told.it.events)) same ∙ text_here text count is many
 
+    -- a line that isn't its event's came out otherwise
+    pub other_result : (line : List ℕ) → IsNextLine bytes cursor line → IsReason loaded (inside its first.journal.items turn.goes.told.it turn.goes.told.edits) line reasons.Result
+    unfolding own_here
+    other_result line is_next =
+        let lines : turn.names.text ≡ line = cc (sym turn.names.is_next.first ∙ is_next.first) in
+        let left : IsLeft round.batches turn.goes.told.it.events = record { batch = given_of own_here.file; command = record { line = named.next.line; words = words_of named.next.text.now }; given = among_in turn.goes (given_of own_here.file) own_here.among; next = own_here.next } in
+        (round, turn.goes.of.there, inl (left, inr ((event_here, met.1, next_here, ap control_in (sym lines) ∙ turn.names.tells), refl)))
+
   -- ---- no turn
-  pub stuck_here : IsLoaded loaded → GoOn loaded bytes number its round first cursor replay places → SomeLeft loaded number places → NamesNone loaded bytes number cursor places → IsStuck loaded bytes cursor
-  stuck_here is goes left (inl none) = stuck_at_end bytes cursor none loaded (inside its first.journal.items goes.told.it goes.told.edits) goes.told.is_at (unended its first.journal.items goes.told.it goes.told.edits)
-  stuck_here is goes (control, text, at, behind, force, own) (inr (line, is_next, tells)) =
-      stuck_at_line bytes line cursor is_next loaded (inside its first.journal.items goes.told.it goes.told.edits) goes.told.is_at (λ next takes.
-      let told = goes.told in
+  left_here : IsLoaded loaded → (goes : GoOn loaded bytes number its round first cursor replay places) → SomeLeft loaded number places → IsLeft round.batches goes.told.it.events
+  left_here is goes (control, text, at, behind, force, own) =
       let mine = own_next goes.under control text at behind force own in
-      let left : IsLeft round.batches told.it.events = record { batch = given_of mine.file; command = record { line = at; words = words_of text }; given = among_in goes (given_of mine.file) mine.among; next = mine.next } in
-      let other = takes_no_other loaded round its first.journal.items told.it told.edits is goes.of.there line next left takes in
-      let it = other.2 in
-      let low = batch_low is goes it.batch it.given in
-      let by = it.control in
-      let none = tells (edits_in its + accepted_count told.it.events) other.0 (omega (arith, low, by)) (omega (arith, low, by)) other.3 in
-      let out = among_out goes it.batch it.given in
-      let there = file_at (files_of loaded number) out.0 it.batch out.1 in
-      let its_control : other.0.control ≡ there.file.control = by ∙ ap (λ (b : GivenBatch). b.control) (sym there.same) in
-      let no_next = own_none goes.under there.at there.file there.there (subst (λ (c : ℕ). HasNoLine (files_of loaded number) places c) its_control none) in
-      let both : ◌≡◌ {A = Option Command} None (Some it.command) = sym no_next ∙ ap (next_in told.it.events) there.same ∙ it.next in
-      cc both)
+      record { batch = given_of mine.file; command = record { line = at; words = words_of text }; given = among_in goes (given_of mine.file) mine.among; next = mine.next }
+
+  -- a control that is named has no command left
+  named_none : IsLoaded loaded → (goes : GoOn loaded bytes number its round first cursor replay places) → (line : List ℕ) → TellsNone loaded number places line → NamesNoBatch round goes.told.it line
+  named_none is goes line tells = λ batch command among next named.
+      let low = batch_low is goes batch among in
+      let none = tells batch.control low.0 named in
+      let out = among_out goes batch among in
+      let there = file_at (files_of loaded number) out.0 batch out.1 in
+      let no_next = own_none goes.under there.at there.file there.there (subst (λ (c : ℕ). HasNoLine (files_of loaded number) places c) (sym (ap (λ (b : GivenBatch). b.control) there.same)) none) in
+      let both : ◌≡◌ {A = Option Command} None (Some command) = sym no_next ∙ ap (next_in goes.told.it.events) there.same ∙ next in
+      cc both
+
+  pub refused_here : IsLoaded loaded → (goes : GoOn loaded bytes number its round first cursor replay places) → SomeLeft loaded number places → NamesNone loaded bytes number cursor places
+      → IsRefused loaded bytes cursor (inside its first.journal.items goes.told.it goes.told.edits) reasons.Event
+  refused_here is goes left (inl none) = λ line is_next. absurd (cc (sym none ∙ is_next.first))
+  refused_here is goes left (inr (text, here, tells)) = λ line is_next.
+      let lines : text ≡ line = cc (sym here.first ∙ is_next.first) in
+      let none : NamesNoBatch round goes.told.it line = named_none is goes line (subst (TellsNone loaded number places) lines tells) in
+      let some = left_here is goes left in (
+        (λ next takes.
+            let told = goes.told in
+            let other = takes_no_other loaded round its first.journal.items told.it told.edits is goes.of.there line next some takes in
+            let it = other.2 in
+            let low = batch_low is goes it.batch it.given in
+            let by = it.control in
+            none it.batch it.command it.given it.next (event_named (edits_in its + accepted_count told.it.events) other.0 line (omega (arith, low, by)) other.3 ∙ ap (λ (n : ℕ). Some n) by)),
+        (round, goes.of.there, inl (some, inl (none, refl))),
+      )
 
   pub over_here : IsLoaded loaded → GoOn loaded bytes number its round first cursor replay places → NoLines loaded number places → AreOver loaded bytes its round first cursor replay
   over_here is goes lines = record {

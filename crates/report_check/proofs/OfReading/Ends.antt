@@ -1,11 +1,10 @@
 -- A number at the front of a text ends where a byte below the digits comes.
-use Rattle.std.proofs.Common.{◌≡◌, ◌∙◌, ℕ, zero, suc, ◌+◌, ◌-◌, ◌<◌, ◌≤◌, ◌==◌, Bool, true, false, List, [], ◌∷◌, ◌++◌, length, take, drop, get_or, refl, sym, ap, arith}
-use Rattle.std.specs.Prelude.{nat_lt, not}
+use Rattle.std.proofs.Common.{◌≡◌, ◌∙◌, ℕ, zero, suc, ◌+◌, ◌-◌, ◌<◌, ◌≤◌, ◌==◌, true, false, List, [], ◌∷◌, ◌++◌, length, take, drop, get_or, refl, sym, ap, arith}
 use Rattle.std.proofs.lemmas.List.{drop_more, take_all, length-drop, take-append-drop}
 use Rattle.std.specs.Fmt.{decimal}
 use Rattle.std.specs.List.{position_or_len}
 use Rattle.std.proofs.lemmas.Bool.Decides.{nat_tests}
-use Rattle.report_laws.specs.OfLineCuts.Numbers.{Low, numbers_text}
+use Rattle.report_laws.specs.OfLineCuts.Numbers.{Low}
 use Rattle.report_laws.proofs.OfLineCuts.Digits.{High, digits_high, Free}
 use Rattle.report_laws.proofs.OfLineCuts.Tails.{last_same}
 use Rattle.report_check.specs.OfReading.Packets.{is_low}

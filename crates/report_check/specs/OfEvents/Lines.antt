@@ -1,33 +1,27 @@
 -- The command that an event's line names (this project's own).
-use Rattle.std.specs.Prelude.{◌≡◌, ◌⊎◌, ℕ, ◌<◌, ◌≤◌, Bool, List, []}
+use Rattle.std.specs.Prelude.{◌≡◌, ◌⊎◌, ℕ, ◌≤◌, Bool, List, [], Some}
 use Rattle.lawful_runs.specs.declared.loaded.LoadedJob.{LoadedJob}
-use Rattle.run_report.specs.declared.events.Event.{Event}
-use Rattle.run_report.specs.EventTexts.{event_line}
 use Rattle.round_terms.specs.declared.place.Place.{Place}
 use Rattle.round_terms.specs.Files.{files_of}
 use Rattle.round_terms.specs.Turns.{IsLineFor, HasNoLine}
 use Rattle.report_check.specs.declared.events.cursor.Cursor.{Cursor}
 use Rattle.report_check.specs.declared.events.events.NamedLine.{NamedLine}
+use Rattle.report_check.specs.OfEvents.Blanks.{control_in}
 use Rattle.report_check.specs.OfEvents.Cursors.{IsNextLine, lines_left}
-
--- the line is that of an event of this control, if it is an event's at all
-abbrev pub TellsControl : List ℕ → ℕ → Type 0
-TellsControl line control = (before : ℕ) (event : Event) → event.control < 10 → line ≡ event_line before event
-    → event.control ≡ control
 
 -- the next line names the control, whose next command this is
 pub record IsNamed (loaded : LoadedJob) (bytes : List ℕ) (number : ℕ) (cursor : Cursor) (places : List Place)
     (named : NamedLine) : Type 0 where
   pub text : List ℕ
   pub is_next : IsNextLine bytes cursor text
-  pub tells : TellsControl text named.control
+  pub tells : control_in text ≡ Some named.control
   pub own : IsLineFor (files_of loaded number) places named.control named.next.text.now named.next.line
       named.next.next named.next.force
 
--- if the line is an event's, its control has no command left
+-- if the line names a control, that has no command left
 abbrev pub TellsNone : LoadedJob → ℕ → List Place → List ℕ → Type 0
-TellsNone loaded number places line = (before : ℕ) (event : Event) → 1 ≤ event.control → event.control < 10
-    → line ≡ event_line before event → HasNoLine (files_of loaded number) places event.control
+TellsNone loaded number places line = (control : ℕ) → 1 ≤ control → control_in line ≡ Some control
+    → HasNoLine (files_of loaded number) places control
 
 -- no line is left, or the next one names no control with a command left
 abbrev pub NamesNone : LoadedJob → List ℕ → ℕ → Cursor → List Place → Type 0

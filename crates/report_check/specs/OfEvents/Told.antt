@@ -12,12 +12,12 @@ use Rattle.round_terms.specs.Underway.{IsUnderway}
 use Rattle.report_laws.specs.Stands.{no_round, inside}
 use Rattle.report_laws.specs.OfNextLines.Left.{NoneLeft}
 use Rattle.report_check.specs.declared.events.cursor.Cursor.{Cursor}
-use Rattle.report_check.specs.declared.events.replay.Replay.{Replay}
+use Rattle.journal_replay.specs.declared.replay.Replay.{Replay}
 use Rattle.report_check.specs.declared.events.events.NamedLine.{NamedLine}
 use Rattle.report_check.specs.OfEvents.Cursors.{IsAt}
 use Rattle.report_check.specs.OfEvents.Lines.{IsNamed}
-use Rattle.report_check.specs.OfEvents.Placed.{places_of}
-use Rattle.report_check.specs.OfEvents.Replays.{IsKept}
+use Rattle.journal_replay.specs.Placed.{places_of}
+use Rattle.journal_replay.specs.Replays.{IsKept}
 
 -- the round of that number is the job's next one behind these
 pub record IsRoundAt (loaded : LoadedJob) (number : ℕ) (its : List RoundRecord) (round : GivenRound)

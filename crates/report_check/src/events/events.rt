@@ -6,19 +6,20 @@ ghost use Rattle.lawful_runs.specs.declared.loaded.LoadedJob.{LoadedJob as Loade
 ghost use Rattle.lawful_runs.specs.Given.{GivenRound, IsLoaded};
 ghost use Rattle.round_terms.specs.Files.{first_file as first_before, files_of};
 ghost use Rattle.round_terms.specs.Turns.{AreWithin};
-ghost use Rattle.report_check.specs.declared.events.replay.Replay.{Replay as AReplay};
+ghost use Rattle.journal_replay.specs.declared.replay.Replay.{Replay as AReplay};
 ghost use Rattle.report_check.specs.OfEvents.Cursors.{IsWithin, IsStuck};
 ghost use Rattle.report_check.specs.OfEvents.Lines.{IsNamed, NamesNone, SomeLeft, NoLines};
 ghost use Rattle.report_check.specs.OfEvents.Told.{HasBegun, GoOn, IsTurn, AreOver};
 
 use crate::events::control::control_of;
 use crate::events::cursor::Cursor;
-use crate::events::replay::Replay;
 use edit_lines::LinePlace;
+use journal_replay::Replay;
 use round_terms::{Event, LoadedJob, NextLine, Place, first_file, goes_on, next_line};
 use run_report::push_event_line;
 use std::alloc::Global;
 use tc_base::NoMemory;
+use tool_words::Reason;
 
 /// A control, and its next command.
 #[derive(Clone, Copy)]
@@ -117,7 +118,7 @@ fn take_event(
         line: named.next.line,
         over: !goes,
     };
-    Ok(cursor.take(report, text.as_slice()))
+    Ok(cursor.demand(report, text.as_slice(), Reason::Result))
 }
 
 /// Goes behind the lines of a round's events, up to the last command of each control: `true`, where each line
@@ -150,5 +151,9 @@ pub fn check_events(
             return Ok(false);
         }
     }
-    Ok(!some_left(job, first, number, places))
+    if some_left(job, first, number, places) {
+        cursor.refuse(report, Reason::Event);
+        return Ok(false);
+    }
+    Ok(true)
 }

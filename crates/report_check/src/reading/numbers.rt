@@ -1,6 +1,6 @@
 //! A number at the front of a text, and numbers behind blanks.
 ghost use Rattle.std.specs.Prelude.{◌≡◌, ◌<◌, ◌≤◌, ◌^◌, ◌++◌, ◌∷◌, ℕ, List, [], position, true, length, Some};
-ghost use Rattle.std.specs.Prelude.{IfOk, IfSome, option_map};
+ghost use Rattle.std.specs.Prelude.{IfOk, OnOk, IfSome, option_map};
 ghost use Rattle.std.specs.Borrow.{Bor};
 ghost use Rattle.std.specs.Option.{IfNone};
 ghost use Rattle.std.specs.Fmt.{decimal};
@@ -51,6 +51,7 @@ pub(crate) fn read_number(text: &[u8]) -> Option<(u32, &[u8])>
         → option_map {U = ℕ × List ℕ} (λ (parts : ℕ × Bor (List ℕ)). (parts.0, parts.1.now)) result
         ≡ Some (number, rest) }
     ensures shorter { IfSome result (λ parts. length parts.1.now ≤ length text.now) }
+    ensures few { IfSome result (λ parts. parts.0 < 2 ^ 32) }
 {
     let (digits, rest) = cut_number(text);
     Some((read_decimal(digits, u32::MAX)?, rest))
@@ -70,7 +71,8 @@ fn after_blank(text: &[u8]) -> Option<&[u8]>
 /// Numbers that each stand behind a blank, up to the end of the line. Whether there was nothing else.
 pub(crate) fn read_numbers(text: &[u8], into: &mut Vec<Point>) -> Result<bool, NoMemory>
     requires { into.old.items ≡ [] }
-    ensures { IfOk result (λ read. (numbers : List ℕ) → Each (λ number. number < 2 ^ 32) numbers
+    ensures small { OnOk result (Each (λ number. number < 2 ^ 32) into.new.items) }
+    ensures read { IfOk result (λ read. (numbers : List ℕ) → Each (λ number. number < 2 ^ 32) numbers
         → text.now ≡ numbers_text numbers ++ (10 ∷ []) → (read ≡ true) × (into.new.items ≡ numbers)) }
 {
     let mut left = text;

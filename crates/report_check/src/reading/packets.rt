@@ -1,9 +1,8 @@
 //! The line of a packet.
-ghost use Rattle.std.specs.Prelude.{◌≡◌, ◌++◌, ◌∷◌, ℕ, List, [], drop, Some, IfOk};
-ghost use Rattle.run_report.specs.declared.outcomes.Outcome.{Outcome};
-ghost use Rattle.run_report.specs.PacketTexts.{packet_line};
+ghost use Rattle.std.specs.Prelude.{◌≡◌, ◌<◌, ◌^◌, ◌++◌, ◌∷◌, ℕ, List, [], drop, Some, IfOk, OnOk};
+ghost use Rattle.filter_state.specs.Sound.{Each};
 ghost use Rattle.report_laws.specs.OfLineCuts.Numbers.{numbers_text};
-ghost use Rattle.report_check.specs.OfReading.Packets.{IsSmall};
+ghost use Rattle.report_check.specs.OfReading.Packets.{ShowsPoints};
 
 use crate::reading::numbers::{cut_number, read_number, read_numbers};
 use memchr::memrchr;
@@ -22,8 +21,8 @@ fn behind(text: &[u8], count: usize) -> &[u8]
 
 // The worker of a packet's line.
 fn worker_of(line: &[u8]) -> Option<u32>
-    ensures { (number : ℕ) (outcome : Outcome) → IsSmall outcome → line.now ≡ packet_line number outcome
-        → result ≡ Some outcome.worker }
+    ensures { (number worker : ℕ) (points : List ℕ) → ShowsPoints line.now number worker points
+        → result ≡ Some worker }
 {
     let (_, rest) = cut_number(behind(line, BEFORE_NUMBER));
     let (worker, _) = read_number(behind(rest, BEFORE_WORKER))?;
@@ -47,9 +46,9 @@ fn points_of(line: &[u8]) -> &[u8]
 /// whoever reads makes that line and compares. Nothing is told of other lines, whose answer means nothing.
 /// The points come in place of what was in the list. `NoMemory`: the list couldn't grow.
 pub fn read_packet_line(line: &[u8], points: &mut Vec<Point>) -> Result<Option<u32>, NoMemory>
-    ensures { IfOk result (λ worker. (number : ℕ) (outcome : Outcome) → IsSmall outcome
-        → line.now ≡ packet_line number outcome
-        → (worker ≡ Some outcome.worker) × (points.new.items ≡ outcome.points)) }
+    ensures shown { IfOk result (λ worker. (number other : ℕ) (shown : List ℕ)
+        → ShowsPoints line.now number other shown → (worker ≡ Some other) × (points.new.items ≡ shown)) }
+    ensures small { OnOk result (Each (λ point. point < 2 ^ 32) points.new.items) }
 {
     points.clear();
     let is_read = read_numbers(points_of(line), points)?;

@@ -1,4 +1,4 @@
-use Rattle.std.proofs.Common.{rules, ◌≡◌, ◌++◌, ◌∷◌, [], Bool, true, false, List, Ok, length, ap, sym, subst}
+use Rattle.std.proofs.Common.{rules, ◌≡◌, ◌++◌, ◌∷◌, [], Bool, true, false, List, Ok, length, ap, sym, subst, arith}
 use Rattle.batch_run.specs.declared.made_action.MadeAction.{MadeAction}
 use Rattle.report_laws.specs.Stands.{closing, run_of}
 use Rattle.report_check.specs.OfEvents.Cursors.{IsAt}
@@ -11,7 +11,7 @@ returns-then-not-branch-clause-stuck c = λ is loaded b.
     let p = c.args.progress.now in
     let no : c.in_ok-take_counters.field-0 ≡ false = search rules in
     let journal = p.replay.journal.items in
-    c.in_ok-take_counters.ensures.stuck (ap (λ (t : Bool). Ok t) no) loaded (run_of b.its journal) journal (end_lines p)
+    c.in_ok-take_counters.ensures.stuck (ap (λ (t : Bool). Ok t) no) loaded (run_of b.its journal) journal (end_lines p) (omega arith)
     (subst (λ (made : List MadeAction). IsAt loaded c.args.report.now p.cursor (closing (run_of b.its journal) journal (counted_lines p.walkers.counts made ++ end_lines p))) (sym c.as_slice.ensures.value) (at_closing loaded c.args.report.now p b))
 
 pub returns-clause-through : goal.returns-clause-through
@@ -34,4 +34,4 @@ returns-clause-stuck c = λ is loaded b.
     let long : c.len.result ≡ length journal = search rules in
     let behind = c.in_ok-take_counters.ensures.taken (ap (λ (t : Bool). Ok t) yes) loaded run journal (end_lines p)
     (subst (λ (made : List MadeAction). IsAt loaded c.args.report.now p.cursor (closing run journal (counted_lines p.walkers.counts made ++ end_lines p))) (sym c.as_slice.ensures.value) (at_closing loaded c.args.report.now p b)) in
-    c.take_summary.ensures.stuck is loaded run journal ((101 ∷ 110 ∷ 100 ∷ 10 ∷ []) ∷ []) (at_end loaded c.args.report.now p c.take_counters.new.cursor run journal c.len.result long behind)
+    c.take_summary.ensures.stuck is loaded run journal (101 ∷ 110 ∷ 100 ∷ 10 ∷ []) (at_end loaded c.args.report.now p c.take_counters.new.cursor run journal c.len.result long behind)

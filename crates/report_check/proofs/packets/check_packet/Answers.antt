@@ -1,8 +1,10 @@
-use Rattle.std.proofs.Common.{rules, ◌≡◌, ◌∙◌, ◌++◌, ◌∷◌, [], ◌+◌, ◌-◌, ◌<◌, ◌≤◌, Bool, true, false, List, ℕ, Option, Some, None, Ok, length, refl, sym, ap, subst, arith, append_assoc}
+use Rattle.std.proofs.Common.{rules, ◌≡◌, ◌∙◌, ◌++◌, ◌∷◌, [], ◌+◌, ◌-◌, ◌^◌, ◌<◌, ◌≤◌, true, false, List, ℕ, Option, Some, None, Ok, length, refl, sym, ap, subst, arith, append_assoc, inl}
 use Rattle.std.specs.Prelude.{max, if◌then◌else◌}
 use Rattle.std.specs.Vec.{with_item}
 use Rattle.std.proofs.lemmas.List.{length-append}
 use Rattle.walk_ends.specs.Passing.{is_pass}
+use Rattle.filter_state.specs.Sound.{Each}
+use Rattle.tool_words.specs.declared.reason.Reason.TheVariants as reasons
 use Rattle.filter_state.specs.declared.edit.Edit.{Edit}
 use Rattle.walk_rules.specs.Walks.{Outcome as WalkOutcome, outcome_of}
 use Rattle.run_report.specs.declared.outcomes.Outcome.{Outcome}
@@ -14,13 +16,17 @@ use Rattle.report_laws.specs.OfNextLines.Walks.{recorded_by}
 use Rattle.report_check.specs.declared.walker.Walker.{Walker}
 use Rattle.report_check.specs.declared.walkers.Room.{Room}
 use Rattle.report_check.specs.declared.walkers.Walkers.{Walkers}
-use Rattle.report_check.specs.Walks.{ShowsWalk, WalksTo, StandsIn, StandsAtFirst}
+use Rattle.report_check.specs.Reasons.{ending_reason, parting}
+use Rattle.report_check.specs.declared.events.cursor.Cursor.{Cursor}
+use Rattle.report_check.specs.OfEvents.Cursors.{IsAt, IsNextLine}
+use Rattle.report_check.specs.Walks.{ShowsWalk, WalksTo, StandsIn, StandsAtFirst, IsRefusedShown}
 use Rattle.report_check.specs.Walked.{AreWalkers}
 use Rattle.report_check.specs.Rounds.{journal_of, stand_with}
-use Rattle.report_check.proofs.Stuck.{stuck_unless}
+use Rattle.report_check.proofs.Stuck.{MayNot}
+use Rattle.report_check.proofs.Refusing.{refused_none, refused_shown, shown_fault, shown_other, never_on}
 use Rattle.run_counts.proofs.Tallies.{are_at_most, one_most}
 use Rattle.report_check.proofs.Seen.{IsWalkMore, walked_more}
-use Rattle.report_check.proofs.Walking.{is_open, few_edits, none_shown, no_worker, no_walk, has_ended, at_walk, must_be, walker_of, floor_of, worker_most, some_holds}
+use Rattle.report_check.proofs.Walking.{is_open, few_edits, no_worker, no_walk, has_ended, at_walk, must_be, walker_of, floor_of, worker_most, some_holds}
 use Rattle.report_check.proofs.packets.check_packet.Goals as goal
 use Rattle.report_check.proofs.packets.check_packet.Goals.{then-worker-eq0-via-then-worker-eq0, then-worker-eq0-via-else-worker-eq0+then-worker-len}
 
@@ -30,8 +36,17 @@ returns-in_default-clause-stuck c = λ is told it.
     let cursor = c.args.cursor.now in
     let points = c.read_next.new.points.items in
     let none : c.in_ok-worker.field-0 ≡ None = search rules in
-    stuck_unless told.loaded r cursor (stand_with told it.walked.outcomes) c.requires.cursor it.walked.is_at (is_open told r cursor c.args.replay.now c.args.walkers.now c.args.least c.args.place c.args.hook c.args.frame.now it)
-    (none_shown told r cursor c.args.replay.now c.args.walkers.now c.args.least c.args.place c.args.hook c.args.frame.now it points (subst (λ (o : Option ℕ). ShowsWalk r cursor o points) none c.in_ok-worker.ensures.shows))
+    c.refuse.ensures.stuck told.loaded (stand_with told it.walked.outcomes) it.walked.is_at (λ left. is_open told r cursor c.args.replay.now c.args.walkers.now c.args.least c.args.place c.args.hook c.args.frame.now it)
+    (refused_none told r cursor c.args.replay.now c.args.walkers.now c.args.least c.args.place c.args.hook c.args.frame.now it points (subst (λ (o : Option ℕ). ShowsWalk r cursor o points) none c.in_ok-worker.ensures.shows))
+
+pub refuse_shown-requires-clause-small : goal.refuse_shown-requires-clause-small
+refuse_shown-requires-clause-small c = some_holds (λ (w : ℕ). Each (λ (point : ℕ). point < 2 ^ 32) c.read_next.new.points.items) c.in_ok-worker.field-0 c.in-Some.worker c.in-Some.is c.in_ok-worker.ensures.small
+
+pub returns-then-worker-eq0-clause-taken : goal.returns-then-worker-eq0-clause-taken
+returns-then-worker-eq0-clause-taken c = λ is told it. absurd (never_on c.refuse_shown.result is c.refuse_shown.ensures.refused)
+
+pub returns-then-worker-eq0-clause-further : goal.returns-then-worker-eq0-clause-further
+returns-then-worker-eq0-clause-further c = λ is. absurd (never_on c.refuse_shown.result is c.refuse_shown.ensures.refused)
 
 pub returns-then-worker-eq0-clause-stuck : goal.returns-then-worker-eq0-clause-stuck
 returns-then-worker-eq0-clause-stuck c = λ is told it.
@@ -44,8 +59,10 @@ returns-then-worker-eq0-clause-stuck c = λ is told it.
       | then-worker-eq0-via-then-worker-eq0 w ↦ (let zero = w.if-worker-eq0.true in omega (arith, low, zero))
       | then-worker-eq0-via-else-worker-eq0+then-worker-len w ↦ (let past = w.if-worker-len.true in let len = w.len.ensures in omega (arith, high, past, len, ok, many))
     ] in
-    stuck_unless told.loaded r cursor (stand_with told it.walked.outcomes) c.requires.cursor it.walked.is_at (is_open told r cursor c.args.replay.now c.args.walkers.now c.args.least c.args.place c.args.hook c.args.frame.now it)
-    (no_worker told r cursor c.args.replay.now c.args.walkers.now c.args.least c.args.place c.args.hook c.args.frame.now it c.in-Some.worker points (subst (λ (o : Option ℕ). ShowsWalk r cursor o points) c.in-Some.is c.in_ok-worker.ensures.shows) never)
+    let shows : ShowsWalk r cursor (Some c.in-Some.worker) points = subst (λ (o : Option ℕ). ShowsWalk r cursor o points) c.in-Some.is c.in_ok-worker.ensures.shows in
+    c.refuse_shown.ensures.stuck is told.loaded (stand_with told it.walked.outcomes) it.walked.is_at (is_open told r cursor c.args.replay.now c.args.walkers.now c.args.least c.args.place c.args.hook c.args.frame.now it)
+    (refused_shown told r cursor c.args.replay.now c.args.walkers.now c.args.least c.args.place c.args.hook c.args.frame.now it c.in-Some.worker points reasons.Worker shows
+    (no_worker told r cursor c.args.replay.now c.args.walkers.now c.args.least c.args.place c.args.hook c.args.frame.now it c.in-Some.worker points shows never) (λ line next. inl (never, refl)))
 
 pub walk_again-requires-clause-few : goal.walk_again-requires-clause-few
 walk_again-requires-clause-few c =
@@ -73,8 +90,8 @@ walk_again-requires-clause-seen c =
     let there = there_at c.args.walkers.now.each.items c.args.walkers.now.each.items (c.in-Some.worker - 1) c.index_mut-walker.result.now refl less ∙ ap (λ w. Some w) (sym c.index_mut-walker.ensures.value) in
     (walker_of p.0 c.args.report.now c.args.cursor.now c.args.replay.now c.args.walkers.now c.args.least c.args.place c.args.hook c.args.frame.now p.1 c.in-Some.worker c.index_mut-walker.result.now low there).early
 
-pub returns-then-not-branch-clause-stuck : goal.returns-then-not-branch-clause-stuck
-returns-then-not-branch-clause-stuck c = λ is told it.
+pub returns-in-Some-2-clause-stuck : goal.returns-in-Some-2-clause-stuck
+returns-in-Some-2-clause-stuck c = λ is told it.
     let r = c.args.report.now in
     let cursor = c.args.cursor.now in
     let points = c.read_next.new.points.items in
@@ -86,11 +103,15 @@ returns-then-not-branch-clause-stuck c = λ is told it.
     let there = there_at c.args.walkers.now.each.items c.args.walkers.now.each.items (worker - 1) walker refl less ∙ ap (λ w. Some w) (sym c.index_mut-walker.ensures.value) in
     let shows : ShowsWalk r cursor (Some worker) points = subst (λ (o : Option ℕ). ShowsWalk r cursor o points) c.in-Some.is c.in_ok-worker.ensures.shows in
     let same = it.of.journal_is in
-    let no : c.in_ok-walk_again.field-0 ≡ false = search rules in
-    stuck_unless told.loaded r cursor (stand_with told it.walked.outcomes) c.requires.cursor it.walked.is_at (is_open told r cursor c.args.replay.now c.args.walkers.now c.args.least c.args.place c.args.hook c.args.frame.now it)
-    (no_walk told r cursor c.args.replay.now c.args.walkers.now c.args.least c.args.place c.args.hook c.args.frame.now it worker floor points shows
-    (floor_of told r cursor c.args.replay.now c.args.walkers.now c.args.least c.args.place c.args.hook c.args.frame.now it worker walker low there)
-    (λ end walks. c.in_ok-walk_again.ensures.no (ap (λ (b : Bool). Ok b) no) end (subst (λ (js : List Edit). WalksTo js c.args.hook c.args.frame.now floor points end) (sym same) walks)))
+    let floor_is = floor_of told r cursor c.args.replay.now c.args.walkers.now c.args.least c.args.place c.args.hook c.args.frame.now it worker walker low there in
+    let high = worker_most told r cursor c.args.replay.now c.args.walkers.now c.args.least c.args.place c.args.hook c.args.frame.now it worker low less in
+    let never : MayNot told.loaded r cursor (stand_with told it.walked.outcomes) = no_walk told r cursor c.args.replay.now c.args.walkers.now c.args.least c.args.place c.args.hook c.args.frame.now it worker floor points shows floor_is
+    (λ end walks. c.in_ok-reason.ensures.no c.in-Some-2.reason (ap (λ o. Ok o) c.in-Some-2.is) end (subst (λ (js : List Edit). WalksTo js c.args.hook c.args.frame.now floor points end) (sym same) walks)) in
+    let read = c.in_ok-reason.ensures.points in
+    let refused = refused_shown told r cursor c.args.replay.now c.args.walkers.now c.args.least c.args.place c.args.hook c.args.frame.now it worker points c.in-Some-2.reason shows never
+    (λ line next. shown_fault told r cursor c.args.replay.now c.args.walkers.now c.args.least c.args.place c.args.hook c.args.frame.now it worker floor points c.in-Some-2.reason line low high floor_is (c.in_ok-reason.ensures.why c.in-Some-2.reason (ap (λ o. Ok o) c.in-Some-2.is))) in
+    c.refuse_shown-in-Some-2.ensures.stuck is told.loaded (stand_with told it.walked.outcomes) it.walked.is_at (is_open told r cursor c.args.replay.now c.args.walkers.now c.args.least c.args.place c.args.hook c.args.frame.now it)
+    (subst (λ (ps : List ℕ). IsRefusedShown told.loaded r cursor (stand_with told it.walked.outcomes) (c.args.place + 1) worker ps c.in-Some-2.reason) (sym read) refused)
 
 pub returns-then-not-take-clause-stuck : goal.returns-then-not-take-clause-stuck
 returns-then-not-take-clause-stuck c = λ is told it.
@@ -106,15 +127,28 @@ returns-then-not-take-clause-stuck c = λ is told it.
     let there = there_at c.args.walkers.now.each.items c.args.walkers.now.each.items (worker - 1) walker refl less ∙ ap (λ w. Some w) (sym c.index_mut-walker.ensures.value) in
     let shows : ShowsWalk r cursor (Some worker) points = subst (λ (o : Option ℕ). ShowsWalk r cursor o points) c.in-Some.is c.in_ok-worker.ensures.shows in
     let same = it.of.journal_is in
-    let yes : c.in_ok-walk_again.field-0 ≡ true = search rules in
+    let yes : c.in_ok-reason.field-0 ≡ None = search rules in
     let no : c.take.result ≡ false = search rules in
-    let walks : WalksTo (journal_of told) c.args.hook c.args.frame.now floor points end = subst (λ (js : List Edit). WalksTo js c.args.hook c.args.frame.now floor points end) same (c.in_ok-walk_again.ensures.yes (ap (λ (b : Bool). Ok b) yes)) in
+    let walks : WalksTo (journal_of told) c.args.hook c.args.frame.now floor points end = subst (λ (js : List Edit). WalksTo js c.args.hook c.args.frame.now floor points end) same (c.in_ok-reason.ensures.yes (ap (λ o. Ok o) yes)) in
     let ended = has_ended told r cursor c.args.replay.now c.args.walkers.now c.args.least c.args.place c.args.hook c.args.frame.now it floor points end walks in
-    let read = c.in_ok-walk_again.ensures.points in
+    let read = c.in_ok-reason.ensures.points in
     let text = c.as_slice.ensures.value ∙ c.in_ok-put_line.ensures.line ended.ended ended.is ∙ ap (λ (ps : List ℕ). packet_line (c.args.place + 1) (recorded_by worker ps ended.ended)) read in
-    c.take.ensures.stuck no told.loaded (stand_with told it.walked.outcomes) it.walked.is_at (is_open told r cursor c.args.replay.now c.args.walkers.now c.args.least c.args.place c.args.hook c.args.frame.now it)
-    (must_be told r cursor c.args.replay.now c.args.walkers.now c.args.least c.args.place c.args.hook c.args.frame.now it worker floor points end ended.ended shows
-    (floor_of told r cursor c.args.replay.now c.args.walkers.now c.args.least c.args.place c.args.hook c.args.frame.now it worker walker low there) walks ended.is c.as_slice.result.now text)
+    let floor_is = floor_of told r cursor c.args.replay.now c.args.walkers.now c.args.least c.args.place c.args.hook c.args.frame.now it worker walker low there in
+    let high = worker_most told r cursor c.args.replay.now c.args.walkers.now c.args.least c.args.place c.args.hook c.args.frame.now it worker low less in
+    let rest = c.in_ok-put_line.ensures.rest in
+    let shown : c.put_line.new.room.points.items ≡ points = ap (λ (m : Room). m.points.items) rest ∙ read in
+    let must = must_be told r cursor c.args.replay.now c.args.walkers.now c.args.least c.args.place c.args.hook c.args.frame.now it worker floor points end ended.ended shows floor_is walks ended.is c.as_slice.result.now text in
+    let never : MayNot told.loaded r cursor (stand_with told it.walked.outcomes) = λ line behind next takes. c.take.ensures.other no line next (must line behind next takes) in
+    let stays = sym (c.take.ensures.stays no) in
+    let same_text : c.as_slice-then-not-take.result.now ≡ c.as_slice.result.now = c.as_slice-then-not-take.ensures.value ∙ sym c.as_slice.ensures.value in
+    let reason = c.other_line-reason.result in
+    let refused = refused_shown told r cursor c.args.replay.now c.args.walkers.now c.args.least c.args.place c.args.hook c.args.frame.now it worker points reason shows never
+    (λ line next. shown_other told r cursor c.args.replay.now c.args.walkers.now c.args.least c.args.place c.args.hook c.args.frame.now it worker floor points end ended.ended c.as_slice.result.now line reason low high floor_is walks ended.is text
+    (c.other_line-reason.ensures line (subst (λ (at : Cursor). IsNextLine r at line) stays next) ∙ ap (λ (t : List ℕ). ending_reason (parting line t)) same_text)) in
+    c.refuse_shown-then-not-take.ensures.stuck is told.loaded (stand_with told it.walked.outcomes) (subst (λ (at : Cursor). IsAt told.loaded r at (stand_with told it.walked.outcomes)) stays it.walked.is_at)
+    (is_open told r cursor c.args.replay.now c.args.walkers.now c.args.least c.args.place c.args.hook c.args.frame.now it)
+    (subst (λ (at : Cursor). IsRefusedShown told.loaded r at (stand_with told it.walked.outcomes) (c.args.place + 1) worker c.put_line.new.room.points.items reason) stays
+    (subst (λ (ps : List ℕ). IsRefusedShown told.loaded r cursor (stand_with told it.walked.outcomes) (c.args.place + 1) worker ps reason) (sym shown) refused))
 
 pub note_walk-requires : goal.note_walk-requires
 note_walk-requires c =
@@ -138,16 +172,16 @@ returns-clause-taken c = λ is told it.
     let less : worker - 1 < length old.each.items = (let test = c.if-worker-len.false in let len = c.len.ensures in let ok = old.each.ok.0 in omega (arith, low, test, len, ok)) in
     let there = there_at old.each.items old.each.items (worker - 1) walker refl less ∙ ap (λ w. Some w) (sym c.index_mut-walker.ensures.value) in
     let same = it.of.journal_is in
-    let yes : c.in_ok-walk_again.field-0 ≡ true = search rules in
+    let yes : c.in_ok-reason.field-0 ≡ None = search rules in
     let took : c.take.result ≡ true = search rules in
-    let walks : WalksTo (journal_of told) c.args.hook c.args.frame.now floor points end = subst (λ (js : List Edit). WalksTo js c.args.hook c.args.frame.now floor points end) same (c.in_ok-walk_again.ensures.yes (ap (λ (b : Bool). Ok b) yes)) in
+    let walks : WalksTo (journal_of told) c.args.hook c.args.frame.now floor points end = subst (λ (js : List Edit). WalksTo js c.args.hook c.args.frame.now floor points end) same (c.in_ok-reason.ensures.yes (ap (λ o. Ok o) yes)) in
     let ended = has_ended told r cursor c.args.replay.now old c.args.least c.args.place c.args.hook c.args.frame.now it floor points end walks in
-    let read = c.in_ok-walk_again.ensures.points in
+    let read = c.in_ok-reason.ensures.points in
     let text = c.as_slice.ensures.value ∙ c.in_ok-put_line.ensures.line ended.ended ended.is ∙ ap (λ (ps : List ℕ). packet_line (c.args.place + 1) (recorded_by worker ps ended.ended)) read in
     let rest = c.in_ok-put_line.ensures.rest in
     let shown : c.put_line.new.room.points.items ≡ points = ap (λ (m : Room). m.points.items) rest ∙ read in
     let stands : outcome_of c.put_line.new.room.walk.standing ≡ Some ended.ended = ap (λ (m : Room). outcome_of m.walk.standing) rest ∙ ended.is in
-    let stood = c.in_ok-walk_again.ensures.walker (ap (λ (b : Bool). Ok b) yes) in
+    let stood = c.in_ok-reason.ensures.walker (ap (λ o. Ok o) yes) in
     let later = c.note_walk.new.walker in
     let noted = c.in_ok-note_walk.ensures.seen in
     let outcome : Outcome = recorded_by worker points ended.ended in
@@ -166,7 +200,7 @@ returns-clause-taken c = λ is told it.
       within = less;
       number = omega (arith, low);
       set = refl;
-      seen = ap (λ (w : Walker). w.seen) noted ∙ ap (λ (n : ℕ). max n (greatest c.put_line.new.room.points.items)) (c.in_ok-walk_again.ensures.seen (ap (λ (b : Bool). Ok b) yes)) ∙ ap (λ (ps : List ℕ). max walker.seen (greatest ps)) shown;
+      seen = ap (λ (w : Walker). w.seen) noted ∙ ap (λ (n : ℕ). max n (greatest c.put_line.new.room.points.items)) (c.in_ok-reason.ensures.seen (ap (λ o. Ok o) yes)) ∙ ap (λ (ps : List ℕ). max walker.seen (greatest ps)) shown;
       stands = subst (StandsIn (journal_of told)) (sym noted) (subst (λ (js : List Edit). StandsIn js (record c.walk_again.new.walker { seen = max c.walk_again.new.walker.seen (greatest c.put_line.new.room.points.items) })) same (record { within = stood.0.within; spells = stood.0.spells }));
       first = subst (StandsAtFirst points) (sym noted) (record { first = stood.1.first; more = stood.1.more; points_are = stood.1.points_are; at_first = stood.1.at_first });
       counts = c.in_ok-note_walk.ensures.counts ended.ended stands;

@@ -1,10 +1,10 @@
-use Rattle.std.proofs.Common.{rules, ◌≡◌, [], true, false}
+use Rattle.std.proofs.Common.{rules, ◌≡◌, [], true, false, refl}
 use Rattle.report_check.proofs.rechecking.closed_at.Goals as goal
 
 pub returns-then-not-take_left-clause-check : goal.returns-then-not-take_left-clause-check
 returns-then-not-take_left-clause-check c = λ loaded run journal is at.
     let no : c.take_left.result ≡ false = search rules in
-    c.stuck_at.ensures.check loaded is (c.take_left.ensures.stuck no loaded run journal [] at)
+    c.stuck_at.ensures.check loaded is (c.take_left.ensures.stuck no loaded run journal [] refl at)
 
 pub returns-clause-check : goal.returns-clause-check
 returns-clause-check c = λ loaded run journal is at.

@@ -1,5 +1,5 @@
 use Rattle.std.proofs.Common.{rules, ◌≡◌, Bool, true, Ok, ap, sym, subst}
-use Rattle.report_check.specs.declared.events.replay.Replay.{Replay}
+use Rattle.journal_replay.specs.declared.replay.Replay.{Replay}
 use Rattle.report_check.specs.Replayed.{IsReplayOf}
 use Rattle.report_check.proofs.LastLines.{replay_of}
 use Rattle.report_check.proofs.rechecking.judge.Goals as goal

@@ -1,9 +1,9 @@
-use Rattle.std.proofs.Common.{rules, ◌≡◌, ◌∙◌, ◌+◌, ◌-◌, ◌++◌, ◌∷◌, [], Bool, true, false, Ok, ap, arith}
+use Rattle.std.proofs.Common.{rules, ◌≡◌, ◌∙◌, ◌+◌, ◌-◌, ◌++◌, ◌∷◌, [], Bool, true, false, Ok, refl, ap, arith}
 use Rattle.report_laws.specs.Stands.{opening, inside, no_round, settled}
 use Rattle.report_check.proofs.OfEvents.Turning.{unended}
 use Rattle.report_check.specs.Rounds.{journal_of, record_with, stand_with}
 use Rattle.report_check.proofs.Captures.{count_most, captures_few}
-use Rattle.report_check.proofs.Rounding.{is_opening, opening_open, first_must_be, first_takes, has_begun, told_of, is_told, at_capture, last_takes, last_must_be, is_between}
+use Rattle.report_check.proofs.Rounding.{is_opening, opening_open, first_must_be, first_takes, has_begun, told_of, is_told, at_capture, last_takes, last_must_be, last_reason, is_between}
 use Rattle.report_check.proofs.rounds.check_round.Goals as goal
 
 pub returns-then-not-branch-clause-stuck : goal.returns-then-not-branch-clause-stuck
@@ -14,7 +14,7 @@ returns-then-not-branch-clause-stuck c = λ is.
     let o = is_opening loaded c.args.report.now c.args.number p c.requires.round.0 c.requires.round.1 b in
     let no : c.in_ok-take_numbered.field-0 ≡ false = search rules in
     c.in_ok-take_numbered.ensures.stuck (ap (λ (t : Bool). Ok t) no) loaded (opening b.its p.replay.journal.items) o.is_at (opening_open b.its p.replay.journal.items)
-    (first_must_be loaded c.args.report.now p.cursor b.its p.replay.journal.items c.from.result (c.from.ensures ∙ o.number_is))
+    (first_must_be loaded c.args.report.now p.cursor b.its p.replay.journal.items c.from.result (c.from.ensures ∙ o.number_is)) (λ line. refl)
 
 pub check_events-requires-clause-begun : goal.check_events-requires-clause-begun
 check_events-requires-clause-begun c =
@@ -122,3 +122,4 @@ returns-clause-stuck c = λ is.
     let walked = c.in_ok-check_capture.ensures.taken (ap (λ (t : Bool). Ok t) through) told held in
     c.take_numbered-2.ensures.stuck is loaded (stand_with told walked.outcomes) walked.is_at (unended b.its p.replay.journal.items (record_with told walked.outcomes) over.told.edits)
     (last_must_be told replay (is_told loaded r b.its o.given p.replay behind replay over c.requires.loaded o.there) walked.outcomes walked.place_is r c.check_capture.new.cursor c.from-2.result (c.from-2.ensures ∙ o.number_is))
+    (λ line. last_reason told replay (is_told loaded r b.its o.given p.replay behind replay over c.requires.loaded o.there) walked.outcomes walked.place_is line)

@@ -1,8 +1,9 @@
 use Rattle.std.proofs.Common.{rules, ◌≡◌, Bool, true, false, Ok, refl, ap}
 use Rattle.std.specs.Prelude.{replicate}
 use Rattle.round_terms.proofs.Beginning.{start_place}
+use Rattle.report_laws.specs.Stands.{inside}
 use Rattle.report_check.specs.OfEvents.Told.{IsTurn}
-use Rattle.report_check.proofs.OfEvents.Turning.{round_within, places_within, goes_first, stuck_here, over_here}
+use Rattle.report_check.proofs.OfEvents.Turning.{round_within, places_within, goes_first, refused_here, over_here, unended}
 use Rattle.report_check.proofs.events.events.check_events.Goals as goal
 
 pub first_file-first-requires-clause-round : goal.first_file-first-requires-clause-round
@@ -67,9 +68,11 @@ returns-clause-over c = λ is its round begun.
     let no : c.some_left.result ≡ false = search rules in
     over_here c.args.job.now c.args.report.now c.args.number its round c.args.replay.now l.cursor l.replay l.places c.requires.loaded (l.invariant.going its round begun) (c.some_left.ensures.none no)
 
-pub returns-clause-stuck : goal.returns-clause-stuck
-returns-clause-stuck c = λ is.
+pub returns-then-some_left-clause-stuck : goal.returns-then-some_left-clause-stuck
+returns-then-some_left-clause-stuck c = λ is.
     let b = c.requires.begun in
     let l = c.loop-next in
     let yes : c.some_left.result ≡ true = search rules in
-    stuck_here c.args.job.now c.args.report.now c.args.number b.0 b.1 c.args.replay.now l.cursor l.replay l.places c.requires.loaded (l.invariant.going b.0 b.1 b.2) (c.some_left.ensures.left yes) c.in_default.ensures.none
+    let goes = l.invariant.going b.0 b.1 b.2 in
+    c.refuse.ensures.stuck c.args.job.now (inside b.0 c.args.replay.now.journal.items goes.told.it goes.told.edits) goes.told.is_at (λ none. unended b.0 c.args.replay.now.journal.items goes.told.it goes.told.edits)
+    (refused_here c.args.job.now c.args.report.now c.args.number b.0 b.1 c.args.replay.now l.cursor l.replay l.places c.requires.loaded goes (c.some_left.ensures.left yes) c.in_default.ensures.none)

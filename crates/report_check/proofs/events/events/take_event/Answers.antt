@@ -2,7 +2,7 @@ use Rattle.std.proofs.Common.{◌≡◌, ◌∙◌, ◌++◌, true, false, List,
 use Rattle.run_report.specs.declared.events.Event.{Event}
 use Rattle.run_report.specs.EventTexts.{event_line}
 use Rattle.report_laws.specs.Stands.{inside}
-use Rattle.report_check.proofs.OfEvents.Turning.{journal_fits, named_place, unended, placed_one, goes_further, no_other}
+use Rattle.report_check.proofs.OfEvents.Turning.{journal_fits, named_place, unended, placed_one, goes_further, no_other, other_result}
 use Rattle.report_check.proofs.events.events.take_event.Goals as goal
 
 pub meet-requires-clause-short : goal.meet-requires-clause-short
@@ -30,20 +30,21 @@ bounds-places-named c =
 
 pub returns-clause-taken : goal.returns-clause-taken
 returns-clause-taken c = λ is loaded number its round first turn.
-    let yes : c.take.result ≡ true = cc is in
+    let yes : c.demand.result ≡ true = cc is in
     let event : Event = record { control = c.args.named.control; line = c.args.named.next.line; kind = c.in_ok-kind.kind } in
     let text = c.as_slice.ensures.value ∙ c.in_ok-push_event_line.ensures ∙ ap (λ (before : List ℕ). before ++ event_line c.point-before.result event) c.new-text.ensures.items in
     goes_further loaded c.args.report.now number its round first c.args.cursor.now c.args.replay.now c.args.places.now c.args.named turn c.meet.new.self.journal.items c.in_ok-kind.kind c.in_ok-kind.ensures.met
-    c.take.new.self c.meet.new.self c.goes_on-goes.result c.as_slice.result.now c.point-before.result refl c.in_ok-kind.ensures.kept
+    c.demand.new.self c.meet.new.self c.goes_on-goes.result c.as_slice.result.now c.point-before.result refl c.in_ok-kind.ensures.kept
     (placed_one c.in_ok-kind.kind c.args.named.control c.args.named.next.line c.args.replay.now.places.items c.meet.new.self.places.items c.in_ok-kind.ensures.placed c.in_ok-kind.ensures.unplaced) c.in_ok-kind.ensures.refused c.goes_on-goes.ensures text
-    (c.point-before.ensures ∙ turn.goes.told.kept.remembers.point) (λ stand next at takes. c.take.ensures.taken yes loaded stand next at takes) (c.take.ensures.further yes)
+    (c.point-before.ensures ∙ turn.goes.told.kept.remembers.point) (λ stand next at takes. c.demand.ensures.taken yes loaded stand next at takes) (c.demand.ensures.further yes)
 
 pub returns-clause-stuck : goal.returns-clause-stuck
 returns-clause-stuck c = λ is loaded number its round first turn.
-    let no : c.take.result ≡ false = cc is in
+    let no : c.demand.result ≡ false = cc is in
     let event : Event = record { control = c.args.named.control; line = c.args.named.next.line; kind = c.in_ok-kind.kind } in
     let text = c.as_slice.ensures.value ∙ c.in_ok-push_event_line.ensures ∙ ap (λ (before : List ℕ). before ++ event_line c.point-before.result event) c.new-text.ensures.items in
     let told = turn.goes.told in
-    c.take.ensures.stuck no loaded (inside its first.journal.items told.it told.edits) told.is_at (unended its first.journal.items told.it told.edits)
+    c.demand.ensures.stuck no loaded (inside its first.journal.items told.it told.edits) told.is_at (unended its first.journal.items told.it told.edits)
     (no_other loaded c.args.report.now number its round first c.args.cursor.now c.args.replay.now c.args.places.now c.args.named turn c.meet.new.self.journal.items c.in_ok-kind.kind c.in_ok-kind.ensures.met
     c.as_slice.result.now c.point-before.result text (c.point-before.ensures ∙ told.kept.remembers.point))
+    (λ line next other. other_result loaded c.args.report.now number its round first c.args.cursor.now c.args.replay.now c.args.places.now c.args.named turn c.meet.new.self.journal.items c.in_ok-kind.kind c.in_ok-kind.ensures.met line next)

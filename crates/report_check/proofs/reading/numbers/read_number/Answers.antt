@@ -1,8 +1,7 @@
-use Rattle.std.proofs.Common.{◌≡◌, ◌∙◌, ℕ, ◌<◌, ◌^◌, List, ◌++◌, Some, None, sym, ap, arith}
+use Rattle.std.proofs.Common.{◌≡◌, ◌∙◌, ℕ, ◌<◌, ◌^◌, List, Some, sym, ap, arith}
 use Rattle.std.specs.Fmt.{decimal}
 use Rattle.tc_words.specs.Numbers.{decimal_of}
 use Rattle.line_texts.proofs.Decimals.{decimal-read}
-use Rattle.report_laws.specs.OfLineCuts.Numbers.{Low}
 use Rattle.report_check.proofs.reading.numbers.read_number.Goals as goal
 
 -- the digits that were cut off are read
