@@ -1,3 +1,4 @@
 pub mod Params
 pub mod Ranges
 pub mod Acts
+pub mod Passed

@@ -7,7 +7,7 @@ use Rattle.filter_state.specs.declared.refusal.Refusal.TheVariants as refusals
 use Rattle.filter_state.specs.States.{State}
 use Rattle.filter_state.specs.Order.{SameState}
 use Rattle.filter_state.specs.Steps.{Stepped, step}
-use Rattle.hook_lists.specs.declared.kept.Kept.{Kept}
+use Rattle.filter_lists.specs.Passed.{Kept}
 use Rattle.filter_lists.specs.Spells.{Spells}
 use Rattle.filter_lists.specs.Edits.{Stays, IsStepped}
 use Rattle.tc_batch.specs.Grammar.{Gives}

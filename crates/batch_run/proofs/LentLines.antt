@@ -6,7 +6,7 @@ use Rattle.act_kinds.specs.declared.params.Params.{Params}
 use Rattle.act_registry.specs.declared.entry.Entry.{Entry}
 use Rattle.filter_state.specs.States.{State}
 use Rattle.action_plan.specs.Entries.{actions_of}
-use Rattle.hook_lists.specs.declared.kept.Kept.{Kept}
+use Rattle.filter_lists.specs.Passed.{Kept}
 use Rattle.filter_lists.specs.Spells.{Spells}
 use Rattle.batch_run.specs.declared.made_action.MadeAction.{MadeAction}
 use Rattle.batch_run.specs.declared.stop.Stop.{Stop}

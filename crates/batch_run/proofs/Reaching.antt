@@ -5,7 +5,7 @@ use Rattle.tc_words.specs.Lines.{words_of}
 use Rattle.filter_state.specs.States.{Action, State, no_state}
 use Rattle.filter_state.specs.Steps.{Stepped}
 use Rattle.action_plan.specs.Entries.{actions_of}
-use Rattle.hook_lists.specs.declared.kept.Kept.{Kept}
+use Rattle.filter_lists.specs.Passed.{Kept}
 use Rattle.filter_lists.specs.Spells.{Spells}
 use Rattle.batch_run.specs.declared.made_action.MadeAction.{MadeAction}
 use Rattle.batch_run.specs.declared.stop.Stop.{Stop}

@@ -4,7 +4,7 @@ use Rattle.filter_state.specs.declared.edit.Edit.{Edit}
 use Rattle.filter_state.specs.declared.refusal.Done.{Done}
 use Rattle.filter_state.specs.States.{State}
 use Rattle.filter_state.specs.Steps.{step}
-use Rattle.hook_lists.specs.declared.kept.Kept.{Kept}
+use Rattle.filter_lists.specs.Passed.{Kept}
 use Rattle.filter_lists.specs.Spells.{Spells}
 use Rattle.tc_batch.specs.Grammar.{Gives}
 use Rattle.tc_batch.specs.FirstBad.{IsFirstBad}

@@ -2,3 +2,4 @@ pub mod Commands
 pub mod Made
 pub mod Runs
 pub mod Applied
+pub mod Passed

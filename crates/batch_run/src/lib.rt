@@ -31,3 +31,6 @@ pub use limit::{COMMANDS_MAX, line_past_limit};
 pub use made_action::{MadeAction, log_made};
 pub use run::{BatchRun, run_batch};
 pub use stop::Stop;
+
+// Passed on: who stands above needs no other crate for it.
+pub use filter_lists::Lists;

@@ -39,7 +39,8 @@ fn is_for_job(words: &[String]) -> bool
             | Command::Show { .. }
             | Command::Recheck { .. }
             | Command::Trace { .. }
-            | Command::TraceReport { .. },
+            | Command::TraceReport { .. }
+            | Command::Foresee { .. },
         )
         | None => false,
     }

@@ -6,3 +6,4 @@ pub mod Faults
 pub mod OfRemoving
 pub mod OfAdding
 pub mod OfReplacing
+pub mod Passed

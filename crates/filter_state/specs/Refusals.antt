@@ -1,5 +1,5 @@
 -- When an edit is refused, each refusal by its own condition on the state.
-use Rattle.act_registry.specs.declared.limits.TheConstants.{ACTIONS_MAX, MADE_MAX}
+use Rattle.act_kinds.specs.Passed.{ACTIONS_MAX, MADE_MAX}
 use Rattle.filter_state.specs.declared.limits.TheConstants.{TABLES_MAX, MASKS_MAX, FILTERS_MAX}
 use Rattle.std.specs.Prelude.{ℕ, ◌==◌, ◌&&◌, nat_le, nat_lt, Bool, false, not, List, length, is_some, Option}
 use Rattle.std.specs.Prelude.{Some, None, if◌then◌else◌}

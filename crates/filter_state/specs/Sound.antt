@@ -1,5 +1,5 @@
 -- What holds of every state that edits lead to.
-use Rattle.act_registry.specs.declared.limits.TheConstants.{ACTIONS_MAX, MADE_MAX}
+use Rattle.act_kinds.specs.Passed.{ACTIONS_MAX, MADE_MAX}
 use Rattle.filter_state.specs.declared.limits.TheConstants.{TABLES_MAX, MASKS_MAX, FILTERS_MAX}
 use Rattle.filter_state.specs.declared.limits.TheConstants.{LINE_ACTIONS_MAX}
 use Rattle.std.specs.Prelude.{◌≡◌, ℕ, ◌+◌, ◌<◌, ◌≤◌, ◌==◌, ◌⊎◌, true, List, [], ◌∷◌, length, IsTrue}

@@ -19,6 +19,24 @@ pub asked_under : (a b : Asked) (read name : List ℕ) → read ≡ name → App
 asked_under a b read name same all =
     subst (λ (n : List ℕ). AppendsUpTo a b (n ∷ [])) same (asked_all a b (read ∷ []) all)
 
+-- ---- the three files of a change
+pub one_of_three : (a b : Asked) (x y z : List ℕ) → AppendsUpTo a b (x ∷ []) → AppendsUpTo a b (x ∷ y ∷ z ∷ [])
+one_of_three a b x y z first = AppendsUpTo-more a b (x ∷ []) (y ∷ z ∷ []) first
+
+pub two_of_three : (a b c : Asked) (x y z : List ℕ) → Appended a b (x ∷ []) → AppendsUpTo b c (y ∷ [])
+    → AppendsUpTo a c (x ∷ y ∷ z ∷ [])
+two_of_three a b c x y z first second = AppendsUpTo-then a b c (x ∷ []) (y ∷ []) (z ∷ []) first second
+
+pub three_asked : (a b c d : Asked) (x y z : List ℕ) → Appended a b (x ∷ []) → Appended b c (y ∷ [])
+    → AppendsUpTo c d (z ∷ []) → AppendsUpTo a d (x ∷ y ∷ z ∷ [])
+three_asked a b c d x y z first second third =
+    AppendsUpTo-last a c d (x ∷ y ∷ []) (z ∷ []) (Appended-then a b c (x ∷ []) (y ∷ []) first second) third
+
+pub three_done : (a b c d : Asked) (x y z : List ℕ) → Appended a b (x ∷ []) → Appended b c (y ∷ [])
+    → Appended c d (z ∷ []) → Appended a d (x ∷ y ∷ z ∷ [])
+three_done a b c d x y z first second third =
+    Appended-then a c d (x ∷ y ∷ []) (z ∷ []) (Appended-then a b c (x ∷ []) (y ∷ []) first second) third
+
 -- files, and then more files
 pub asked_then : (a b c : Asked) (files more all : List JobFile) → all ≡ files ++ more
     → Appended a b (names_of files) → Appended b c (names_of more) → Appended a c (names_of all)

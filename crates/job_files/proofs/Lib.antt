@@ -1,5 +1,6 @@
 pub mod Adding
 pub mod Asking
+pub mod Changing
 pub mod Exact
 pub mod Joined
 pub mod Numbers

@@ -6,3 +6,4 @@ pub mod Due
 pub mod Loaded
 pub mod Growing
 pub mod OfInputs
+pub mod Changes

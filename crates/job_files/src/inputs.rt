@@ -1,4 +1,5 @@
-//! The files that a run reads: bytes, a batch or a capture under a name, or why there is none.
+//! The files that a run reads: bytes, a batch or a capture under a name, or the three of a change, or why there
+//! is none.
 //!
 //! Whoever reads asks by name and says for how many commands or packets there is room. A batch that has more
 //! commands is refused at the line at which they pass the room, a capture that has more packets as a whole:
@@ -15,10 +16,12 @@
 
 mod batches;
 mod captures;
+mod changes;
 mod faults;
 mod loading;
 
 pub use batches::{LoadedBatch, load_batch};
 pub use captures::load_capture;
+pub use changes::{LoadedChange, load_change};
 pub use faults::{bad_input, copied_name};
 pub use loading::load;

@@ -1,3 +1,4 @@
 pub mod OfOrder
 pub mod OfLookups
 pub mod OfChanges
+pub mod Passed

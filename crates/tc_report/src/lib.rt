@@ -35,3 +35,6 @@ mod shown_filters;
 
 pub use refusals::{push_bad_line, push_refused};
 pub use show::show_text;
+
+// Passed on: who stands above needs no other crate for it.
+pub use batch_run::MadeAction;

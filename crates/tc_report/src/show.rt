@@ -1,14 +1,14 @@
 //! The text that shows lists.
 ghost use Rattle.std.specs.Prelude.{◌≡◌, [], ◌∷◌, ◌++◌, codes, OnOk, IfOk, if◌then◌else◌};
 ghost use Rattle.filter_state.specs.States.{State};
-ghost use Rattle.filter_lists.specs.Spells.{Spells};
+ghost use Rattle.batch_run.specs.Passed.{Spells};
 ghost use Rattle.tc_print.specs.EditWords.{qdisc_words};
 ghost use Rattle.tc_report.specs.Show.{text_line, show_of};
 
 use crate::sheet::Sheet;
 use crate::shown_actions::push_actions;
 use crate::shown_filters::push_tables;
-use filter_lists::Lists;
+use batch_run::Lists;
 use std::alloc::{AllocError, Global};
 use tc_base::{Hook, NoMemory};
 use tc_print::{push_qdisc, push_word};

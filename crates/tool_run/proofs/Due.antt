@@ -1,5 +1,5 @@
 -- An answer that is allowed is the one that is due, and every file that a due answer reads stands.
-use Rattle.std.proofs.Common.{◌≡◌, ◌⊎◌, inl, inr, ◌∙◌, ℕ, List, Option, Some, sym, ap, subst}
+use Rattle.std.proofs.Common.{◌≡◌, ◌⊎◌, inl, inr, ◌∙◌, ℕ, Bool, List, Option, Some, sym, ap, subst}
 use Rattle.std.specs.Prelude.{is_some}
 use Rattle.batch_run.specs.declared.limit.TheConstants.{COMMANDS_MAX}
 use Rattle.walk_ends.specs.declared.limits.TheConstants.{PACKETS_MAX}
@@ -15,7 +15,7 @@ use Rattle.tool_words.specs.declared.status.InputKind.{InputKind}
 use Rattle.tool_words.specs.declared.status.InputKind.TheVariants as kinds
 use Rattle.tool_words.specs.declared.status.Status.{Status}
 use Rattle.tool_words.specs.declared.status.Status.TheVariants as statuses
-use Rattle.tool_words.specs.Command.{Request, Walk, Show, Run, Recheck, Gen, Trace, TraceReport}
+use Rattle.tool_words.specs.Command.{ChangeFiles, Request, Walk, Show, Run, Recheck, Gen, Trace, TraceReport, Foresee}
 use Rattle.tool_words.specs.Ends.{status_after}
 use Rattle.job_files.specs.OfInputs.Holdings.{Holds, HasTooManyLines, HasCapture, HasBreak}
 use Rattle.job_files.proofs.OfInputs.Readings.{same_past, not_past, not_broken, same_break}
@@ -24,6 +24,7 @@ use Rattle.tool_run.specs.Work.{BatchEnds, BatchBreaks, Ends, EndsOnly, Breaks, 
 use Rattle.tool_run.specs.Causes.{DueTo, AllowedTo}
 use Rattle.tool_run.proofs.Readings.{same_run}
 use Rattle.tool_run.proofs.Rechecking.{RecheckDue, recheck_due, one_recheck, rechecked_stands, traced_as_rechecked}
+use Rattle.tool_run.proofs.Foreseeing.{ForesightDue, foresight_due, one_foresight, foreseen_stands}
 use Rattle.tool_run.proofs.Running.{one_run, ran_stands}
 
 -- ---- a batch: it ran, or it passes the limit of commands
@@ -68,7 +69,8 @@ show_due told b statuses.Done due = inl due
 show_due told b (statuses.LinesRefused n) due = inl due
 show_due told b (statuses.BadInput name place kind) due = inr (past_due told b name place kind due)
 show_due told b (statuses.ReadFault name) due = absurd due
-show_due told b (statuses.NotLawful line) due = inl due
+show_due told b (statuses.NotLawful line reason) due = inl due
+show_due told b (statuses.NotHitless n) due = inl due
 show_due told b statuses.Usage due = absurd due
 show_due told b statuses.WriteFault due = absurd due
 show_due told b (statuses.NoMemory memory) due = absurd due
@@ -120,7 +122,8 @@ walk_due told r b c ends breaks (statuses.LinesRefused n) due = inl (ends (statu
 walk_due told r b c ends breaks (statuses.BadInput name place kind) due =
     break_due told b c name place kind (breaks name place kind due)
 walk_due told r b c ends breaks (statuses.ReadFault name) due = absurd due
-walk_due told r b c ends breaks (statuses.NotLawful line) due = inl (ends (statuses.NotLawful line) due)
+walk_due told r b c ends breaks (statuses.NotLawful line reason) due = inl (ends (statuses.NotLawful line reason) due)
+walk_due told r b c ends breaks (statuses.NotHitless n) due = inl (ends (statuses.NotHitless n) due)
 walk_due told r b c ends breaks statuses.Usage due = absurd due
 walk_due told r b c ends breaks statuses.WriteFault due = absurd due
 walk_due told r b c ends breaks (statuses.NoMemory memory) due = absurd due
@@ -176,7 +179,8 @@ gen_due told count front statuses.Done due = due
 gen_due told count front (statuses.LinesRefused n) due = due
 gen_due told count front (statuses.BadInput name place kind) due = absurd due
 gen_due told count front (statuses.ReadFault name) due = absurd due
-gen_due told count front (statuses.NotLawful line) due = due
+gen_due told count front (statuses.NotLawful line reason) due = due
+gen_due told count front (statuses.NotHitless n) due = due
 gen_due told count front statuses.Usage due = absurd due
 gen_due told count front statuses.WriteFault due = absurd due
 gen_due told count front (statuses.NoMemory memory) due = absurd due
@@ -195,7 +199,8 @@ due_allowed told r ends statuses.Done due = ends statuses.Done due
 due_allowed told r ends (statuses.LinesRefused n) due = ends (statuses.LinesRefused n) due
 due_allowed told r ends (statuses.BadInput name place kind) due = due
 due_allowed told r ends (statuses.ReadFault name) due = absurd due
-due_allowed told r ends (statuses.NotLawful line) due = ends (statuses.NotLawful line) due
+due_allowed told r ends (statuses.NotLawful line reason) due = ends (statuses.NotLawful line reason) due
+due_allowed told r ends (statuses.NotHitless n) due = ends (statuses.NotHitless n) due
 due_allowed told r ends statuses.Usage due = absurd due
 due_allowed told r ends statuses.WriteFault due = absurd due
 due_allowed told r ends (statuses.NoMemory memory) due = absurd due
@@ -230,6 +235,12 @@ report_owed : (held : Held) (j p : List ℕ) (status : Status) → DueTo (Some h
 report_owed held j p status due =
     traced_recheck (Some held) j p status (due_allowed (Some held) (TraceReport j p) (λ s e. e) status due)
 
+foresight_owed : (held : Held) (hook : Hook) (names : ChangeFiles) (force : Bool) (status : Status)
+    → DueTo (Some held) (Foresee hook names force) status → ForesightDue (Some held) hook names force status
+foresight_owed held hook names force status due =
+    foresight_due (Some held) hook names force status
+    (due_allowed (Some held) (Foresee hook names force) (λ s e. e) status due)
+
 gen_owed : (held : Held) (n : ℕ) (p : List ℕ) (status : Status) → DueTo (Some held) (Gen n p) status
     → Ends (Some held) (Gen n p) status
 gen_owed held n p status due =
@@ -250,6 +261,9 @@ is_due held (TraceReport j p) x y h k =
     one_recheck held j p x y (traced_recheck (Some held) j p x h) (report_owed held j p y k)
 is_due held (Gen n p) x y h k =
     one_gen (Some held) n p x y (gen_due (Some held) n p x h) (gen_owed held n p y k)
+is_due held (Foresee hook names force) x y h k =
+    one_foresight held hook names force x y (foresight_due (Some held) hook names force x h)
+    (foresight_owed held hook names force y k)
 
 -- a file whose reading is told stands, where some answer is due
 pub stands : (held : Held) (r : Request) (name : List ℕ) (status : Status) → IsRead (Some held) r name
@@ -267,3 +281,5 @@ stands held (Recheck j p) name status is due =
 stands held (TraceReport j p) name status is due =
     rechecked_stands held j p name status (report_owed held j p status due) is
 stands held (Gen n p) name status is due = absurd is
+stands held (Foresee hook names force) name status is due =
+    foreseen_stands held hook names force name status (foresight_owed held hook names force status due) is

@@ -1,25 +1,30 @@
 -- No answer but the one that is due comes, unless a call outside failed or memory ran out.
-use Rattle.std.proofs.Common.{◌≡◌, ◌⊎◌, inl, inr, ℕ, Bool, true, false, List, Option, Some, None, refl, sym, subst}
+use Rattle.std.proofs.Common.{◌≡◌, ◌⊎◌, inl, inr, ℕ, zero, suc, Bool, true, false, List, Option, Some, None, refl, sym, subst}
 use Rattle.std.specs.Prelude.{IsSome, IsSomeAnd, IfSome, is_some}
 use Rattle.batch_run.specs.declared.limit.TheConstants.{COMMANDS_MAX}
 use Rattle.tc_base.specs.Outside.{Held, Rose}
 use Rattle.tc_base.specs.declared.hook.Hook.{Hook}
+use Rattle.pcap_io.specs.declared.capture.Packet.{Packet}
 use Rattle.filter_state.specs.States.{no_state}
 use Rattle.batch_run.specs.Commands.{commands_of}
 use Rattle.batch_run.specs.Runs.{Ran}
 use Rattle.batch_run.proofs.Outcomes.{some_ran}
+use Rattle.change_fates.specs.Passed.{Changed, refused_in}
+use Rattle.change_fates.specs.Foreseen.{foreseen_text, not_hitless}
 use Rattle.gen_files.specs.Generated.{batch_text}
 use Rattle.tool_words.specs.declared.status.Status.{Status}
 use Rattle.tool_words.specs.declared.status.Status.TheVariants as statuses
-use Rattle.tool_words.specs.Command.{Request, Walk, Show, Run, Recheck, Gen, Trace, TraceReport}
-use Rattle.tool_words.specs.Ends.{status_after, IsAllDone}
+use Rattle.tool_words.specs.Command.{ChangeFiles, Request, Walk, Show, Run, Recheck, Gen, Trace, TraceReport, Foresee}
+use Rattle.tool_words.specs.Ends.{status_after, status_of_foreseen, IsAllDone}
 use Rattle.job_files.specs.OfInputs.Holdings.{Holds, HasBatch}
 use Rattle.job_files.specs.OfInputs.Failures.{ReadFails}
 use Rattle.tool_run.specs.Holdings.{HasRun}
 use Rattle.tool_run.specs.Work.{EndsOnly, IsRead}
 use Rattle.tool_run.specs.Causes.{DueTo, DueIn, AllowedTo, CausedTo, FailedOutside}
-use Rattle.tool_run.specs.Ready.{ShowReady, WalkReady, IsReady}
+use Rattle.tool_run.specs.Foresights.{IsChangeOf, ForesightEnds}
+use Rattle.tool_run.specs.Ready.{ShowReady, WalkReady, ChangeReady, IsReady}
 use Rattle.tool_run.proofs.Due.{is_due, stands}
+use Rattle.tool_run.proofs.Foreseeing.{some_change_of, foresees}
 use Rattle.tool_run.proofs.Rechecking.{recheck_complete, traced_complete}
 use Rattle.tool_run.proofs.Running.{run_complete}
 use Rattle.tc_base.specs.Memory.{no_memory}
@@ -80,9 +85,12 @@ exact_to held read_faults failed_name write_faults faults old new a b r (statuse
     inl (due_is (held old) r (statuses.BadInput n p k) status some cause due)
 exact_to held read_faults failed_name write_faults faults old new a b r statuses.Usage cause some status due =
     absurd cause
-exact_to held read_faults failed_name write_faults faults old new a b r (statuses.NotLawful n) cause some
+exact_to held read_faults failed_name write_faults faults old new a b r (statuses.NotLawful n reason) cause some
     status due =
-    inl (due_is (held old) r (statuses.NotLawful n) status some cause due)
+    inl (due_is (held old) r (statuses.NotLawful n reason) status some cause due)
+exact_to held read_faults failed_name write_faults faults old new a b r (statuses.NotHitless n) cause some
+    status due =
+    inl (due_is (held old) r (statuses.NotHitless n) status some cause due)
 
 -- the same where these words ask for it
 pub exact : {S O : Type 0} (held : S → Option Held) (read_faults : S → ℕ) (failed_name : S → Option (List ℕ))
@@ -136,6 +144,25 @@ gen_owes told count front =
     let has = some_ran no_state 0 (commands_of (batch_text count)) in
     batch_owes told (Gen count front) (is_some has.0.stop) (has.0, has.1, refl)
 
+-- files of a change that stand are foreseen
+foresight_owes : (told : Option Held) (hook : Hook) (names : ChangeFiles) (force : Bool) → ChangeReady told names
+    → Owes told (Foresee hook names force)
+foresight_owes told hook names force ready =
+    counts_owe (refused_in has.0) (not_hitless has.0 hook packets)
+    (foreseen_text has.0 hook packets, foresees told hook names force ready.files ready.files_stand has.0 has.1)
+  where
+    packets : List Packet
+    packets = ready.files.capture.packets
+
+    has : (it : Changed) × IsChangeOf ready.files force it
+    has = some_change_of ready.files force
+
+    counts_owe : (refused many : ℕ)
+        → ForesightEnds told hook names force (status_of_foreseen refused many) → Owes told (Foresee hook names force)
+    counts_owe zero zero ends = (statuses.Done, ends, tt)
+    counts_owe zero (suc more) ends = (statuses.NotHitless (suc more), ends, tt)
+    counts_owe (suc more) many ends = (statuses.LinesRefused (suc more), ends, tt)
+
 tells : (told : Option Held) (held : Held) → told ≡ Some held → IsSome told
 tells told held is = subst (λ (o : Option Held). IsSome o) (sym is) refl
 
@@ -158,7 +185,9 @@ quiet read_faults write_faults faults old new a b (statuses.BadInput n p k) fail
     absurd failed
 quiet read_faults write_faults faults old new a b (statuses.LinesRefused n) failed reads writes sinks =
     absurd failed
-quiet read_faults write_faults faults old new a b (statuses.NotLawful n) failed reads writes sinks =
+quiet read_faults write_faults faults old new a b (statuses.NotLawful n reason) failed reads writes sinks =
+    absurd failed
+quiet read_faults write_faults faults old new a b (statuses.NotHitless n) failed reads writes sinks =
     absurd failed
 
 -- where an answer is due and no count rose, that is the answer, or memory ran out
@@ -201,6 +230,10 @@ complete_to held read_faults failed_name write_faults faults old new a b (Trace 
     ready =
     owed_to held read_faults failed_name write_faults faults old new a b (Trace hook batch c) result cause
     (tells (held old) ready.held ready.tells) (trace_owes (held old) hook batch c ready)
+complete_to held read_faults failed_name write_faults faults old new a b (Foresee hook names force) result cause
+    ready =
+    owed_to held read_faults failed_name write_faults faults old new a b (Foresee hook names force) result cause
+    (tells (held old) ready.held ready.tells) (foresight_owes (held old) hook names force ready)
 complete_to held read_faults failed_name write_faults faults old new a b (Run job) result cause ready =
     run_complete held read_faults failed_name write_faults faults old new a b job result cause ready
 complete_to held read_faults failed_name write_faults faults old new a b (Recheck job report) result cause

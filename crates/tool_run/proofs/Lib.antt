@@ -1,6 +1,7 @@
 pub mod Asking
 pub mod Due
 pub mod Exact
+pub mod Foreseeing
 pub mod Generating
 pub mod JobFaults
 pub mod Lines

@@ -14,6 +14,7 @@ use Rattle.job_files.proofs.OfInputs.Readings.{same_bytes}
 use Rattle.job_files.specs.Holdings.{HasJob}
 use Rattle.job_files.specs.Faults.{JobBreaks}
 use Rattle.job_files.proofs.Exact.{stands}
+use Rattle.job_files.proofs.Numbers.{job_is_loaded}
 use Rattle.report_trace.specs.Passed.{IsCheckOf}
 use Rattle.report_trace.proofs.Passed.{one_answer as one_check}
 use Rattle.tool_run.specs.Rechecks.{JudgmentEnds, status_of_check, RecheckReads}
@@ -32,7 +33,8 @@ recheck_due told job report statuses.Done due = inl due
 recheck_due told job report (statuses.LinesRefused n) due = inl due
 recheck_due told job report (statuses.BadInput name place kind) due = inr (name, place, kind, due, refl)
 recheck_due told job report (statuses.ReadFault name) due = absurd due
-recheck_due told job report (statuses.NotLawful line) due = inl due
+recheck_due told job report (statuses.NotLawful line reason) due = inl due
+recheck_due told job report (statuses.NotHitless n) due = inl due
 recheck_due told job report statuses.Usage due = absurd due
 recheck_due told job report statuses.WriteFault due = absurd due
 recheck_due told job report (statuses.NoMemory memory) due = absurd due
@@ -50,7 +52,8 @@ module _ (held : Held) (job report : List ℕ) where
       let is : IsCheckOf second.loaded second.bytes h.0 =
       subst (λ (bs : List ℕ). IsCheckOf second.loaded bs h.0) bytes
       (subst (λ (l : LoadedJob). IsCheckOf l first.bytes h.0) loaded first.is) in
-      h.2 ∙ ap status_of_check (one_check second.loaded second.bytes h.0 k.0 is second.is) ∙ sym k.2
+      let can = job_is_loaded told job second.loaded second.job_held in
+      h.2 ∙ ap status_of_check (one_check second.loaded second.bytes h.0 k.0 can is second.is) ∙ sym k.2
 
   pub one_recheck : (x y : Status) → RecheckDue told job report x → RecheckDue told job report y → x ≡ y
   one_recheck x y (inl h) (inl k) = one_judged x y h k
@@ -110,7 +113,8 @@ recheck_complete held read_faults failed_name write_faults faults old new a b jo
 recheck_complete held read_faults failed_name write_faults faults old new a b job report (statuses.NoMemory memory) cause ready quiet_reads writes sinks = inr refl
 recheck_complete held read_faults failed_name write_faults faults old new a b job report statuses.Done cause ready quiet_reads writes sinks = inl tt
 recheck_complete held read_faults failed_name write_faults faults old new a b job report (statuses.LinesRefused n) cause ready quiet_reads writes sinks = inl tt
-recheck_complete held read_faults failed_name write_faults faults old new a b job report (statuses.NotLawful n) cause ready quiet_reads writes sinks = inl tt
+recheck_complete held read_faults failed_name write_faults faults old new a b job report (statuses.NotLawful n reason) cause ready quiet_reads writes sinks = inl tt
+recheck_complete held read_faults failed_name write_faults faults old new a b job report (statuses.NotHitless n) cause ready quiet_reads writes sinks = inl tt
 recheck_complete held read_faults failed_name write_faults faults old new a b job report statuses.Usage cause ready quiet_reads writes sinks = absurd cause
 
 -- ---- a trace of the report is answered as a recheck of it
@@ -120,7 +124,8 @@ traced_as_rechecked _ job report statuses.Done due = due
 traced_as_rechecked _ job report (statuses.LinesRefused n) due = due
 traced_as_rechecked _ job report (statuses.BadInput name place kind) due = due
 traced_as_rechecked _ job report (statuses.ReadFault name) due = due
-traced_as_rechecked _ job report (statuses.NotLawful line) due = due
+traced_as_rechecked _ job report (statuses.NotLawful line reason) due = due
+traced_as_rechecked _ job report (statuses.NotHitless n) due = due
 traced_as_rechecked _ job report statuses.Usage due = due
 traced_as_rechecked _ job report statuses.WriteFault due = due
 traced_as_rechecked _ job report (statuses.NoMemory memory) due = due
@@ -145,7 +150,8 @@ traced_complete {S} {O} held read_faults failed_name write_faults faults old new
     as_rechecked (statuses.LinesRefused n) cause = cause
     as_rechecked (statuses.BadInput name place kind) cause = cause
     as_rechecked (statuses.ReadFault name) cause = cause
-    as_rechecked (statuses.NotLawful line) cause = cause
+    as_rechecked (statuses.NotLawful line reason) cause = cause
+    as_rechecked (statuses.NotHitless n) cause = cause
     as_rechecked statuses.Usage cause = cause
     as_rechecked statuses.WriteFault cause = cause
     as_rechecked (statuses.NoMemory memory) cause = cause

@@ -3,6 +3,7 @@ use Rattle.std.proofs.Common.{◌≡◌, ◌∙◌, ℕ, List, Option, Ok, Err, 
 use Rattle.std.specs.Prelude.{Result, OnOk}
 use Rattle.tc_base.specs.Outside.{Held, Appended}
 use Rattle.lawful_runs.specs.declared.loaded.LoadedJob.{LoadedJob}
+use Rattle.tool_words.specs.declared.reason.Reason.{Reason}
 use Rattle.job_files.specs.Holdings.{HasJob}
 use Rattle.job_files.specs.OfInputs.Holdings.{Holds}
 use Rattle.report_trace.specs.Passed.{Check, Replay, Replayed, IsCheckOf, IsReplayedOf}
@@ -16,7 +17,7 @@ use Rattle.tool_run.specs.ReportTraces.{IsToldOf, GivesReportTrace, check_of}
 replayed_is : (loaded : LoadedJob) (bytes : List ℕ) (it : Replayed) → IsReplayedOf loaded bytes it
     → IsCheckOf loaded bytes (check_of it)
 replayed_is loaded bytes (replayed.Lawful kept) is = (is.run, (kept.journal.items, is.lawful), is.reported)
-replayed_is loaded bytes (replayed.Unlawful line) is = is
+replayed_is loaded bytes (replayed.Unlawful line reason) is = is
 
 -- and something is told of it
 some_told : (loaded : LoadedJob) (bytes : List ℕ) (it : Replayed) → IsReplayedOf loaded bytes it
@@ -31,7 +32,7 @@ some_told loaded bytes (replayed.Lawful kept) is = (
     text_is = refl;
   },
 )
-some_told loaded bytes (replayed.Unlawful line) is = (check_text (checks.Unlawful line), refl)
+some_told loaded bytes (replayed.Unlawful line reason) is = (check_text (checks.Unlawful line reason), refl)
 
 -- what is held gives what is told
 pub report_gives : (told : Option Held) (job report : List ℕ) (loaded : LoadedJob) (bytes : List ℕ)
@@ -75,19 +76,20 @@ trace_written (Ok done) a b loaded bytes other it kept is same all =
 trace_written (Err fault) a b loaded bytes other it kept is same all = tt
 
 -- of another the line that judges it
-pub told_line : (loaded : LoadedJob) (bytes : List ℕ) (it : Replayed) (line : ℕ) (check : Check)
-    → it ≡ replayed.Unlawful line → check ≡ check_of it → (text : List ℕ)
+pub told_line : (loaded : LoadedJob) (bytes : List ℕ) (it : Replayed) (line : ℕ) (reason : Reason)
+    (check : Check) → it ≡ replayed.Unlawful line reason → check ≡ check_of it → (text : List ℕ)
     → IsToldOf loaded bytes (check_of it) text → check_text check ≡ text
-told_line loaded bytes it line check is judged text told =
-    let unlawful : text ≡ check_text (checks.Unlawful line) =
+told_line loaded bytes it line reason check is judged text told =
+    let unlawful : text ≡ check_text (checks.Unlawful line reason) =
     subst (λ (r : Replayed). IsToldOf loaded bytes (check_of r) text) is told in
     ap check_text judged ∙ ap (λ (r : Replayed). check_text (check_of r)) is ∙ sym unlawful
 
 pub line_written : {T E : Type 0} (result : Result T E) (a b : Option (List ℕ)) (loaded : LoadedJob)
-    (bytes : List ℕ) (it : Replayed) (line : ℕ) (check : Check) → it ≡ replayed.Unlawful line
+    (bytes : List ℕ) (it : Replayed) (line : ℕ) (reason : Reason) (check : Check)
+    → it ≡ replayed.Unlawful line reason
     → check ≡ check_of it → OnOk result (Appended a b (check_text check))
     → OnOk result ((text : List ℕ) → IsToldOf loaded bytes (check_of it) text → Appended a b text)
-line_written (Ok done) a b loaded bytes it line check is judged all =
+line_written (Ok done) a b loaded bytes it line reason check is judged all =
     λ text told. subst (λ (t : List ℕ). Appended a b t)
-    (told_line loaded bytes it line check is judged text told) all
-line_written (Err fault) a b loaded bytes it line check is judged all = tt
+    (told_line loaded bytes it line reason check is judged text told) all
+line_written (Err fault) a b loaded bytes it line reason check is judged all = tt

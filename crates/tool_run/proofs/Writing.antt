@@ -78,6 +78,9 @@ delivery_caused held read_faults failed_name write_faults faults old between new
 delivery_caused held read_faults failed_name write_faults faults old between new a b r (statuses.ReadFault n)
     ends same fails =
     absurd fails
-delivery_caused held read_faults failed_name write_faults faults old between new a b r (statuses.NotLawful n)
+delivery_caused held read_faults failed_name write_faults faults old between new a b r (statuses.NotLawful n reason)
+    ends same fails =
+    absurd fails
+delivery_caused held read_faults failed_name write_faults faults old between new a b r (statuses.NotHitless n)
     ends same fails =
     absurd fails

@@ -5,8 +5,9 @@ use Rattle.tc_base.specs.Outside.{Held, Asked, AppendsUpTo}
 use Rattle.job_lines.specs.declared.job.CaptureName.{CaptureName}
 use Rattle.job_lines.specs.declared.job.Round.{Round}
 use Rattle.job_lines.specs.declared.job.Job.{Job}
-use Rattle.tool_words.specs.Command.{Request, Walk, Show, Run, Recheck, Gen, Trace, TraceReport}
+use Rattle.tool_words.specs.Command.{Request, Walk, Show, Run, Recheck, Gen, Trace, TraceReport, Foresee}
 use Rattle.job_files.specs.Holdings.{HasJobFile}
+use Rattle.job_files.specs.Changes.{names_in_order}
 use Rattle.job_files.specs.Inputs.{FetchesInput}
 
 -- the names of what a run of these rounds puts, in order: a round with a capture has one
@@ -35,6 +36,7 @@ Fetches told old new (Trace hook b c) = AppendsUpTo old new (b ∷ c ∷ [])
 Fetches told old new (Run job) = FetchesInput told old new job []
 Fetches told old new (Recheck job report) = FetchesInput told old new job (report ∷ [])
 Fetches told old new (TraceReport job report) = FetchesInput told old new job (report ∷ [])
+Fetches told old new (Foresee hook names force) = AppendsUpTo old new (names_in_order names)
 Fetches told old new (Gen count front) = new ≡ old
 
 abbrev pub Puts : Option Held → Asked → Asked → Request → Type 0
@@ -44,6 +46,7 @@ Puts told old new (Trace hook b c) = new ≡ old
 Puts told old new (Run job) = PutsOutput told old new job
 Puts told old new (Recheck job report) = new ≡ old
 Puts told old new (TraceReport job report) = new ≡ old
+Puts told old new (Foresee hook names force) = new ≡ old
 Puts told old new (Gen count front) = AppendsUpTo old new (made_names front)
 
 -- words that are no command ask for nothing

@@ -17,7 +17,8 @@ abbrev pub DueTo : Option Held → Request → Status → Type 0
 DueTo told request statuses.Done = EndsOnly told request statuses.Done
 DueTo told request (statuses.LinesRefused count) = EndsOnly told request (statuses.LinesRefused count)
 DueTo told request (statuses.BadInput name place kind) = Breaks told request name place kind
-DueTo told request (statuses.NotLawful line) = EndsOnly told request (statuses.NotLawful line)
+DueTo told request (statuses.NotLawful line reason) = EndsOnly told request (statuses.NotLawful line reason)
+DueTo told request (statuses.NotHitless count) = EndsOnly told request (statuses.NotHitless count)
 DueTo told request status = ⊥
 
 -- an answer that they allow: it is the one that is due, but where threads decide how a request ends
@@ -25,7 +26,8 @@ abbrev pub AllowedTo : Option Held → Request → Status → Type 0
 AllowedTo told request statuses.Done = Ends told request statuses.Done
 AllowedTo told request (statuses.LinesRefused count) = Ends told request (statuses.LinesRefused count)
 AllowedTo told request (statuses.BadInput name place kind) = Breaks told request name place kind
-AllowedTo told request (statuses.NotLawful line) = Ends told request (statuses.NotLawful line)
+AllowedTo told request (statuses.NotLawful line reason) = Ends told request (statuses.NotLawful line reason)
+AllowedTo told request (statuses.NotHitless count) = Ends told request (statuses.NotHitless count)
 AllowedTo told request status = ⊥
 
 -- words that ask for nothing are answered with Usage

@@ -1,5 +1,5 @@
 -- What a run put and wrote.
-use Rattle.std.specs.Prelude.{◌≡◌, ◌⊎◌, ℕ, List, Option, Some, None, is_some}
+use Rattle.std.specs.Prelude.{◌≡◌, ◌⊎◌, ℕ, Bool, List, Option, Some, None, is_some}
 use Rattle.tc_base.specs.Outside.{Held, Appended, AppendsUpTo, OthersStay, Stands}
 use Rattle.tc_base.specs.declared.hook.Hook.{Hook}
 use Rattle.batch_run.specs.Runs.{Ran}
@@ -7,11 +7,12 @@ use Rattle.tc_report.specs.OfShownBatches.Shown.{shown}
 use Rattle.tool_run.specs.OfGenerated.Generated.{IsRunOf, made_files, made_text}
 use Rattle.tool_words.specs.declared.status.Status.{Status}
 use Rattle.tool_words.specs.declared.status.Status.TheVariants as statuses
-use Rattle.tool_words.specs.Command.{Request, Walk, Show, Run, Recheck, Gen, Trace, TraceReport}
+use Rattle.tool_words.specs.Command.{ChangeFiles, Request, Walk, Show, Run, Recheck, Gen, Trace, TraceReport, Foresee}
 use Rattle.report_trace.specs.Passed.{Check}
 use Rattle.tool_words.specs.Requests.{Names}
 use Rattle.tool_words.specs.Ends.{status_after}
 use Rattle.tool_run.specs.Holdings.{HasRun, Gives, GivesTrace}
+use Rattle.tool_run.specs.Foresights.{GivesForesight}
 use Rattle.tool_run.specs.Made.{AllStand, AllElseStay, PutUpTo}
 use Rattle.tool_run.specs.Rechecks.{Judges, status_of_check, check_text}
 use Rattle.tool_run.specs.ReportTraces.{GivesReportTrace}
@@ -62,6 +63,14 @@ pub record TracedReport (held_old held_new : Option Held) (written_old written_n
   pub same : held_new ≡ held_old
   pub wrote : Appended written_old written_new text
 
+-- the text that foresees the packets of **the** change of the held files was written, and nothing put
+pub record Foresaw (held_old held_new : Option Held) (written_old written_new : Option (List ℕ)) (hook : Hook)
+    (names : ChangeFiles) (force : Bool) (status : Status) : Type 0 where
+  pub text : List ℕ
+  pub gives : GivesForesight held_old hook names force text status
+  pub same : held_new ≡ held_old
+  pub wrote : Appended written_old written_new text
+
 -- the four files of so many filters stand, every other name holds what it held, and the text was written
 pub record Made (held_old held_new : Option Held) (written_old written_new : Option (List ℕ)) (count : ℕ)
     (front : List ℕ) (status : Status) : Type 0 where
@@ -82,6 +91,8 @@ DeliveredTo held_old held_new written_old written_new (Walk hook b c o) status =
     status
 DeliveredTo held_old held_new written_old written_new (Trace hook b c) status =
     Traced held_old held_new written_old written_new hook b c status
+DeliveredTo held_old held_new written_old written_new (Foresee hook names force) status =
+    Foresaw held_old held_new written_old written_new hook names force status
 DeliveredTo held_old held_new written_old written_new (Gen count front) status =
     Made held_old held_new written_old written_new count front status
 DeliveredTo held_old held_new written_old written_new (Run job) status =
@@ -101,12 +112,14 @@ DeliveredIn held_old held_new written_old written_new (Some request) status =
 abbrev pub LeavesAll : Option Held → Option Held → Option (List ℕ) → Option (List ℕ) → Type 0
 LeavesAll held_old held_new written_old written_new = (held_new ≡ held_old) × (written_new ≡ written_old)
 
--- the other answers come once something was put or written: that a report isn't lawful is itself written
+-- the other answers come once something was put or written: that a report isn't lawful is itself written, and so is
+-- each packet by which a change isn't hitless
 abbrev pub LeavesAllUnlessRun : Option Held → Option Held → Option (List ℕ) → Option (List ℕ) → Status
     → Type 0
 LeavesAllUnlessRun held_old held_new written_old written_new statuses.Done = Unit {0}
 LeavesAllUnlessRun held_old held_new written_old written_new (statuses.LinesRefused count) = Unit {0}
-LeavesAllUnlessRun held_old held_new written_old written_new (statuses.NotLawful line) = Unit {0}
+LeavesAllUnlessRun held_old held_new written_old written_new (statuses.NotLawful line reason) = Unit {0}
+LeavesAllUnlessRun held_old held_new written_old written_new (statuses.NotHitless count) = Unit {0}
 LeavesAllUnlessRun held_old held_new written_old written_new statuses.WriteFault = Unit {0}
 LeavesAllUnlessRun held_old held_new written_old written_new (statuses.NoMemory memory) = Unit {0}
 LeavesAllUnlessRun held_old held_new written_old written_new status =
@@ -125,6 +138,14 @@ pub record TracedFront (held_old : Option Held) (written_old written_new : Optio
   pub text : List ℕ
   pub status : Status
   pub gives : GivesTrace held_old hook batch capture text status
+  pub wrote : AppendsUpTo written_old written_new text
+
+-- a front of the text that foresees was written
+pub record ForesawFront (held_old : Option Held) (written_old written_new : Option (List ℕ)) (hook : Hook)
+    (names : ChangeFiles) (force : Bool) : Type 0 where
+  pub text : List ℕ
+  pub status : Status
+  pub gives : GivesForesight held_old hook names force text status
   pub wrote : AppendsUpTo written_old written_new text
 
 -- a front of the answer was written
@@ -186,6 +207,9 @@ CameSoFar held_old held_new written_old written_new (Recheck job report) =
 CameSoFar held_old held_new written_old written_new (TraceReport job report) =
     (held_new ≡ held_old)
     × ((written_new ≡ written_old) ⊎ TracedReportFront held_old written_old written_new job report)
+CameSoFar held_old held_new written_old written_new (Foresee hook names force) =
+    (held_new ≡ held_old)
+    × ((written_new ≡ written_old) ⊎ ForesawFront held_old written_old written_new hook names force)
 CameSoFar held_old held_new written_old written_new (Gen count front) =
     MadeSoFar held_old held_new written_old written_new count front
 

@@ -2,6 +2,7 @@ pub mod Asks
 pub mod Causes
 pub mod Delivered
 pub mod Endings
+pub mod Foresights
 pub mod Holdings
 pub mod Made
 pub mod OfOutputs

@@ -5,9 +5,11 @@ use Rattle.std.specs.Prelude.{◌≡◌, ℕ, List, Option, Some, IsSome}
 use Rattle.tc_base.specs.Outside.{Held}
 use Rattle.pcap_io.specs.declared.capture.Capture.{Capture}
 use Rattle.lawful_runs.specs.declared.loaded.LoadedJob.{LoadedJob}
-use Rattle.tool_words.specs.Command.{Request, Walk, Show, Run, Recheck, Gen, Trace, TraceReport}
+use Rattle.tool_words.specs.Command.{ChangeFiles, Request, Walk, Show, Run, Recheck, Gen, Trace, TraceReport, Foresee}
 use Rattle.job_files.specs.OfInputs.Holdings.{Holds, HasBatch, HasCapture}
 use Rattle.job_files.specs.Holdings.{HasJob}
+use Rattle.job_files.specs.declared.inputs.changes.LoadedChange.{LoadedChange}
+use Rattle.job_files.specs.Changes.{HasChange}
 
 -- the shelf tells what it holds, and the batch stands
 pub record ShowReady (told : Option Held) (name : List ℕ) : Type 0 where
@@ -41,6 +43,13 @@ pub record RecheckReady (told : Option Held) (job report : List ℕ) : Type 0 wh
   pub bytes : List ℕ
   pub report_stands : Holds told report bytes
 
+-- the same of the files of a change
+pub record ChangeReady (told : Option Held) (names : ChangeFiles) : Type 0 where
+  pub held : Held
+  pub tells : told ≡ Some held
+  pub files : LoadedChange
+  pub files_stand : HasChange told names files
+
 -- `gen` has no input: there it is enough that the shelf tells what it holds
 abbrev pub IsReady : Option Held → Request → Type 0
 IsReady told (Show b) = ShowReady told b
@@ -49,4 +58,5 @@ IsReady told (Trace hook b c) = WalkReady told b c
 IsReady told (Run job) = RunReady told job
 IsReady told (Recheck job report) = RecheckReady told job report
 IsReady told (TraceReport job report) = RecheckReady told job report
+IsReady told (Foresee hook names force) = ChangeReady told names
 IsReady told (Gen count front) = IsSome told

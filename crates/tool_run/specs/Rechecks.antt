@@ -14,12 +14,12 @@ use Rattle.report_trace.specs.Passed.checks
 
 abbrev pub status_of_check : Check → Status
 status_of_check checks.Lawful = statuses.Done
-status_of_check (checks.Unlawful line) = statuses.NotLawful line
+status_of_check (checks.Unlawful line reason) = statuses.NotLawful line reason
 
 -- `lawful`, or `unlawful L` with the first line with which no lawful report goes on
 abbrev pub check_text : Check → List ℕ
 check_text checks.Lawful = codes "lawful\n"
-check_text (checks.Unlawful line) = counted (codes "unlawful ") line ++ codes "\n"
+check_text (checks.Unlawful line reason) = counted (codes "unlawful ") line ++ codes "\n"
 
 -- THE JOB under the one name, the report under the other, and what is answered of that report for that job
 pub record Judges (told : Option Held) (job report : List ℕ) (check : Check) : Type 0 where

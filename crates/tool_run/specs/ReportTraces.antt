@@ -11,7 +11,7 @@ use Rattle.tool_run.specs.Rechecks.{Judges, check_text}
 -- of a lawful report its trace, and of another the line that a recheck of it writes
 abbrev pub IsToldOf : LoadedJob → List ℕ → Check → List ℕ → Type 0
 IsToldOf loaded bytes checks.Lawful text = IsTraceOf loaded bytes text
-IsToldOf loaded bytes (checks.Unlawful line) text = text ≡ check_text (checks.Unlawful line)
+IsToldOf loaded bytes (checks.Unlawful line reason) text = text ≡ check_text (checks.Unlawful line reason)
 
 -- THE JOB under the one name, the report under the other, what is answered of that report, and what is told
 pub record GivesReportTrace (told : Option Held) (job report : List ℕ) (check : Check) (text : List ℕ)
@@ -22,4 +22,4 @@ pub record GivesReportTrace (told : Option Held) (job report : List ℕ) (check 
 -- the answer where the journal of a lawful report is kept
 abbrev pub check_of : Replayed → Check
 check_of (replayed.Lawful replay) = checks.Lawful
-check_of (replayed.Unlawful line) = checks.Unlawful line
+check_of (replayed.Unlawful line reason) = checks.Unlawful line reason

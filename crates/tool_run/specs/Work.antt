@@ -10,10 +10,12 @@ use Rattle.tool_words.specs.declared.status.InputKind.{InputKind}
 use Rattle.tool_words.specs.declared.status.InputKind.TheVariants as kinds
 use Rattle.tool_words.specs.declared.status.Status.{Status}
 use Rattle.tool_run.specs.OfGenerated.Generated.{IsRunOf}
-use Rattle.tool_words.specs.Command.{Request, Walk, Show, Run, Recheck, Gen, Trace, TraceReport}
+use Rattle.tool_words.specs.Command.{Request, Walk, Show, Run, Recheck, Gen, Trace, TraceReport, Foresee}
 use Rattle.tool_words.specs.Ends.{status_after}
 use Rattle.job_files.specs.OfInputs.Holdings.{HasTooManyLines, HasCapture, HasBreak}
 use Rattle.job_files.specs.Faults.{JobBreaks, JobReads}
+use Rattle.job_files.specs.Changes.{ChangeBreaks, ChangeReads}
+use Rattle.tool_run.specs.Foresights.{ForesightEnds}
 use Rattle.tool_run.specs.Holdings.{HasRun, HasCommands}
 use Rattle.tool_run.specs.Rechecks.{JudgmentEnds, RecheckReads}
 use Rattle.tool_run.specs.Runs.{JobEnds, JobEndsOnly}
@@ -32,6 +34,7 @@ Ends told (Trace hook b c) status =
 Ends told (Recheck job report) status = JudgmentEnds told job report status
 Ends told (TraceReport job report) status = JudgmentEnds told job report status
 Ends told (Run job) status = JobEnds told job status
+Ends told (Foresee hook names force) status = ForesightEnds told hook names force status
 Ends told (Gen count front) status =
     (ran : Ran) × IsRunOf count ran × (status ≡ status_after (is_some ran.stop))
 
@@ -55,6 +58,7 @@ Breaks told (Trace hook b c) name place kind =
 Breaks told (Run job) name place kind = JobBreaks told job name place kind
 Breaks told (Recheck job report) name place kind = JobBreaks told job name place kind
 Breaks told (TraceReport job report) name place kind = JobBreaks told job name place kind
+Breaks told (Foresee hook names force) name place kind = ChangeBreaks told names name place kind
 Breaks told (Gen count front) name place kind = ⊥
 
 -- an input file, with those before it held and well formed
@@ -65,4 +69,5 @@ IsRead told (Trace hook b c) name = (name ≡ b) ⊎ ((name ≡ c) × HasCommand
 IsRead told (Run job) name = JobReads told job name
 IsRead told (Recheck job report) name = RecheckReads told job report name
 IsRead told (TraceReport job report) name = RecheckReads told job report name
+IsRead told (Foresee hook names force) name = ChangeReads told names name
 IsRead told (Gen count front) name = ⊥

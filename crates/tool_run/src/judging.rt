@@ -54,7 +54,7 @@ fn answer(alloc: Global, check: Check) -> Result<Vec<u8>, AllocError>
     let mut text = Vec::new(alloc);
     match check {
         Check::Lawful => push_text(&mut text, "lawful\n")?,
-        Check::Unlawful { line } => {
+        Check::Unlawful { line, .. } => {
             push_count(&mut text, "unlawful ", line)?;
             push_text(&mut text, "\n")?;
         }

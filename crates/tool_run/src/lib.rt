@@ -7,13 +7,13 @@
 //!
 //! Each command has a module of its own, which reads its files in their order (`inputs` of `job_files`),
 //! where the first fault ends it; `run_show`, `run_walk` and `run_recheck` work out all that one command asks
-//! for, then put, then write; `run_trace` and `run_trace_report`, which are the two kinds of `trace`, have
-//! each packet told and written by itself. How a job and a report are loaded, and the line that judges them,
-//! is `judging`, for `recheck` and for `trace`. `text` writes line by line, so that a text of a million lines
-//! is never held, and `packet_line` makes each packet's line of the one before, whose number is counted up
-//! where it stands. What is put and written comes from `shown_batches` of `tc_report`, `batch_walk`,
-//! `batch_trace`, `report_check`, `report_trace` and `generated`. A walk's output is put in pieces of its
-//! input, which therefore lives until then.
+//! for, then put, then write; `run_trace` and `run_trace_report`, which are the two kinds of `trace`, and
+//! `run_foresee` have each packet told and written by itself. How a job and a report are loaded, and the
+//! line that judges them, is `judging`, for `recheck` and for `trace`. `text` writes line by line, so that a
+//! text of a million lines is never held, and `packet_line` makes each packet's line of the one before, whose
+//! number is counted up where it stands. What is put and written comes from `shown_batches` of `tc_report`,
+//! `batch_walk`, `batch_trace`, `report_check`, `report_trace`, `change_fates` and `generated`. A walk's
+//! output is put in pieces of its input, which therefore lives until then.
 //!
 //! What is said of reports and traces is imported through `report_trace`, and what a program needs beside of
 //! jobs and their runs is passed on here, so that few crates stand right below each.
@@ -38,6 +38,7 @@ mod judging;
 mod outputs;
 mod packet_line;
 mod quiet_jobs;
+mod run_foresee;
 mod run_gen;
 mod run_recheck;
 mod run_show;

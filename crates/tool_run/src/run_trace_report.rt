@@ -21,9 +21,9 @@ use tool_words::Status;
 fn judgment(replayed: &Replayed) -> Check
     ensures { result ≡ check_of replayed.now }
 {
-    match replayed {
+    match *replayed {
         Replayed::Lawful(_) => Check::Lawful,
-        Replayed::Unlawful { line } => Check::Unlawful { line: *line },
+        Replayed::Unlawful { line, reason } => Check::Unlawful { line, reason },
     }
 }
 

@@ -1,7 +1,7 @@
 //! The command that the words are, and its run.
 ghost use Rattle.std.specs.Prelude.{◌≡◌, false};
-ghost use Rattle.tool_words.specs.Command.{TraceReport, texts, request_of, runs_job, asks_for_job};
-ghost use Rattle.tool_words.specs.Requests.{request};
+ghost use Rattle.tool_words.specs.Command.{TraceReport, Foresee, texts, request_of, runs_job, asks_for_job};
+ghost use Rattle.tool_words.specs.Requests.{request, files_seen};
 ghost use Rattle.tool_words.specs.Ends.{status_after, IsAllDone};
 ghost use Rattle.tool_run.specs.Asks.{Fetches, Puts};
 ghost use Rattle.tool_run.specs.Causes.{CausedTo};
@@ -11,6 +11,7 @@ ghost use Rattle.tool_run.specs.Promises.{UsageExactlyForNoCommand, DoneOnlyIfDe
 ghost use Rattle.tool_run.specs.Promises.{DueUnlessFailed, DoneIfReady, NothingIfAtFault, CameInOrder};
 ghost use Rattle.tool_run.specs.Promises.{FetchedInOrder, PutInOrder};
 
+use crate::run_foresee::{foreseen_status, run_foresee};
 use crate::run_recheck::run_recheck;
 use crate::run_show::run_show;
 use crate::run_trace::run_trace;
@@ -18,8 +19,8 @@ use crate::run_trace_report::run_trace_report;
 use crate::run_walk::run_walk;
 use report_trace::Check;
 use std::alloc::Global;
-use tc_base::{Shelf, Sink};
-use tool_words::{Command, Status, WalkNames, command_of};
+use tc_base::{Hook, Shelf, Sink};
+use tool_words::{ChangeNames, Command, Status, WalkNames, command_of};
 
 /// How a command ends that applied a batch, of which a line was refused or none: a batch stops at its first
 /// refused line.
@@ -38,7 +39,7 @@ fn judged(check: Check) -> Status
 {
     match check {
         Check::Lawful => Status::Done,
-        Check::Unlawful { line } => Status::NotLawful { line },
+        Check::Unlawful { line, reason } => Status::NotLawful { line, reason },
     }
 }
 
@@ -65,6 +66,34 @@ fn serve_trace<S: Shelf, O: Sink>(
 {
     match run_trace_report(alloc, job, report, shelf, out) {
         Ok(check) => judged(check),
+        Err(status) => status,
+    }
+}
+
+// Foresees a change.
+fn serve_foresee<S: Shelf, O: Sink>(
+    alloc: Global,
+    hook: Hook,
+    names: &ChangeNames<'_>,
+    force: bool,
+    shelf: &mut S,
+    out: &mut O,
+) -> Status
+    ensures done { IsAllDone result → DeliveredTo (S.held shelf.old) (S.held shelf.new) (O.written out.old)
+        (O.written out.new) (Foresee hook (files_seen names.now) force) result }
+    ensures cause { CausedTo S.held S.read_faults S.failed_name S.write_faults O.faults shelf.old shelf.new
+        out.old out.new (Foresee hook (files_seen names.now) force) result }
+    ensures nothing { LeavesAllUnlessRun (S.held shelf.old) (S.held shelf.new) (O.written out.old)
+        (O.written out.new) result }
+    ensures so_far { CameSoFar (S.held shelf.old) (S.held shelf.new) (O.written out.old) (O.written out.new)
+        (Foresee hook (files_seen names.now) force) }
+    ensures fetched { Fetches (S.held shelf.old) (S.fetched shelf.old) (S.fetched shelf.new)
+        (Foresee hook (files_seen names.now) force) }
+    ensures put_names { Puts (S.held shelf.old) (S.put_names shelf.old) (S.put_names shelf.new)
+        (Foresee hook (files_seen names.now) force) }
+{
+    match run_foresee(alloc, hook, names, force, shelf, out) {
+        Ok(foreseen) => foreseen_status(foreseen),
         Err(status) => status,
     }
 }
@@ -123,6 +152,20 @@ fn serve<S: Shelf, O: Sink>(
             Err(status) => status,
         },
         Command::TraceReport { job, report } => serve_trace(alloc, job, report, shelf, out),
+        Command::Foresee {
+            hook,
+            batch,
+            change,
+            capture,
+            force,
+        } => {
+            let names = ChangeNames {
+                batch,
+                change,
+                capture,
+            };
+            serve_foresee(alloc, hook, &names, force, shelf, out)
+        }
         Command::Run { .. } | Command::Gen { .. } => unreachable!(),
     }
 }

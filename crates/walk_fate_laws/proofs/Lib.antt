@@ -11,6 +11,8 @@ pub mod Lawful
 pub mod Asking
 pub mod Meeting
 pub mod Telling
+pub mod Staying
+pub mod Timing
 pub mod Kinding
 pub mod Rounding
 pub mod Turning

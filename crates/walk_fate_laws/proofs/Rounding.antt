@@ -43,7 +43,7 @@ fold_same {X = X} (x ∷ xs) from point is =
 
 module _ (states : ℕ → State) (ceiling : ℕ) (hook : Hook) where
   -- ---- a lower floor leaves a walk
-  lower : (floor less : ℕ) (bytes points : List ℕ) (outcome : Outcome) → less ≤ floor
+  pub lower : (floor less : ℕ) (bytes points : List ℕ) (outcome : Outcome) → less ≤ floor
       → IsMet states floor ceiling hook bytes points outcome
       → IsMet states less ceiling hook bytes points outcome
   lower floor less bytes points outcome low met = record {

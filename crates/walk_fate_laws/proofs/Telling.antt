@@ -33,7 +33,7 @@ in_take (suc n) x (y ∷ xs) there = elim there [
   | inr rest ↦ inr (in_take n x xs rest)
 ]
 
-take_stands : {X : Type 0} (R : X → X → Type 0) (n : ℕ) (xs : List X) → EachBefore R xs
+pub take_stands : {X : Type 0} (R : X → X → Type 0) (n : ℕ) (xs : List X) → EachBefore R xs
     → EachBefore R (take n xs)
 take_stands R zero xs rise = tt
 take_stands R (suc n) [] rise = tt

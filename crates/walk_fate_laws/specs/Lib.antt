@@ -10,3 +10,5 @@ pub mod Told
 pub mod Kinds
 pub mod Rounds
 pub mod Turns
+pub mod Stays
+pub mod Times

@@ -1,10 +1,11 @@
 //! The laws of the fates.
-ghost use Rattle.std.specs.Prelude.{◌≡◌, ◌≢◌, ◌⊎◌, ◌<◌, ◌≤◌, ℕ, List, length, slice_get, Some};
+ghost use Rattle.std.specs.Prelude.{◌≡◌, ◌≢◌, ◌⊎◌, ◌↔◌, ◌<◌, ◌≤◌, ℕ, List, length, slice_get, Some};
 ghost use Rattle.tc_base.specs.declared.hook.Hook.{Hook};
 ghost use Rattle.filter_state.specs.Sound.{Sound};
 ghost use Rattle.filter_state.specs.States.{State};
 ghost use Rattle.walk_rules.specs.Plain.{plain_walk};
 ghost use Rattle.walk_rules.specs.Questions.{Answer};
+ghost use Rattle.point_walks.specs.Over.{Answering};
 ghost use Rattle.walk_rules.specs.Steps.{Standing};
 ghost use Rattle.walk_rules.specs.Walks.{Outcome, outcome_of};
 ghost use Rattle.walk_fate_laws.specs.declared.limits.TheConstants.{WAYS_MAX};
@@ -14,9 +15,14 @@ ghost use Rattle.walk_fate_laws.specs.Order.{AreAtMost, EachBefore, IsEarlier};
 ghost use Rattle.walk_fate_laws.specs.Meeting.{IsMet, CanHave, IsWitness};
 ghost use Rattle.walk_fate_laws.specs.Ways.{Way, AreRising};
 ghost use Rattle.walk_fate_laws.specs.Walks.{answers_over, ways_of};
-ghost use Rattle.walk_fate_laws.specs.Told.{Told, told_fates};
-ghost use Rattle.walk_fate_laws.specs.Kinds.{steady, moved, between, left_open, kind_at};
+ghost use Rattle.walk_fate_laws.specs.Told.{Told, told_fates, has_more};
+ghost use Rattle.walk_fate_laws.specs.Stays.{fate_there, plain_fate, IsAnsweredAs};
+ghost use Rattle.walk_fate_laws.specs.Times.{when_of, whens_at};
+ghost use Rattle.walk_fate_laws.specs.Kinds.{kind_at, AreSound, IsNeither, IsOfOneBetween, HasNoMore};
+ghost use Rattle.walk_fate_laws.specs.Kinds.{HasOneFate, HasOldAndNew, HasBetween, HasNeither, NoneIsBetween};
 ghost use Rattle.walk_fate_laws.specs.Rounds.{Walked, AreMet};
+
+use crate::kinds::{Kind, When};
 
 /// Each way comes to an end, and is a walk that the packet can have.
 pub fn ways_are_met()
@@ -64,25 +70,102 @@ pub fn fates_are_all()
         × (fate_of outcome ≡ told.key) }
 {}
 
-/// What a packet's kind says of the fates that it can have. `old` and `new` are those of the states before
-/// and after the change; where the first of them can be had, those of a packet that is moved differ.
+/// A walk whose visits are all made at one point, which answers as a sound state does, ends with the fate of
+/// that state's plain walk.
+pub fn one_point_is_plain()
+    ensures { (answers : Answering) (s : State) (point : ℕ) (hook : Hook) (bytes : List ℕ) → Sound s
+        → IsAnsweredAs answers point hook s
+        → fate_there answers hook bytes point ≡ Some (fate_of (plain_walk s hook bytes)) }
+{}
+
+/// Such a walk is a way, whoever answers. So its fate is told, where there are no more ways than are looked
+/// at.
+pub fn stays_are_told()
+    ensures { (answers : Answering) (before ceiling : ℕ) (hook : Hook) (bytes : List ℕ) (point : ℕ)
+        (fate : Fate) → length (ways_of answers before ceiling hook bytes) ≤ WAYS_MAX → before ≤ point
+        → point ≤ ceiling → fate_there answers hook bytes point ≡ Some fate → (told : Told)
+        × IsAmong told (told_fates answers before ceiling hook bytes) × (told.key ≡ fate) }
+{}
+
+/// When a fate is had, by the states of the points.
+pub fn whens_mean()
+    ensures before { (states : ℕ → State) (before ceiling : ℕ) (hook : Hook) (bytes : List ℕ) (fate : Fate)
+        → AreSound states before ceiling → before ≤ ceiling
+        → (when_of (answers_over states) before ceiling hook bytes fate ≡ When.Before)
+        ↔ ((fate ≡ plain_fate states hook bytes before) × (fate ≢ plain_fate states hook bytes ceiling)) }
+    ensures after { (states : ℕ → State) (before ceiling : ℕ) (hook : Hook) (bytes : List ℕ) (fate : Fate)
+        → AreSound states before ceiling → before ≤ ceiling
+        → (when_of (answers_over states) before ceiling hook bytes fate ≡ When.After)
+        ↔ ((fate ≢ plain_fate states hook bytes before) × (fate ≡ plain_fate states hook bytes ceiling)) }
+    ensures both { (states : ℕ → State) (before ceiling : ℕ) (hook : Hook) (bytes : List ℕ) (fate : Fate)
+        → AreSound states before ceiling → before ≤ ceiling
+        → (when_of (answers_over states) before ceiling hook bytes fate ≡ When.Both)
+        ↔ ((fate ≡ plain_fate states hook bytes before) × (fate ≡ plain_fate states hook bytes ceiling)) }
+    ensures between { (states : ℕ → State) (before ceiling : ℕ) (hook : Hook) (bytes : List ℕ) (fate : Fate)
+        → AreSound states before ceiling → before ≤ ceiling
+        → (when_of (answers_over states) before ceiling hook bytes fate ≡ When.Between)
+        ↔ (IsNeither (plain_fate states hook bytes before) (plain_fate states hook bytes ceiling) fate
+        × IsOfOneBetween (plain_fate states hook bytes) before ceiling fate) }
+    ensures mixed { (states : ℕ → State) (before ceiling : ℕ) (hook : Hook) (bytes : List ℕ) (fate : Fate)
+        → AreSound states before ceiling → before ≤ ceiling
+        → (when_of (answers_over states) before ceiling hook bytes fate ≡ When.Mixed)
+        ↔ (IsNeither (plain_fate states hook bytes before) (plain_fate states hook bytes ceiling) fate
+        × (IsOfOneBetween (plain_fate states hook bytes) before ceiling fate → ⊥)) }
+{}
+
+/// What a packet's kind says of the fates that it can have, where all ways are looked at. Where there are
+/// more, a fate that is between or neither is one still, and the packet is neither steady nor moved.
 pub fn kinds_mean()
     ensures steady { (states : ℕ → State) (before ceiling : ℕ) (hook : Hook) (bytes : List ℕ)
-        (old new one other : Fate) → kind_at (answers_over states) before ceiling hook bytes old new ≡ steady
-        → CanHave states before ceiling hook bytes one → CanHave states before ceiling hook bytes other
-        → one ≡ other }
+        → AreSound states before ceiling → before ≤ ceiling → HasNoMore states before ceiling hook bytes
+        → (kind_at (answers_over states) before ceiling hook bytes ≡ Kind.Steady)
+        ↔ HasOneFate (CanHave states before ceiling hook bytes) }
     ensures moved { (states : ℕ → State) (before ceiling : ℕ) (hook : Hook) (bytes : List ℕ)
-        (old new fate : Fate) → kind_at (answers_over states) before ceiling hook bytes old new ≡ moved
-        → CanHave states before ceiling hook bytes fate → (fate ≡ old) ⊎ (fate ≡ new) }
-    ensures differ { (states : ℕ → State) (before ceiling : ℕ) (hook : Hook) (bytes : List ℕ) (old new : Fate)
-        → kind_at (answers_over states) before ceiling hook bytes old new ≡ moved
-        → CanHave states before ceiling hook bytes old → old ≢ new }
+        → AreSound states before ceiling → before ≤ ceiling → HasNoMore states before ceiling hook bytes
+        → (kind_at (answers_over states) before ceiling hook bytes ≡ Kind.Moved)
+        ↔ HasOldAndNew (CanHave states before ceiling hook bytes) (plain_fate states hook bytes before)
+        (plain_fate states hook bytes ceiling) }
     ensures between { (states : ℕ → State) (before ceiling : ℕ) (hook : Hook) (bytes : List ℕ)
-        (old new : Fate) → kind_at (answers_over states) before ceiling hook bytes old new ≡ between
-        → (fate : Fate) × CanHave states before ceiling hook bytes fate × (fate ≢ old) × (fate ≢ new) }
+        → AreSound states before ceiling → before ≤ ceiling → HasNoMore states before ceiling hook bytes
+        → (kind_at (answers_over states) before ceiling hook bytes ≡ Kind.Between)
+        ↔ HasBetween (CanHave states before ceiling hook bytes) (plain_fate states hook bytes) before ceiling }
+    ensures mixed { (states : ℕ → State) (before ceiling : ℕ) (hook : Hook) (bytes : List ℕ)
+        → AreSound states before ceiling → before ≤ ceiling → HasNoMore states before ceiling hook bytes
+        → (kind_at (answers_over states) before ceiling hook bytes ≡ Kind.Mixed)
+        ↔ (HasNeither (CanHave states before ceiling hook bytes) (plain_fate states hook bytes before)
+        (plain_fate states hook bytes ceiling)
+        × NoneIsBetween (plain_fate states hook bytes) before ceiling) }
     ensures left_open { (states : ℕ → State) (before ceiling : ℕ) (hook : Hook) (bytes : List ℕ)
-        (old new : Fate) → kind_at (answers_over states) before ceiling hook bytes old new ≡ left_open
-        → WAYS_MAX < length (ways_of (answers_over states) before ceiling hook bytes) }
+        → AreSound states before ceiling → before ≤ ceiling
+        → (kind_at (answers_over states) before ceiling hook bytes ≡ Kind.Open)
+        ↔ ((WAYS_MAX < length (ways_of (answers_over states) before ceiling hook bytes))
+        × ((told : Told) → IsAmong told (told_fates (answers_over states) before ceiling hook bytes)
+        → (told.key ≡ plain_fate states hook bytes before)
+        ⊎ (told.key ≡ plain_fate states hook bytes ceiling))) }
+    ensures found { (states : ℕ → State) (before ceiling : ℕ) (hook : Hook) (bytes : List ℕ)
+        → AreSound states before ceiling → before ≤ ceiling
+        → (kind_at (answers_over states) before ceiling hook bytes ≡ Kind.Between
+        → HasBetween (CanHave states before ceiling hook bytes) (plain_fate states hook bytes) before ceiling)
+        × (kind_at (answers_over states) before ceiling hook bytes ≡ Kind.Mixed
+        → HasNeither (CanHave states before ceiling hook bytes) (plain_fate states hook bytes before)
+        (plain_fate states hook bytes ceiling)) }
+    ensures all { (states : ℕ → State) (before ceiling : ℕ) (hook : Hook) (bytes : List ℕ)
+        → (kind_at (answers_over states) before ceiling hook bytes ≡ Kind.Steady)
+        ⊎ (kind_at (answers_over states) before ceiling hook bytes ≡ Kind.Moved)
+        → HasNoMore states before ceiling hook bytes }
+{}
+
+/// Times and kinds are made of the fates that are told and of the walks at one point: where these agree,
+/// those do.
+pub fn times_agree()
+    ensures { (answers others : Answering) (before ceiling : ℕ) (hook : Hook) (bytes : List ℕ)
+        → before ≤ ceiling
+        → told_fates answers before ceiling hook bytes ≡ told_fates others before ceiling hook bytes
+        → has_more answers before ceiling hook bytes ≡ has_more others before ceiling hook bytes
+        → ((point : ℕ) → before ≤ point → point ≤ ceiling
+        → fate_there answers hook bytes point ≡ fate_there others hook bytes point)
+        → (whens_at answers before ceiling hook bytes ≡ whens_at others before ceiling hook bytes)
+        × (kind_at answers before ceiling hook bytes ≡ kind_at others before ceiling hook bytes) }
 {}
 
 /// The fate of the plain walk of each state between the two points can be had: so can those of the states

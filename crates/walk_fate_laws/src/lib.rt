@@ -17,7 +17,9 @@
 //! points need be looked at but those at which an answer changes.
 //!
 //! The fates tell whether a change is seen between: whether some packet can be let go or let through that
-//! neither the state before nor the state after would (`kinds_mean`). The fates of these two states are
+//! neither the state before nor the state after would (`kinds_mean`), and whether one state on the way would
+//! (`whens_mean`). A walk whose visits are all made at one point has the fate of that state's plain walk
+//! (`one_point_is_plain`), and is a way (`stays_are_told`). The fates of the states before and after are
 //! always among them (`each_state_is_had`), and where nothing changes there is no other
 //! (`no_change_is_plain`). How many workers there are makes no difference: a floor that a worker saw leaves a
 //! packet fewer walks, and none but these (`one_packet_alone`).
@@ -26,14 +28,15 @@
 //! it hold for any standings, questions and answers: rules under which less is bound would be another game,
 //! with the same search.
 //!
-//! Definitions and laws alone: there is nothing here to call at run time, so any thread may do anything with
-//! it.
+//! Definitions and laws alone, and the names of times and kinds: there is nothing here to call at run time,
+//! so any thread may do anything with it.
 //!
 //! Not promised: when, or how likely, a fate comes; anything of several packets together; and how many ways
 //! there are: a packet that meets many changed filters has many.
 #![tactic(auto)]
 
 mod games;
+mod kinds;
 mod laws;
 mod limits;
 
@@ -41,8 +44,10 @@ pub use games::{
     bounds_are_points, branches_are_changes, first_is_least, least_suffices, ways_are_all,
     ways_differ, ways_in_turn,
 };
+pub use kinds::{Kind, When};
 pub use laws::{
     each_state_is_had, fates_are_all, kinds_mean, met_has_way, no_change_is_plain,
-    one_packet_alone, ways_are_met, ways_rise,
+    one_packet_alone, one_point_is_plain, stays_are_told, times_agree, ways_are_met, ways_rise,
+    whens_mean,
 };
 pub use limits::WAYS_MAX;

@@ -9,8 +9,7 @@ use Rattle.filter_state.specs.Actions.{has_serial}
 use Rattle.filter_state.specs.Tables.{first_where, in_hook}
 use Rattle.filter_state.specs.Order.{SameRows, SameState, of_mask}
 use Rattle.filter_state.specs.Sound.{Sound}
-use Rattle.state_laws.proofs.OfOrder.Same.{any_same, filter_same, order_same}
-use Rattle.state_laws.proofs.OfOrder.Soundness.{sound_same}
+use Rattle.row_laws.proofs.Passed.{any_same, filter_same, order_same, sound_same}
 use Rattle.row_laws.proofs.OfOrder.OrderedRows.{sorted_same}
 use Rattle.walk_rules.specs.Questions.{Question, heads_of, filter_of, params_of, told_heads}
 use Rattle.walk_rules.specs.Heads.{heads_in}

@@ -25,6 +25,7 @@ pub fn load<S: Shelf>(alloc: Global, shelf: &mut S, name: &str) -> Result<Vec<u8
     match shelf.fetch(name) {
         Ok(bytes) => Ok(bytes),
         Err(Fetch::NoMemory(memory)) => Err(Status::NoMemory(memory)),
-        Err(Fetch::Missing | Fetch::Failed) => Err(read_fault(copied_name(alloc, name)?)),
+        Err(Fetch::Missing) => Err(read_fault(copied_name(alloc, name)?)),
+        Err(Fetch::Failed) => Err(read_fault(copied_name(alloc, name)?)),
     }
 }

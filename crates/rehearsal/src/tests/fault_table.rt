@@ -26,6 +26,8 @@ pub(crate) enum Held<'a> {
 pub(crate) enum Written<'a> {
     /// A line with each call.
     ByLines(&'a str),
+    /// A part with each call.
+    ByParts(&'a [&'a str]),
     /// All by one call.
     Whole(&'a str),
     /// All by one call, and what it is depends on threads.
@@ -111,6 +113,52 @@ const CHANGE: &str =
     "filter add dev eth0 ingress protocol ip pref 10 flower dst_ip 10.0.0.2 action drop
 filter del dev eth0 ingress protocol ip pref 10 handle 1 flower
 ";
+
+// What is told of a file that is no report.
+const NO_REPORT: &str =
+    "7 report not lawful at line 1\nline 1: no lawful report goes on so: not a report's title";
+
+// The filter that drops the first packet lets it pass for a while.
+const SWAPPED: &str =
+    "filter replace dev eth0 ingress protocol ip pref 10 handle 1 flower dst_ip 10.0.0.1 action ok
+filter replace dev eth0 ingress protocol ip pref 10 handle 1 flower dst_ip 10.0.0.1 action drop
+";
+
+const LET_THROUGH: &[&str] = &[
+    "change from 2 to 4\n",
+    "edit 3 control 1 line 1 filter pref 10 handle 0x1 actions 2
+edit 4 control 1 line 2 filter pref 10 handle 0x1 actions 3
+",
+    "packet 1 between ways 3
+fate 1 both drop length 60 points 2 2 2
+fate 1 between pass length 60 points 2 3 3
+at 1 visit 1 head ingress tables 1 point 2
+at 1 table chain 0 pref 10 protocol ip
+at 1 fields protocol ip dst_mac 02:00:00:00:00:01 src_mac 02:00:00:00:00:02 ip_proto udp \
+    src_ip 10.0.0.254/32 dst_ip 10.0.0.1/32 src_port 5000 dst_port 53 ip_ttl 64/255
+at 1 visit 2 match dst_ip 10.0.0.1/32 handle 0x1 edit 3 control 1 line 1 point 3
+at 1 visit 3 run 0 of 1 serial 2 gact ok index 2 edit 3 control 1 line 1 point 3
+packet 2 steady ways 1
+fate 2 both pass length 60 points 2 2
+foreseen packets 2 steady 1 moved 0 between 1 mixed 0 open 0
+end
+",
+];
+
+// Both lines of the change are refused.
+const NO_CHANGE: &[&str] = &[
+    "change from 2 to 2\n",
+    "refused 2 control 1 line 1 HookExists
+refused 2 control 1 line 2 HookExists
+",
+    "packet 1 steady ways 1
+fate 1 both drop length 60 points 2 2 2
+packet 2 steady ways 1
+fate 2 both pass length 60 points 2 2
+foreseen packets 2 steady 2 moved 0 between 0 mixed 0 open 0
+end
+",
+];
 
 const ROUND_FILES: &[(&str, Held)] = &[
     ("job", Held::Text(ROUNDS)),
@@ -232,7 +280,7 @@ pub(crate) const CASES: &[Case] = &[
             Call::Fetch("two"),
             Call::Fetch("more"),
         ],
-        status: "7 report not lawful at line 1",
+        status: NO_REPORT,
         written: Written::Whole("unlawful 1\n"),
     },
     // Of what is no report, `trace` writes what `recheck` writes.
@@ -247,8 +295,39 @@ pub(crate) const CASES: &[Case] = &[
             Call::Fetch("two"),
             Call::Fetch("more"),
         ],
-        status: "7 report not lawful at line 1",
+        status: NO_REPORT,
         written: Written::Whole("unlawful 1\n"),
+    },
+    Case {
+        words: &["foresee", "ingress", "batch", "change", "capture"],
+        files: &[
+            ("batch", Held::Text(DROP)),
+            ("change", Held::Text(SWAPPED)),
+            ("capture", Held::TwoPackets),
+        ],
+        calls: &[
+            Call::Fetch("batch"),
+            Call::Fetch("change"),
+            Call::Fetch("capture"),
+        ],
+        status: "8 1 packets not hitless",
+        written: Written::ByParts(LET_THROUGH),
+    },
+    // The second line of the change is tried, since it is forced.
+    Case {
+        words: &["foresee", "ingress", "batch", "change", "capture", "force"],
+        files: &[
+            ("batch", Held::Text(DROP)),
+            ("change", Held::Text(AGAIN)),
+            ("capture", Held::TwoPackets),
+        ],
+        calls: &[
+            Call::Fetch("batch"),
+            Call::Fetch("change"),
+            Call::Fetch("capture"),
+        ],
+        status: "1 2 lines refused",
+        written: Written::ByParts(NO_CHANGE),
     },
     Case {
         words: &["gen", "4", "x"],

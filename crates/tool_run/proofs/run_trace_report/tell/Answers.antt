@@ -23,10 +23,10 @@ pub returns-in-Unlawful-clause-all : goal.returns-in-Unlawful-clause-all
 returns-in-Unlawful-clause-all g c =
     line_written c.write_check.result (g.O.Sink.written c.args.out.now)
     (g.O.Sink.written c.write_check.new.out) c.args.files.now.job c.args.files.now.report.items
-    c.args.replayed.now _ c.judgment.result c.in-Unlawful.is c.judgment.ensures c.write_check.ensures.all
+    c.args.replayed.now _ _ c.judgment.result c.in-Unlawful.is c.judgment.ensures c.write_check.ensures.all
 
 pub returns-in-Unlawful-clause-up_to : goal.returns-in-Unlawful-clause-up_to
 returns-in-Unlawful-clause-up_to g c = λ text told. subst
     (λ (t : List ℕ). AppendsUpTo (g.O.Sink.written c.args.out.now) (g.O.Sink.written c.write_check.new.out) t)
-    (told_line c.args.files.now.job c.args.files.now.report.items c.args.replayed.now _ c.judgment.result
+    (told_line c.args.files.now.job c.args.files.now.report.items c.args.replayed.now _ _ c.judgment.result
     c.in-Unlawful.is c.judgment.ensures text told) c.write_check.ensures.up_to

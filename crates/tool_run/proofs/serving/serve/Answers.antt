@@ -22,3 +22,6 @@ returns-in-Ok-run_trace-clause-cause g c =
 
 pub returns-in-TraceReport-clause-cause : goal.returns-in-TraceReport-clause-cause
 returns-in-TraceReport-clause-cause g c = rw c.in-TraceReport.is (c.serve_trace.ensures.cause)
+
+pub returns-in-Foresee-clause-cause : goal.returns-in-Foresee-clause-cause
+returns-in-Foresee-clause-cause g c = rw c.in-Foresee.is (c.serve_foresee.ensures.cause)

@@ -1,5 +1,5 @@
 use Rattle.std.proofs.Common.{[], ◌∷◌}
-use Rattle.std.proofs.lemmas.Result.{IfErr-weaker}
+use Rattle.std.proofs.lemmas.Result.{IfErr-weaker, err_from_is_err_and}
 use Rattle.job_files.proofs.Asking.{asked_all}
 use Rattle.job_files.proofs.OfInputs.TooMany.{too_many_told}
 use Rattle.job_files.proofs.inputs.captures.load_capture.Goals as goal
@@ -15,3 +15,17 @@ pub returns-in_ok-name-in-Err-clause-fetched : goal.returns-in_ok-name-in-Err-cl
 returns-in_ok-name-in-Err-clause-fetched g c =
     asked_all (g.S.Shelf.fetched c.args.shelf.now) (g.S.Shelf.fetched c.load.new.shelf) (c.args.name.now ∷ [])
     c.in_ok-bytes.ensures.fetched
+
+pub returns-in_err-found-in-Err-clause-fetched : goal.returns-in_err-found-in-Err-clause-fetched
+returns-in_err-found-in-Err-clause-fetched g c =
+    let p = err_from_is_err_and c.from_residual-in_err-found-in-Err.result
+    c.from_residual-in_err-found-in-Err.ensures.1 in
+    rw p.1 (asked_all (g.S.Shelf.fetched c.args.shelf.now) (g.S.Shelf.fetched c.load.new.shelf)
+    (c.args.name.now ∷ []) c.in_ok-bytes.ensures.fetched)
+
+pub returns-in_err-name-in-Err-clause-fetched : goal.returns-in_err-name-in-Err-clause-fetched
+returns-in_err-name-in-Err-clause-fetched g c =
+    let p = err_from_is_err_and c.from_residual-in_err-name-in-Err.result
+    c.from_residual-in_err-name-in-Err.ensures.1 in
+    rw p.1 (asked_all (g.S.Shelf.fetched c.args.shelf.now) (g.S.Shelf.fetched c.load.new.shelf)
+    (c.args.name.now ∷ []) c.in_ok-bytes.ensures.fetched)

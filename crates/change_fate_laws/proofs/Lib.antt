@@ -1,0 +1,4 @@
+pub mod OneChange
+pub mod Runs
+pub mod Recording
+pub mod Together

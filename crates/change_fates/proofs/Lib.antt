@@ -1,0 +1,17 @@
+pub mod Lists
+pub mod Viewed
+pub mod Paging
+pub mod Counting
+pub mod Tagging
+pub mod Steps
+pub mod MetText
+pub mod Since
+pub mod Found
+pub mod Knowing
+pub mod FateLines
+pub mod PacketLines
+pub mod Written
+pub mod Whole
+pub mod TheChange
+pub mod Pieces
+pub mod Passed

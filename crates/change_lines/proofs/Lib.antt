@@ -1,0 +1,9 @@
+pub mod Places
+pub mod Lines
+pub mod Counts
+pub mod Reaching
+pub mod Noting
+pub mod BatchReach
+pub mod ChangeReach
+pub mod Ending
+pub mod Passed

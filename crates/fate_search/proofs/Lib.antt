@@ -1,0 +1,15 @@
+pub mod Rows
+pub mod Picking
+pub mod Nexts
+pub mod Standing
+pub mod Through
+pub mod Following
+pub mod Back
+pub mod Weights
+pub mod Noting
+pub mod Giving
+pub mod Along
+pub mod Taking
+pub mod Alike
+pub mod Keeping
+pub mod Whole

@@ -1,0 +1,9 @@
+pub mod Found
+pub mod Kept
+pub mod Branches
+pub mod LeastPoints
+pub mod Taken
+pub mod Paths
+pub mod Turned
+pub mod Searched
+pub mod Looking

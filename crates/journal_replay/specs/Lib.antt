@@ -1,0 +1,3 @@
+pub mod Placed
+pub mod Replays
+pub mod Passed
