@@ -6,12 +6,15 @@ actions know the edit that brought them, by its number in the journal.
 """
 from collections.abc import Iterable
 from dataclasses import dataclass, field, replace
-from itertools import count
+from functools import cached_property
+from itertools import count, groupby
 
 from batch_edits import ALL, ActionLine, Edit, Params
 from frame_values import ether_name
 
 HOOKS = ("ingress", "egress")
+# A table by its chain, pref and protocol, and its masks.
+Table = tuple[tuple[int, int, int], tuple[int, ...]]
 
 
 class Refused(Exception):
@@ -52,6 +55,27 @@ class State:
     masks_made: int = 0
     actions_made: int = 0
 
+    @cached_property
+    def by_mask(self) -> dict[int, dict[tuple[int, ...], Filter]]:
+        """The filters of each mask by their keys."""
+        found: dict[int, dict[tuple[int, ...], Filter]] = {}
+        for its in self.filters:
+            found.setdefault(its.mask, {})[its.key] = its
+        return found
+
+    def of_mask(self, mask: int) -> dict[tuple[int, ...], Filter]:
+        return self.by_mask.get(mask, {})
+
+    @cached_property
+    def by_hook(self) -> dict[str, list[Table]]:
+        here = {hook: sorted((it for it in self.filters if it.hook == hook), key=place_of) for hook in HOOKS}
+        return {hook: [(place, tuple(sorted({it.mask for it in its}))) for place, its in groupby(these, place_of)]
+                for hook, these in here.items()}
+
+    def tables(self, hook: str) -> list[Table]:
+        """The tables of a hook in their order, each with its masks, of which the oldest comes first."""
+        return self.by_hook[hook]
+
     def named(self, kind: str, index: int | None) -> Action | None:
         return next((it for it in self.actions.values() if (it.kind, it.index) == (kind, index)), None)
 
@@ -65,6 +89,10 @@ class State:
         serials = {serial for it in these for serial in it.actions}
         live = {serial: it for serial, it in self.actions.items() if it.stands_alone or serial in serials}
         return replace(self, filters=these, actions=live)
+
+
+def place_of(its: Filter) -> tuple[int, int, int]:
+    return its.chain, its.pref, its.protocol
 
 
 def refuse(condition: object, reason: str) -> None:

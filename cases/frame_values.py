@@ -152,6 +152,12 @@ def frame_text(frame: bytes) -> str:
     return f"protocol {ether_name(ether_type(frame))}{fields_text(values, masks)}"
 
 
+@lru_cache(maxsize=4096)
+def masked_text(frame: bytes, masks: tuple[tuple[str, int], ...]) -> str:
+    """The fields of these masks, with the frame's values under them."""
+    return fields_text(values_of(frame), dict(masks))
+
+
 def whole(name: str) -> int:
     """The mask under which all bits of a field count."""
     return 2 ** FIELDS[name][0] - 1

@@ -120,17 +120,17 @@ class State:
 
 def walk(states, hook, address, floor, choose):
     """Verdict, points and serials that ran of a packet's walk, where `choose` picks each point: from the least to the greatest that the
-    others allow, and one at which the visited thing stands."""
+    others allow, and one at which the visited thing stands, which is the head, a mask or an action."""
     points, ran, last = [], [], {}
     ceiling = len(states) - 1
 
     def visit(thing, stands):
         low = max(points[0] if points else floor, last.get(thing, 0))
-        points.append(choose(low, ceiling, lambda it: stands(states[it])))
+        points.append(choose(low, ceiling, lambda it: stands(states[it]), thing[0]))
         last[thing] = points[-1]
         return states[points[-1]]
 
-    heads = sorted({(row["pref"], row["mask"]) for row in visit("head", lambda _: True).rows if row["hook"] == hook})
+    heads = sorted({(row["pref"], row["mask"]) for row in visit(("head", 0), lambda _: True).rows if row["hook"] == hook})
     while heads:
         pref, mask = heads.pop(0)
         rows = visit(("mask", mask), lambda it, mask=mask: any(row["mask"] == mask for row in it.rows)).rows
@@ -202,7 +202,7 @@ class AnyOf:
         return self.chance.randrange(len(options))
 
     def packet(self, workers):
-        def choose(low, high, stands):
+        def choose(low, high, stands, _):
             return self.chance.choice([it for it in range(low, high + 1) if stands(it)])
 
         return self.chance.randint(1, workers), choose
@@ -225,7 +225,7 @@ class AsTold:
             raise Bad
         points = [int(it) for it in found[2].split()]
 
-        def choose(low, high, stands):
+        def choose(low, high, stands, _):
             if not points or not low <= points[0] <= high or not stands(points[0]):
                 raise Bad
             return points.pop(0)

@@ -64,6 +64,13 @@ def short_batches(*more):
                 yield name, file.read()
 
 
+def end_of(sections):
+    """The exit number of a case, and what is told on standard error."""
+    first, more = sections.get("ends", ("0", []))
+    number, _, told = first.partition(" ")
+    return int(number), "".join(f"{it}\n" for it in [told, *more] if it)
+
+
 def put_inputs(sections, room):
     """The files that are there before the program runs."""
     how, packets = sections.get("capture", ("", []))

@@ -16,11 +16,11 @@ import sys
 from collections import Counter
 from collections.abc import Callable, Iterable, Iterator
 from dataclasses import dataclass, field
-from itertools import groupby, pairwise
+from itertools import pairwise
 
 from batch_edits import ALL, BadWord, Params, class_text, commands, edit_of
-from device_states import Filter, Refused, State, protocol_text, step
-from frame_values import ether_type, fields_text, frame_text, tags, values_of
+from device_states import Filter, Refused, State, Table, protocol_text, step
+from frame_values import ether_type, frame_text, masked_text, tags, values_of
 
 VISITS, RESTARTS, JUMPS, GROWTH, LONGEST = 65_536, 16, 31, 64, 262_144
 Read = Callable[[str], bytes]
@@ -111,8 +111,7 @@ class Walk:
     def verdict_of(self) -> str:
         try:
             state = self.visit(("head", 0))
-            here = sorted((it for it in state.filters if it.hook == self.hook), key=table_of)
-            tables = [(table, sorted({it.mask for it in its})) for table, its in groupby(here, table_of)]
+            tables = state.tables(self.hook)
             self.say_visit(f"head {self.hook} tables {len(tables)}")
             chain = 0
             for left in range(RESTARTS, -1, -1):
@@ -128,7 +127,7 @@ class Walk:
             self.say("spent")
             return "drop"
 
-    def through(self, tables: Iterable[tuple[tuple[int, int, int], list[int]]]) -> tuple[str, int | None]:
+    def through(self, tables: Iterable[Table]) -> tuple[str, int | None]:
         """How the tables of a chain end: with the first control that isn't `continue`, if one comes."""
         for (chain, pref, protocol), masks in tables:
             if protocol in (ALL, ether_type(self.frame)):
@@ -146,11 +145,11 @@ class Walk:
         if frame_text(self.frame) != self.fields_told:
             self.say(f"fields {frame_text(self.frame)}")
         self.fields_told = frame_text(self.frame)
-        here = [it for it in self.visit(("mask", mask)).filters if it.mask == mask]
-        masks = here[0].masks
+        here = self.visit(("mask", mask)).of_mask(mask)
+        masks = next(iter(here.values())).masks
         key = tuple(values[name] & mask for name, mask in masks)
-        under = fields_text(values, dict(masks))
-        for found in (it for it in here if it.key == key):
+        under = masked_text(self.frame, masks)
+        if found := here.get(key):
             self.run.matches[found.edit] += 1
             self.say_visit(f"match{under} handle {found.handle:#x} {self.run.origin(found.edit)}")
             return found
@@ -211,10 +210,6 @@ class Walk:
         priority, mark, queue = self.meta.values()
         told = f" priority {class_text(priority)} mark {mark} queue {queue}"
         return text + (told if priority or mark or queue else "")
-
-
-def table_of(its: Filter) -> tuple[int, int, int]:
-    return its.chain, its.pref, its.protocol
 
 
 def frames_of(capture: bytes) -> Iterator[bytes]:

@@ -45,7 +45,7 @@ _clsact_place() {
 
 _clsact() {
     local word=${COMP_WORDS[COMP_CWORD]} command first at
-    local commands="walk show gen run recheck trace check explain json text export import convert picture sum package help"
+    local commands="walk show gen run recheck trace foresee check explain order json text export import convert picture sum package help"
     COMPREPLY=()
     if [[ $word == *\$* ]]; then
         compopt -o default 2>/dev/null
@@ -64,6 +64,10 @@ _clsact() {
         walk:2 | explain:2) _clsact_words "$word" ingress egress ;;
         walk:3 | explain:3 | show:2 | export:2) _clsact_files "$word" .tc ;;
         walk:4 | walk:5 | explain:4) _clsact_files "$word" .pcap ;;
+        foresee:2 | order:2) _clsact_words "$word" ingress egress ;;
+        foresee:3 | foresee:4 | order:3 | order:4 | order:6) _clsact_files "$word" .tc ;;
+        foresee:5 | order:5) _clsact_files "$word" .pcap ;;
+        foresee:6) _clsact_words "$word" force ;;
         trace:2)
             _clsact_words "$word" ingress egress
             _clsact_files "$word" .job
@@ -86,7 +90,11 @@ _clsact() {
             esac
             ;;
         check:4) _clsact_files "$word" .pcap ;;
-        run:2 | recheck:2 | picture:2) _clsact_files "$word" .job ;;
+        run:2 | recheck:2) _clsact_files "$word" .job ;;
+        picture:2)
+            _clsact_files "$word" .job
+            _clsact_files "$word" .txt
+            ;;
         picture:4) _clsact_files "$word" .svg ;;
         gen:3 | package:2) _clsact_files "$word" / ;;
         recheck:3 | picture:3 | sum:* | import:* | convert:*) _clsact_files "$word" ;;

@@ -1,5 +1,5 @@
 #!/usr/bin/env python3
-"""Makes the captures of the examples gateway, vlan, refused, overlap and leak: what comes in, and what is to go out by the rules of docs/FORMATS.md.
+"""Makes the captures of the examples gateway, vlan, refused, overlap, leak and foresee: what comes in, and what is to go out by the rules of docs/FORMATS.md.
 
 It shares no code with the program: the packets that pass were picked by hand.
 """
@@ -67,6 +67,22 @@ CAPTURES = {
         (3, "udp 10.0.0.1"),
     ],
     "leak/none.pcap": [],
+    "foresee/input.pcap": [
+        (1, "udp 203.0.113.9 10.0.0.1 53"),
+        (2, "tcp 203.0.113.9 10.0.0.1 443 0x010"),
+        (3, "tcp 203.0.113.9 10.0.0.1 23 0x010"),
+    ],
+    "foresee/deny.pcap": [
+        (1, "tcp 192.0.2.1 10.0.0.1 443 0x002"),
+    ],
+    "foresee/live.pcap": [
+        (1, "udp 203.0.113.5 10.0.0.1 53"),
+        (2, "tag 100 udp 203.0.113.5 10.0.0.1 53"),
+        (3, "tcp 203.0.113.5 10.0.0.1 443 0x002"),
+        (4, "tcp 203.0.113.5 10.0.0.1 80 0x010"),
+        (5, "tcp 203.0.113.5 10.0.0.1 22 0x002"),
+        (6, "udp 192.0.2.9 10.0.0.1 53"),
+    ],
     "refused/input.pcap": [
         (1, "udp 10.0.0.1"),
         (2, "udp 10.0.0.2"),

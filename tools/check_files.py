@@ -47,7 +47,8 @@ def check_report(given: Given, file: BinaryIO) -> int:
     with Progress("clsact check", "lines") as progress:
         for said in progress.upto(parts_of_text(iter(lambda: file.read(BLOCK), b""), name)):
             sort = said["type"] if isinstance(said, dict) else "packet" if isinstance(said, bytes) else "at"
-            if (sort == "report") != (progress.count == 1) or sort not in OF_REPORT:
+            is_foreseen = isinstance(said, dict) and "kind" in said and sort == "packet"
+            if (sort == "report") != (progress.count == 1) or sort not in OF_REPORT or is_foreseen:
                 raise Fault(f"{name}:{progress.count}: no report has such a line here")
             counts[sort] += said.count(b"\n") if isinstance(said, bytes) else 1
     parts = ", ".join(f"{counts[sort]} {what}" for sort, what in OF_REPORT.items() if what)

@@ -4,7 +4,7 @@ Each form of a line stands once, as a template of text_forms.py, by which it is 
 `show` is two lines, its own and that of its counts.
 
 Forms are those of docs/FORMATS.md: `walk`, `show`, `gen`, the report of a run, `trace` of a walk or of a report,
-and what a check of a report answers. What isn't promised: that a text which has these lines is one that the program
+`foresee`, and what a check of a report answers. What isn't promised: that a text which has these lines is one that the program
 would write.
 """
 import json
@@ -74,6 +74,7 @@ CODECS["action"] = Codec("|".join(it.unnamed() for it in ACTION_FORMS), action_o
 FILTER = "filter add dev eth0 {hook} protocol {protocol} pref {pref} chain {chain} handle {handle} flower"
 LEFT = "[ priority {priority:class} mark {mark} queue {queue}]"
 SUMS = " packets {packets} passed {passed} dropped {dropped}"
+KINDS = " steady {steady} moved {moved} between {between} mixed {mixed} open {open}"
 BROUGHT = " edit {edit} control {control:number} line {line}"
 POINT = "[ point {point}]"
 MET = (
@@ -94,6 +95,7 @@ TEMPLATES = (
     ("filter", FILTER + "{fields}{actions:bound}"),
     *(("refused", f"refused {{refused}} control {{control:number}} line {{line}} {it}") for it in SAID),
     ("packet", "packet {packet}[ worker {worker}] {verdict} length {length}" + LEFT + "[ points {points}]"),
+    ("packet", "packet {packet} {kind:foreseen} ways {ways}[ {more}]"),
     *(("at", "at {packet} " + it) for it in MET),
     ("decided", "decided {times}" + BROUGHT + PLACE + "[ gone {gone}]"),
     ("counter", "counter serial {serial} {kind} index {index} packets {packets} bytes {bytes}"),
@@ -102,6 +104,9 @@ TEMPLATES = (
     ("round", "round {round}"),
     *(("edit", f"{BROUGHT[1:]} {it}") for it in DONE),
     ("end round", "end round {round}"),
+    ("change", "change from {from} to {to}"),
+    ("fate", "fate {packet} {when} {verdict} length {length}[ tags {tags}]" + LEFT + " points {points}"),
+    ("foreseen", "foreseen packets {packets}" + KINDS),
     ("end", "end"),
     ("lawful", "lawful"),
     ("unlawful", "unlawful {line}"),

@@ -190,7 +190,8 @@ def too_many_packets(it: Broken) -> str:
 
 
 def too_many_lines(it: Broken) -> str:
-    more = ", of all batches of a job together" * it.asked.has_job
+    together = {"foresee": ", of batch and change together"}.get(it.asked.command, "")
+    more = ", of all batches of a job together" if it.asked.has_job else together
     return f"{it.name}:{it.place}: 262144 lines with words are the most{more}"
 
 
@@ -249,12 +250,21 @@ def cannot_write(asked: Asked, descriptor: int) -> str:
     return "; ".join(["nothing is seen now that is in the way", *free])
 
 
+def not_hitless(asked: Asked) -> str:
+    """Which command looks for an order of the change's lines that is hitless, and which lines of the text tell of the packets."""
+    names = " ".join(map(quoted, asked.words[2:5]))
+    order = f"{asked.call} order {asked.words[1]} {names} OUT looks for an order that is"
+    return f"the text's lines `fate N between` and `fate N mixed` have them; {order}"
+
+
 def hint_of(told: str, asked: Asked, descriptor: int = 1) -> str:
     """What the program's line on standard error means; nothing where that says all."""
     if told == "cannot write":
         return cannot_write(asked, descriptor)
     if found := fullmatch(r"cannot read (.*)", told):
         return cannot_read(asked, found[1])
+    if fullmatch(r"\d+ packets not hitless", told) and asked.command == "foresee":
+        return not_hitless(asked)
     found = fullmatch(r"bad input (.+) at (\d+): (\w+)(?: (\d+))?", told)
     if not found or found[3] not in OF_FORM:
         return ""

@@ -7,61 +7,22 @@ the row's end. Dots and lines have tooltips. Above 500 packets bars show how man
 rows are drawn of packets that met several points and of an even sample; dots and edits that would lie on one
 another are drawn as one, and the picture says so. It is light or dark as its reader likes.
 """
-import errno
 import os
-import textwrap
 from collections import Counter
 from collections.abc import Iterator
-from html import escape
 from math import log
 
-from batch_lines import seen_text
 from clsact_texts import Object, reason_of, spell_object
+from foreseen_picture import foreseen_picture
 from job_runs import Event, Job, Report
 from progress import Progress
+from put_files import hold_output, put
 from run_samples import MOST
-from tool_ends import Fault, OneLineParser, end_with, shown
+from svg_parts import EVERY, WIDTH, dot_places, folded, line, row_height, text, titled, visit_text, whole_picture
+from tool_ends import OneLineParser, end_with, shown
 
-WIDTH, LEFT, RIGHT, TOP = 880, 130, 60, 112
-LISTED, BARS, LETTERS = 12, 130, 125
-HEIGHTS = ((20, 24), (60, 16), (150, 11))
-EVERY: list[int] = [digit * 10 ** zeros for zeros in range(9) for digit in (1, 2, 5)]
-STYLE = """
-text { font: 12px sans-serif; fill: #333 } .head { font-size: 16px; font-weight: bold }
-.small { font-size: 11px }
-.mid { text-anchor: middle } .end { text-anchor: end } .note { fill: #666 } .back { fill: #fff }
-.pass { fill: #0072b2 } .drop { fill: #d55e00 } .ring { fill: none; stroke: #333; stroke-width: 1.5 }
-.fine { stroke-width: .8 } .row { stroke: #bbb } .axis { stroke: #555 } .round { fill: #ececec }
-.edit { stroke: #555; stroke-dasharray: 3 3 } .thin { opacity: .35 }
-.cross { stroke: #a0005a; stroke-width: 2 }
-@media (prefers-color-scheme: dark) {
-text { fill: #ddd } .note { fill: #aaa } .back { fill: #14181d }
-.pass { fill: #56b4e9 } .drop { fill: #f08c3a }
-.ring { stroke: #ddd } .row { stroke: #4a4f57 } .edit, .axis { stroke: #999 } .round { fill: #272d35 }
-.cross { stroke: #ff8ad0 }
-}
-"""
-
-
-def clean(text: str) -> str:
-    return escape(seen_text(text.replace("\t", " ")))
-
-
-def text(x: float, y: float, what: str, sort: str = "") -> str:
-    return f'<text x="{x:.1f}" y="{y:.1f}" class="{sort}">{clean(what)}</text>'
-
-
-def line(x: float, y: float, to_x: float, to_y: float, sort: str) -> str:
-    return f'<line x1="{x:.1f}" y1="{y:.1f}" x2="{to_x:.1f}" y2="{to_y:.1f}" class="{sort}"/>'
-
-
-def titled(what: str, title: str) -> str:
-    return f"<g>{what}<title>{clean(title)}</title></g>"
-
-
-def folded(what: str) -> list[str]:
-    """A text in lines that the picture has room for, cut nowhere but at spaces, where there are any."""
-    return textwrap.wrap(what, LETTERS, subsequent_indent="    ", break_on_hyphens=False) or [""]
+LEFT, RIGHT, TOP = 130, 60, 112
+LISTED, BARS = 12, 130
 
 
 def event_text(event: Event) -> str:
@@ -84,7 +45,7 @@ class Picture:
         lowest = min(visited, default=0)
         self.low = lowest - 1 if lowest > 20 else 0
         self.step = min(150.0, (WIDTH - self.left - RIGHT) / (report.point - self.low + 1))
-        self.row = next((height for most, height in HEIGHTS if self.count <= most), 7)
+        self.row = row_height(self.count)
         self.every = next(it for it in EVERY if it * self.step >= 34)
         self.top = TOP + BARS * (self.count > MOST)
         self.bottom = self.top + self.row * max(1, len(self.packets))
@@ -161,22 +122,14 @@ class Picture:
         for x, visits in places.items():
             dot = f'<circle cx="{x:.1f}" cy="{y:.1f}" r="{radius}" class="{packet["verdict"]}"/>'
             ring = f'<circle cx="{x:.1f}" cy="{y:.1f}" r="{radius + 2}" class="{self.ring}"/>'
-            yield titled(dot + ring * (visits[0] == 0), visit_text(packet, visits))
+            told = (spell_object(packet) or "").split(" points ")[0]
+            yield titled(dot + ring * (visits[0] == 0), visit_text(told, packet["points"], visits))
 
     def places(self, points: list[int]) -> dict[float, list[int]]:
         """Where each dot lies, and for which visits it stands."""
-        columns: dict[int, list[int]] = {}
-        for visit, point in enumerate(points):
-            columns.setdefault(point, []).append(visit)
-        near: dict[int, tuple[float, list[int]]] = {}
-        for point, visits in columns.items():
-            dots = min(max(1, int(self.step / 14)), len(visits))
-            for dot in range(dots):
-                x = self.edge(point) + self.step * (dot + 1) / (dots + 1)
-                own = visits[dot:] if dot == dots - 1 else visits[dot:dot + 1]
-                near.setdefault(int(x / 3), (x, []))[1].extend(own)
+        near = dot_places(points, self.edge, self.step)
         self.is_shared = self.is_shared or len(near) < len(points)
-        return {x: sorted(visits) for x, visits in near.values()}
+        return near
 
     def bars(self) -> Iterator[str]:
         """Above the rows of a sample: a bar for the visits that points answered, of all packets, by the logarithm of
@@ -249,60 +202,27 @@ class Picture:
         body = [*self.rounds(), *self.events(), *self.bars(), *self.rows(), *self.axis(), *self.legend()]
         below = [line for it in self.told() for line in folded(it)]
         body += [text(16, self.bottom + 60 + 17 * place, it, "note small") for place, it in enumerate(below)]
-        height = self.bottom + 62 + 17 * len(below)
-        size = f'viewBox="0 0 {WIDTH} {height}" width="{WIDTH}" height="{height}"'
         title = f"Visits of {self.count} packets at the points of {self.report.point} edits"
-        head = [f'<svg xmlns="http://www.w3.org/2000/svg" {size} role="img">', f"<title>{title}</title>"]
-        head += [f"<style>{STYLE}</style>", f'<rect width="{WIDTH}" height="{height}" rx="6" class="back"/>']
-        return "\n".join([*head, *body, "</svg>\n"])
-
-
-def visit_text(packet: Object, visits: list[int]) -> str:
-    """A dot's tooltip: the packet, which of its visits these are, and the points."""
-    points = sorted({packet["points"][it] for it in visits})
-    sort = " (the hook's tables)" if visits == [0] else ""
-    name = f"visit {visits[0] + 1}" if len(visits) == 1 else f"visits {visits[0] + 1} to {visits[-1] + 1}"
-    point = f"point {points[0]}" if len(points) == 1 else f"points {points[0]} to {points[-1]}"
-    told = (spell_object(packet) or "").split(" points ")[0]
-    return f"{told}: {name} of {len(packet['points'])}{sort} at {point}"
-
-
-def put(name: str, content: str) -> None:
-    """Writes a file beside OUT and gives it that name, so that OUT is never half-written."""
-    beside = f"{os.path.realpath(name)}.{os.getpid()}.part"
-    try:
-        if os.path.exists(name) and not os.path.isfile(name):
-            beside = name
-        with open(beside, "w", encoding="utf-8") as file:
-            file.write(content)
-        if beside != name:
-            os.replace(beside, os.path.realpath(name))
-    except OSError as error:
-        if beside != name and os.path.exists(beside):
-            os.remove(beside)
-        raise Fault(f"{shown(name)}: cannot write: {error.strerror}") from None
-
-
-def hold_output(name: str) -> None:
-    """That OUT is no folder and its folder is there, which is told before a long report is read."""
-    folder = os.path.dirname(name) or "."
-    number = errno.EISDIR if os.path.isdir(name) else 0 if os.path.isdir(folder) else errno.ENOENT
-    if number:
-        raise Fault(f"{shown(name)}: cannot write: {os.strerror(number)}")
+        return whole_picture(self.bottom + 62 + 17 * len(below), title, body)
 
 
 def main(words: list[str]) -> int:
-    about = "Draws what the packets of a run met while lines were applied, as SVG."
+    about = "Draws what the packets of a run met while lines were applied, or what `foresee` tells of them, as SVG."
     more = """The job's batches are read under the names that it gives them, so start it where the job runs.
         Nothing is written where a file breaks its form, or where the report isn't one of the job."""
     parser = OneLineParser(prog="./clsact picture", description=about, epilog=more)
-    parser.add_argument("JOB", help="the job file")
-    parser.add_argument("REPORT", help="the report of its run")
+    parser.usage = "./clsact picture [-h] JOB REPORT OUT | FORESEEN OUT"
+    parser.add_argument("JOB", help="the job file, or the text of `foresee`")
+    parser.add_argument("REPORT", nargs="?", help="the report of the job's run")
     parser.add_argument("OUT", help="the picture; what stood there is replaced")
     given = parser.parse_args(words)
     hold_output(given.OUT)
-    with Progress("clsact picture", "lines") as progress:
-        drawn = Picture(given.JOB, Report(given.REPORT, Job(given.JOB), progress)).drawn()
+    if given.REPORT is None:
+        with Progress("clsact picture", "lines") as progress:
+            drawn = foreseen_picture(given.JOB, progress)
+    else:
+        with Progress("clsact picture", "lines") as progress:
+            drawn = Picture(given.JOB, Report(given.REPORT, Job(given.JOB), progress)).drawn()
     put(given.OUT, drawn)
     return 0
 

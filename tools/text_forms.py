@@ -13,6 +13,7 @@ from packet_lines import CLASS, N
 
 Object = dict[str, Any]
 KIND = "(?:gact|vlan|skbedit)"
+TAG = "[0-9a-f]{4}:[0-9a-f]{4}"
 
 
 @dataclass(frozen=True)
@@ -68,6 +69,15 @@ def no_room(said: Any) -> str:
     return "no room" if said is False else ""
 
 
+def more_text(said: Any) -> str:
+    """What is told where there are more ways; nothing that reads as a line for another word."""
+    return "more" if said is True else ""
+
+
+def tags_of(words: str) -> list[str]:
+    return words.split(",")
+
+
 CODECS = {
     "number": Codec(N, int),
     "word": Codec("[!-~]+", word_value),
@@ -81,6 +91,10 @@ CODECS = {
     "fields": Codec("(?: (?!action )[a-z_]+ [!-~]+)*", fields_of, fields_text),
     "under": Codec("(?: (?!handle |point )[a-z_]+ [!-~]+)*", fields_of, fields_text),
     "room": Codec("no room", lambda _: False, no_room),
+    "foreseen": Codec("steady|moved|between|mixed|open", str),
+    "when": Codec("before|after|both|between|mixed", str),
+    "more": Codec("more", lambda _: True, more_text),
+    "tags": Codec(f"{TAG}(?:,{TAG})*", tags_of, ",".join),
     "bound": Codec(f"(?: action {KIND} index {N})*", bound_of, bound_text),
     "serials": Codec(f"none|{N}(?:,{N})*", serials_of, serials_text),
     "points": Codec(f"{N}(?: {N})*", points_of, points_text),

@@ -40,8 +40,15 @@ def forms() -> list[list[str]]:
 
 
 def forms_of(command: str) -> list[list[str]]:
-    """The words that stand behind a command, in each of its forms; nothing where there is no such command."""
-    return [form[1:] for form in forms() if form[0] == command]
+    """The words that stand behind a command, in each of its forms; nothing where there is no such command. A last
+    word in brackets may be left away."""
+    those = [form[1:] for form in forms() if form[0] == command]
+    return [[it.strip("[]") for it in form[:length]] for form in those for length in lengths_of(form)]
+
+
+def lengths_of(form: list[str]) -> list[int]:
+    """How many words a form may have."""
+    return [len(form) - 1, len(form)] if form and form[-1].startswith("[") else [len(form)]
 
 
 def whole_usage() -> str:
@@ -53,7 +60,7 @@ def whole_usage() -> str:
 
 def usage_line() -> str:
     """The program's own usage, which it writes on standard error."""
-    return "usage: " + " | ".join(map(" ".join, forms()))
+    return "usage: " + " | ".join(map(" ".join, forms())).replace("[", "[ ").replace("]", " ]")
 
 
 def wrong_value(name: str, word: str) -> str:
@@ -62,6 +69,8 @@ def wrong_value(name: str, word: str) -> str:
         return f"{shown(word)}, which stands for {name}, isn't UTF-8"
     if name == "HOOK" and word not in HOOKS:
         return f"{shown(word)} is no hook: ingress or egress"
+    if name == "force" and word != "force":
+        return f"{shown(word)} stands where only force may"
     if name == "N" and not (COUNT.fullmatch(word) and int(word) <= 4096):
         return f"{shown(word)} is no N: 1 to 4096, in decimal without a leading 0"
     if name == "PREFIX" and not PREFIX.fullmatch(word):
