@@ -11,3 +11,7 @@ pub mod Pages
 pub mod Shown
 pub mod DecidedText
 pub mod Written
+pub mod Untold
+pub mod Free
+pub mod ToldLines
+pub mod OwnLines

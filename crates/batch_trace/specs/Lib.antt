@@ -2,3 +2,4 @@ pub mod Accepted
 pub mod Traced
 pub mod Meeting
 pub mod Passed
+pub mod Untold

@@ -12,6 +12,7 @@ ghost use Rattle.batch_walk.specs.Walked.{walk_text, IsWalked};
 ghost use Rattle.filter_origins.specs.Entries.{Entry, edits_of};
 ghost use Rattle.batch_trace.specs.Accepted.{AreAccepted};
 ghost use Rattle.batch_trace.specs.Traced.{own_in, trace_parts, trace_text, told_trace};
+ghost use Rattle.batch_trace.specs.Untold.{without_told};
 
 /// The commands of a batch have one list of accepted edits: at least one, and not two.
 pub fn one_list()
@@ -36,8 +37,11 @@ pub fn walks_are_traced()
         → IsWalked ran hook capture walk → length walk.text.ends ≡ length capture.packets }
 {}
 
-/// A trace without the parts that it tells beside is the text of the walk.
+/// A trace without the parts that it tells beside is the text of the walk. They can be told by the bytes
+/// alone: it is what is left without the lines that begin with `at ` and `decided `.
 pub fn nothing_else_is_told()
-    ensures { (ran : Ran) (entries : List Entry) (hook : Hook) (packets : List Packet)
+    ensures parts { (ran : Ran) (entries : List Entry) (hook : Hook) (packets : List Packet)
         → own_in (trace_parts ran entries hook packets) ≡ walk_text ran hook packets }
+    ensures lines { (ran : Ran) (entries : List Entry) (hook : Hook) (packets : List Packet)
+        → without_told (trace_text ran entries hook packets) ≡ walk_text ran hook packets }
 {}

@@ -24,7 +24,7 @@ use Rattle.report_trace.proofs.Fit.{fit_rounds}
 use Rattle.report_trace.proofs.OneTrace.{text_of_run}
 
 -- as many places as accepted edits
-places_counted : (its : List RoundRecord) → length (places_in its) ≡ edits_in its
+pub places_counted : (its : List RoundRecord) → length (places_in its) ≡ edits_in its
 places_counted [] = refl
 places_counted (it ∷ its) =
     let own : length (places_of it.events) ≡ accepted_count it.events = length-map (filter (λ (event : Event). is_accepted event.kind) it.events) place_of ∙ length-filter (λ (event : Event). is_accepted event.kind) it.events in

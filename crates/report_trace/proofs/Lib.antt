@@ -14,3 +14,5 @@ pub mod Decided
 pub mod RoundsAt
 pub mod Turns
 pub mod Whole
+pub mod OwnLines
+pub mod Visited

@@ -3,3 +3,4 @@ pub mod Knowing
 pub mod Writing
 pub mod Rounds
 pub mod Passed
+pub mod Visited

@@ -24,6 +24,6 @@ mod telling;
 mod writing;
 
 pub use batch_trace::{trace_batch, write_trace};
-pub use laws::{nothing_else_is_told, one_trace};
+pub use laws::{nothing_else_is_told, one_trace, steps_are_lawful_visits};
 pub use report_check::{Check, Replayed, recheck, replay};
 pub use writing::trace_report;
