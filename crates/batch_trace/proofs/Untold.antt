@@ -37,7 +37,7 @@ pub line_stays : (line : List ℕ) → free line ≡ true → is_told line ≡ f
 line_stays line is other = λ rest. first_left line rest is ∙ ap (λ (b : Bool). (if b then [] else line ++ (10 ∷ [])) ++ without_told rest) other
 
 pub line_goes : (line : List ℕ) → free line ≡ true → is_told line ≡ true → Goes (line ++ (10 ∷ []))
-line_goes line is told = λ rest. first_left line rest is ∙ ap (λ (b : Bool). (if b then [] else line ++ (10 ∷ [])) ++ without_told rest) told
+line_goes line is begins = λ rest. first_left line rest is ∙ ap (λ (b : Bool). (if b then [] else line ++ (10 ∷ [])) ++ without_told rest) begins
 
 pub none_stays : Stays []
 none_stays = λ rest. refl
