@@ -1,6 +1,6 @@
 -- In the words that are printed no line ends, whatever the numbers.
-use Rattle.std.proofs.Common.{◌≡◌, ◌∙◌, ℕ, zero, suc, ◌+◌, ◌≤◌, ◌/◌, ◌%◌, ◌^◌, ◌==◌, Bool, true, false, List, [], ◌∷◌, ◌++◌, Option, Some, None, refl, ap, arith}
-use Rattle.std.specs.Prelude.{not, nat_lt, map, codes, ◌&&◌, if◌then◌else◌}
+use Rattle.std.proofs.Common.{◌≡◌, ◌∙◌, ℕ, zero, suc, ◌+◌, ◌/◌, ◌%◌, ◌^◌, ◌==◌, Bool, true, false, List, [], ◌∷◌, ◌++◌, Option, Some, None, refl, arith}
+use Rattle.std.specs.Prelude.{not, nat_lt, codes, ◌&&◌, if◌then◌else◌}
 use Rattle.std.specs.List.{list_all, join_with_byte, flat_map}
 use Rattle.std.specs.Option.{unwrap_or}
 use Rattle.std.specs.Char.{digit_char}
@@ -28,7 +28,7 @@ use Rattle.line_texts.specs.Texts.{two_groups, two_octets, dotted, ipv4_text, fo
 use Rattle.line_texts.proofs.Joins.{and-both, all-joined}
 use Rattle.tc_print.specs.EditWords.{hook_text}
 use Rattle.tc_print.specs.ActionWords.{control_words, number_words, tag_words, op_words, class_words, mark_words, params_words}
-use Rattle.tc_print.specs.FieldWords.{name_text, value_text, value_by_number, words_by_number, field_words, prefix_words, named_words, all_names, prefixes_words, fields_words}
+use Rattle.tc_print.specs.FieldWords.{name_text, value_text, value_by_number, field_words, prefix_words, named_words, all_names, prefixes_words, fields_words}
 use Rattle.batch_trace.proofs.Untold.{free}
 
 abbrev is_inner : ℕ → Bool

@@ -1,6 +1,6 @@
 -- No line of a walk's text begins as one that is told beside, and each ends at its one line feed.
-use Rattle.std.proofs.Common.{◌≡◌, ◌∙◌, ℕ, ◌+◌, ◌==◌, Bool, true, false, List, [], ◌∷◌, ◌++◌, length, Option, Some, None, refl, ap, subst}
-use Rattle.std.specs.Prelude.{map, get_or, codes, ◌&&◌, ◌-◌, is_some, if◌then◌else◌}
+use Rattle.std.proofs.Common.{◌≡◌, ◌∙◌, ℕ, ◌+◌, ◌==◌, Bool, true, false, List, [], ◌∷◌, ◌++◌, Option, Some, None, refl}
+use Rattle.std.specs.Prelude.{map, codes, ◌&&◌, is_some, if◌then◌else◌}
 use Rattle.std.specs.List.{join_with_byte}
 use Rattle.std.specs.Fmt.{decimal}
 use Rattle.tc_base.specs.declared.hook.Hook.{Hook}
@@ -24,14 +24,13 @@ use Rattle.walk_texts.specs.declared.summary.Summary.{Summary}
 use Rattle.walk_texts.specs.Texts.{joined, counted, verdict_text, meta_text, end_text, action_text, count_text, counter_line, edits_text, verdicts_text, summary_line}
 use Rattle.capture_walk.specs.declared.ends.PacketEnd.{PacketEnd}
 use Rattle.capture_walk.specs.Captures.{outcomes_of, end_of, counts_of, executed_in}
-use Rattle.batch_walk.specs.Texts.{packet_line, nothing_counted, counter_lines, closing_lines}
-use Rattle.batch_walk.specs.Walked.{summary_of, closing_after, closing_text, walk_text}
+use Rattle.batch_walk.specs.Texts.{packet_line, counter_lines, closing_lines}
+use Rattle.batch_walk.specs.Walked.{summary_of, closing_text, walk_text}
 use Rattle.filter_origins.specs.Entries.{Entry}
-use Rattle.filter_origins.specs.Origins.{brought_of}
 use Rattle.walk_trace.specs.Tallies.{times_in}
 use Rattle.journal_names.specs.Known.{names_of}
-use Rattle.batch_trace.specs.Traced.{is_standing, decisions, decided_lines, steps_in, met_text, Part, own, told, packet_parts, parts_with, trace_parts, trace_text}
-use Rattle.batch_trace.specs.Untold.{is_told, without_told}
+use Rattle.batch_trace.specs.Traced.{decisions, decided_lines, steps_in, Part, own, told, packet_parts, trace_parts, trace_text}
+use Rattle.batch_trace.specs.Untold.{without_told}
 use Rattle.batch_trace.proofs.Parts.{nothing_else}
 use Rattle.batch_trace.proofs.Untold.{free, Stays, AllStay, line_stays, none_stays, all_stay_append, joined_stay, AreFair, fair_append, own_left}
 use Rattle.batch_trace.proofs.Free.{free_append, all_free, word_more, words_append, spaced_free, decimal_free, handle_free, protocol_free, class_free, kind_free}

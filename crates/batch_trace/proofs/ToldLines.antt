@@ -1,6 +1,6 @@
 -- Each line that a trace tells beside begins with `at ` or `decided ` and ends at its one line feed.
-use Rattle.std.proofs.Common.{◌≡◌, ◌∙◌, ℕ, ◌+◌, ◌<◌, ◌==◌, Bool, true, false, List, [], ◌∷◌, ◌++◌, length, Option, Some, None, fold, refl, sym, ap, subst, arith}
-use Rattle.std.specs.Prelude.{map, codes, filter, if◌then◌else◌}
+use Rattle.std.proofs.Common.{◌≡◌, ℕ, ◌+◌, ◌<◌, ◌==◌, Bool, true, false, List, [], ◌∷◌, ◌++◌, length, Option, Some, None, fold, refl, sym, subst, arith}
+use Rattle.std.specs.Prelude.{map, codes, if◌then◌else◌}
 use Rattle.std.specs.Fmt.{decimal}
 use Rattle.tc_base.specs.declared.hook.Hook.{Hook}
 use Rattle.frame_edit.specs.EditedFrame.{EditedFrame}
@@ -24,10 +24,10 @@ use Rattle.trace_lines.specs.Names.{Names}
 use Rattle.trace_lines.specs.Steps.{Step}
 use Rattle.trace_lines.specs.Fields.{words_with, whole_masks, value_words, frame_words, key_under, sought_words}
 use Rattle.trace_lines.specs.Parts.{words_behind}
-use Rattle.trace_lines.specs.Lines.{line_of, at_line, point_words, by_words, maker_words, origin_words, table_words, table_lines, Seen, is_seen, frame_lines, seen_after, head_words, miss_words, match_origin, match_words}
+use Rattle.trace_lines.specs.Lines.{at_line, point_words, by_words, maker_words, origin_words, table_words, table_lines, Seen, is_seen, frame_lines, seen_after, head_words, match_origin, match_words}
 use Rattle.trace_lines.specs.Lines.{finds_no_room, room_words, length_words, run_words, visit_words, restart_chain, restart_words, restart_lines, run_lines, needs_visit, spent_lines, lines_before, visit_lines, step_lines, walk_lines}
 use Rattle.trace_lines.proofs.Kept.{behind}
-use Rattle.journal_names.specs.Decided.{place_words, gone_words, decided_words, decided_line}
+use Rattle.journal_names.specs.Decided.{place_words, gone_words, decided_line}
 use Rattle.batch_trace.specs.Untold.{is_told}
 use Rattle.batch_trace.proofs.Untold.{free, Goes, AllGo, line_goes, none_goes, all_go_append, joined_go}
 use Rattle.batch_trace.proofs.Free.{free_append, all_free, word_more, words_append, words_if, behind_free, decimal_free, handle_free, ether_free, protocol_free, fields_free, hook_free, number_free, params_free}
