@@ -1,13 +1,13 @@
 -- Of a report's trace the lines that are told beside go, and the report's own stay.
 use Rattle.std.proofs.Common.{◌≡◌, ◌∙◌, ℕ, ◌+◌, List, [], ◌∷◌, ◌++◌, length, None, true, refl, sym, ap}
 use Rattle.std.specs.Prelude.{codes, map, take}
-use Rattle.std.specs.List.{enumerate_from, flat_map, join_with_byte}
+use Rattle.std.specs.List.{enumerate_from, flat_map}
 use Rattle.std.specs.Fmt.{decimal}
 use Rattle.filter_state.specs.declared.edit.Edit.{Edit}
 use Rattle.filter_state.specs.declared.refusal.Done.{Done}
 use Rattle.filter_state.specs.declared.refusal.Done.TheVariants as dones
 use Rattle.line_texts.specs.Texts.{handle_text}
-use Rattle.walk_texts.specs.Texts.{joined, counted, end_text, summary_line}
+use Rattle.walk_texts.specs.Texts.{joined, counted, end_text}
 use Rattle.run_report.specs.declared.events.EventKind.{EventKind}
 use Rattle.run_report.specs.declared.events.EventKind.TheVariants as kinds
 use Rattle.run_report.specs.declared.events.Event.{Event}
@@ -24,7 +24,7 @@ use Rattle.lawful_runs.specs.Given.{Arrival, GivenRound, given_rounds}
 use Rattle.lawful_runs.specs.Lawful.{IsRunWith}
 use Rattle.batch_trace.specs.Passed.{Entry, brought_of, names_of}
 use Rattle.walk_trace.specs.Tallies.{times_in}
-use Rattle.batch_trace.specs.Traced.{Part, own, told}
+use Rattle.batch_trace.specs.Traced.{Part, own}
 use Rattle.batch_trace.specs.Untold.{without_told}
 use Rattle.batch_trace.proofs.Untold.{free, Stays, AllStay, line_stays, joined_stay, AreFair, fair_append, own_left}
 use Rattle.batch_trace.proofs.Free.{free_append, all_free, word_more, join_free, decimal_free, handle_free}

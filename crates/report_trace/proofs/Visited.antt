@@ -1,5 +1,5 @@
 -- The steps that are told of a packet are the visits of its lawful walk.
-use Rattle.std.proofs.Common.{◌≡◌, ℕ, ◌+◌, List, length, get_or, take, Some, sym, subst, arith}
+use Rattle.std.proofs.Common.{◌≡◌, ℕ, ◌+◌, List, get_or, take, Some, sym, subst, arith}
 use Rattle.std.specs.Prelude.{max, ◌++◌, []}
 use Rattle.std.specs.List.{slice_get}
 use Rattle.filter_state.specs.declared.edit.Edit.{Edit}
