@@ -4,7 +4,7 @@
 //! trace tells beside what the packet met: each visit of that walk, with its point and with the line of the
 //! job's batches that brought what answered, and at the end how often each filter that was ever brought
 //! decided. The text is the report with these lines between (`specs/Traced.antt`), and taking them away
-//! leaves it (`laws`).
+//! leaves it; the visits that are told are those of the walks that make the run lawful (`laws`).
 //!
 //! Nothing is judged here: `report_check` has found the report lawful, and has kept the journal of its run
 //! (`Replay`). `trace_report` goes over the report once more, reads each packet's worker and points from its
