@@ -5,13 +5,13 @@
 //! over those answers. All visits may be answered at one point, as of a batch that was applied before, or
 //! each at its own, as of a run's report.
 //!
-//! A `Tally` counts how often the filters that each edit brought decided.
+//! The edits whose filters decided are put behind a list, and a `Tally` counts how often each is in such lists.
 //!
 //! The steps are those of the walk: `steps_are_visits` says so of a walk over the states of points, and
 //! `one_state_traced` that over one state they end with the plain walk.
 //!
-//! Whoever tells packet after packet keeps one `Walk`, one `Page` and one `Tally`: once they have grown, no
-//! memory is taken. Plain data, one thread at a time.
+//! Whoever tells packet after packet keeps one `Walk`, one `Page`, one list and one `Tally`: once they have
+//! grown, no memory is taken. Plain data, one thread at a time.
 #![tactic(auto)]
 
 mod laws;

@@ -19,9 +19,8 @@ impl Model for Tally {
 }
 
 impl Tally {
-    ghost use Rattle.std.specs.Prelude.{◌≡◌, ◌+◌, ◌<◌, ◌^◌, ◌==◌, [], ℕ, OnOk, if◌then◌else◌};
+    ghost use Rattle.std.specs.Prelude.{◌≡◌, ◌+◌, ◌<◌, ◌≤◌, ◌^◌, ◌==◌, [], ℕ, length, OnOk, if◌then◌else◌};
     ghost use Rattle.walk_trace.specs.Tallies.{count_at, times_in};
-    ghost use Rattle.trace_lines.specs.Lines.{listed};
 
     /// Nothing is counted. It takes no memory yet.
     pub fn new(alloc: Global) -> Tally
@@ -39,16 +38,20 @@ impl Tally {
         self.counts.get(edit as usize).copied().unwrap_or(0)
     }
 
-    /// A filter of that edit decided, if one did.
-    pub(crate) fn note(&mut self, decided: Option<Point>) -> Result<(), NoMemory>
-        requires { (edit : ℕ) → count_at self.old edit + 1 < 2 ^ 64 }
-        ensures { OnOk result ((edit : ℕ) → count_at self.new edit
-            ≡ count_at self.old edit + times_in (listed decided) edit) }
+    /// The filters of these edits decided, each as often as it is there.
+    ///
+    /// `NoMemory`: memory was refused.
+    pub fn note(&mut self, decided: &[Point]) -> Result<(), NoMemory>
+        requires { (edit : ℕ) → count_at self.old edit + length decided.now < 2 ^ 64 }
+        ensures counts { OnOk result ((edit : ℕ) → count_at self.new edit
+            ≡ count_at self.old edit + times_in decided.now edit) }
+        ensures few { OnOk result ((edit : ℕ) → count_at self.new edit
+            ≤ count_at self.old edit + length decided.now) }
     {
-        match decided {
-            Some(edit) => self.add(edit),
-            None => Ok(()),
+        for edit in decided {
+            self.add(*edit)?;
         }
+        Ok(())
     }
 
     // One more for that edit.

@@ -1,22 +1,32 @@
 //! The walk of a packet, told visit by visit.
 ghost use Rattle.frame_edit.specs.declared.limits.TheConstants.{FRAME_MAX};
-ghost use Rattle.std.specs.Prelude.{◌≡◌, ◌≤◌, ◌<◌, ◌+◌, ◌^◌, ◌++◌, ℕ, length, None, OnOk};
+ghost use Rattle.std.specs.Prelude.{◌≡◌, ◌≤◌, ◌+◌, ◌++◌, length, None, OnOk};
 ghost use Rattle.walk_rules.specs.declared.limits.TheConstants.{VISITS_MAX};
 ghost use Rattle.walk_rules.specs.Steps.{begun, question_of};
-ghost use Rattle.trace_lines.specs.Lines.{joined, walk_lines, decided_in};
-ghost use Rattle.walk_trace.specs.Tallies.{count_at, times_in};
+ghost use Rattle.trace_lines.specs.Lines.{joined, walk_lines, decided_in, listed};
 ghost use Rattle.walk_trace.specs.Traces.{steps_at, stands_behind};
 
 use crate::points::Points;
-use crate::tally::Tally;
 use point_walks::{PointAnswers, visit_at};
-use tc_base::{Hook, NoMemory};
+use std::alloc::AllocError;
+use tc_base::{Hook, NoMemory, Point};
 use trace_lines::{Before, Naming, Page, SeenFrame, Told, tell_before, tell_visit};
 use walk_steps::{Progress, Walk};
 
+// Puts an edit behind others, if there is one.
+fn put(decided: &mut Vec<Point>, met: Option<Point>) -> Result<(), AllocError>
+    ensures { OnOk result (decided.new.items ≡ decided.old.items ++ listed met) }
+{
+    match met {
+        Some(edit) => decided.push(edit)?,
+        None => {}
+    }
+    Ok(())
+}
+
 /// Walks a frame of at most 262,144 bytes, each visit answered at its point, puts the lines of each visit
-/// behind a page's text, and counts the filters that decided. The lines end where the walk needs no further
-/// visit, and before a visit that has no answer: there the walk leads nowhere.
+/// behind a page's text, and the edits whose filters decided behind others. The lines end where the walk needs
+/// no further visit, and before a visit that has no answer: there the walk leads nowhere.
 ///
 /// `NoMemory`: memory was refused.
 pub fn tell_walk<A: PointAnswers, N: Naming>(
@@ -28,15 +38,14 @@ pub fn tell_walk<A: PointAnswers, N: Naming>(
     points: Points<'_>,
     told: Told,
     page: &mut Page,
-    tally: &mut Tally,
+    decided: &mut Vec<Point>,
 ) -> Result<(), NoMemory>
     requires bytes { length bytes.now ≤ FRAME_MAX }
-    requires room { (edit : ℕ) → count_at tally.old edit + VISITS_MAX < 2 ^ 64 }
     ensures text { OnOk result (page.new ≡ page.old ++ joined (walk_lines told (N.names names.now) None
         (steps_at (A.answer answers.now) points.entry hook bytes.now))) }
-    ensures tally { OnOk result ((edit : ℕ) → count_at tally.new edit ≡ count_at tally.old edit + times_in
-        (decided_in (N.names names.now) (steps_at (A.answer answers.now) points.entry hook bytes.now)) edit) }
-    ensures few { OnOk result ((edit : ℕ) → count_at tally.new edit ≤ count_at tally.old edit + VISITS_MAX) }
+    ensures decided { OnOk result (decided.new.items ≡ decided.old.items ++ decided_in
+        (N.names names.now) (steps_at (A.answer answers.now) points.entry hook bytes.now)) }
+    ensures few { OnOk result (length decided.new.items ≤ length decided.old.items + VISITS_MAX) }
     ensures end { OnOk result (let end = stands_behind (begun hook bytes.now)
         (steps_at (A.answer answers.now) points.entry hook bytes.now) in
         question_of end ≡ None → walk.new.standing ≡ end) }
@@ -54,8 +63,8 @@ pub fn tell_walk<A: PointAnswers, N: Naming>(
             page.truncate(length);
             return Ok(());
         };
-        let decided = tell_visit(page, told, names, walk, before, answered, point)?;
-        tally.note(decided)?;
+        let met = tell_visit(page, told, names, walk, before, answered, point)?;
+        put(decided, met)?;
         visits += 1;
         progress = next;
     }
