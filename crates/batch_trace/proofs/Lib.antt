@@ -15,3 +15,4 @@ pub mod Untold
 pub mod Free
 pub mod ToldLines
 pub mod OwnLines
+pub mod Puts

@@ -1,5 +1,5 @@
 -- The page of a packet.
-use Rattle.std.proofs.Common.{◌≡◌, ◌∙◌, ℕ, ◌+◌, List, [], ◌++◌, length, ap, ap₂}
+use Rattle.std.proofs.Common.{◌≡◌, ◌∙◌, ℕ, ◌+◌, ◌≤◌, List, [], ◌++◌, length, ap, ap₂, arith}
 use Rattle.std.specs.Prelude.{Result, Ok, Err, OnOk, None}
 use Rattle.tc_base.specs.declared.hook.Hook.{Hook}
 use Rattle.walk_rules.specs.declared.limits.TheConstants.{VISITS_MAX}
@@ -21,6 +21,28 @@ pub steps_told : (by : Answerer) (entries : List Entry) (point : ℕ) (hook : Ho
 steps_told by entries point hook bytes at agree =
     ap (λ (p : ℕ). steps_of (answer_by by) (λ visit. p) VISITS_MAX (begun hook bytes)) at
     ∙ same_steps (answer_by by) (answers_in entries) (length entries) agree VISITS_MAX (begun hook bytes)
+
+pub met_made : {T E : Type 0} (result : Result T E) (told : Told) (entries named : List Entry) (steps steps' : List Step) (page new : List ℕ) → named ≡ entries → steps ≡ steps'
+    → OnOk result (new ≡ page ++ joined (walk_lines told (names_of named) None steps)) → OnOk result (new ≡ page ++ joined (walk_lines told (names_of entries) None steps'))
+met_made (Ok done) told entries named steps steps' page new n s made =
+    made ∙ ap₂ (λ (es : List Entry) (ss : List Step). page ++ joined (walk_lines told (names_of es) None ss)) n s
+met_made (Err refused) told entries named steps steps' page new n s made = tt
+
+pub decided_made : {T E : Type 0} (result : Result T E) (entries named : List Entry) (steps steps' : List Step) (cleared new : List ℕ) → named ≡ entries → steps ≡ steps' → cleared ≡ []
+    → OnOk result (new ≡ cleared ++ decided_in (names_of named) steps) → OnOk result (new ≡ decided_in (names_of entries) steps')
+decided_made (Ok done) entries named steps steps' cleared new n s none made =
+    made ∙ ap (λ (edits : List ℕ). edits ++ decided_in (names_of named) steps) none ∙ ap₂ (λ (es : List Entry) (ss : List Step). decided_in (names_of es) ss) n s
+decided_made (Err refused) entries named steps steps' cleared new n s none made = tt
+
+pub few_made : {T E : Type 0} (result : Result T E) (cleared new : List ℕ) → cleared ≡ [] → OnOk result (length new ≤ length cleared + VISITS_MAX) → OnOk result (length new ≤ VISITS_MAX)
+few_made (Ok done) cleared new none few = let nothing = ap length none in omega (arith, nothing, few)
+few_made (Err refused) cleared new none few = tt
+
+pub line_behind : {T E : Type 0} (result : Result T E) (cleared page new empty line lent met own : List ℕ) → cleared ≡ [] → page ≡ cleared ++ met → empty ≡ [] → line ≡ empty ++ own → lent ≡ line
+    → OnOk result (new ≡ page ++ lent) → OnOk result (new ≡ met ++ own)
+line_behind (Ok done) cleared page new empty line lent met own c p e l same put =
+    put ∙ ap₂ (λ (a b : List ℕ). a ++ b) (p ∙ ap (λ (text : List ℕ). text ++ met) c) (same ∙ l ∙ ap (λ (text : List ℕ). text ++ own) e)
+line_behind (Err refused) cleared page new empty line lent met own c p e l same put = tt
 
 pub page_made : {T E : Type 0} (result : Result T E) (told : Told) (entries named : List Entry) (steps steps' : List Step) (cleared page new empty line lent own : List ℕ) → named ≡ entries → steps ≡ steps'
     → cleared ≡ [] → page ≡ cleared ++ joined (walk_lines told (names_of named) None steps) → empty ≡ [] → line ≡ empty ++ own → lent ≡ line → OnOk result (new ≡ page ++ lent)

@@ -12,7 +12,7 @@ use crate::traced_batch::TracedBatch;
 use batch_walk::push_packet_line;
 use capture_walk::PacketEnd;
 use std::alloc::Global;
-use tc_base::{Hook, NoMemory};
+use tc_base::{Hook, NoMemory, Point};
 use trace_lines::{Page, Told};
 use walk_steps::Walk;
 use walk_trace::{Points, Tally, tell_walk};
@@ -22,6 +22,8 @@ use walk_trace::{Points, Tally, tell_walk};
 pub(crate) struct Room {
     walk: Walk,
     pub(crate) page: Page,
+    // the edits whose filters decided
+    decided: Vec<Point>,
     // the packet's own line
     line: Vec<u8>,
 }
@@ -32,9 +34,40 @@ impl Room {
         Ok(Room {
             walk: Walk::with_room(alloc)?,
             page: Page::new(alloc),
+            decided: Vec::new(alloc),
             line: Vec::new(alloc),
         })
     }
+}
+
+// Puts what a packet of at most 262,144 bytes met over the state that the edits leave behind a page's text, and
+// the edits whose filters decided in place of those in a list.
+fn tell_met(
+    walk: &mut Walk,
+    page: &mut Page,
+    decided: &mut Vec<Point>,
+    traced: &TracedBatch,
+    hook: Hook,
+    bytes: &[u8],
+    number: u64,
+) -> Result<(), NoMemory>
+    requires short { length bytes.now ≤ FRAME_MAX }
+    ensures page { OnOk result (page.new ≡ page.old ++ met_text traced.now hook number bytes.now) }
+    ensures decided { OnOk result (decided.new.items
+        ≡ decided_in (names_of traced.now) (steps_in traced.now hook bytes.now)) }
+    ensures few { OnOk result (length decided.new.items ≤ VISITS_MAX) }
+{
+    let answers = traced.answers();
+    let names = traced.names();
+    let points = Points::All(traced.point());
+    let told = Told {
+        packet: number,
+        points: false,
+    };
+    decided.clear();
+    tell_walk(
+        walk, &answers, &names, hook, bytes, points, told, page, decided,
+    )
 }
 
 /// Makes the room's page what is told of a packet of at most 262,144 bytes: the lines of what it met over the
@@ -58,17 +91,14 @@ pub(crate) fn tell_packet(
 {
     room.page.clear();
     room.line.clear();
-    let answers = traced.answers();
-    let names = traced.names();
-    let points = Points::All(traced.point());
-    let told = Told {
-        packet: number,
-        points: false,
-    };
-    let Room { walk, page, line } = room;
-    tell_walk(
-        walk, &answers, &names, hook, bytes, points, told, page, tally,
-    )?;
+    let Room {
+        walk,
+        page,
+        decided,
+        line,
+    } = room;
+    tell_met(walk, page, decided, traced, hook, bytes, number)?;
+    tally.note(decided)?;
     push_packet_line(line, number, end)?;
     page.push_text(line)
 }

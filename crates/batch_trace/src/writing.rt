@@ -1,5 +1,5 @@
 //! Writing a trace.
-ghost use Rattle.std.specs.Prelude.{◌≡◌, ◌≤◌, ◌+◌, ◌++◌, ℕ, length, IfOk, OnOk, IsErrOf};
+ghost use Rattle.std.specs.Prelude.{◌≡◌, ◌≤◌, ◌+◌, ◌++◌, ℕ, List, length, IfOk, OnOk, IsErrOf};
 ghost use Rattle.tc_base.specs.Outside.{Rose, Appended, AppendsUpTo};
 ghost use Rattle.pcap_io.specs.Captures.{AreShort};
 ghost use Rattle.walk_ends.specs.declared.limits.TheConstants.{PACKETS_MAX};
@@ -17,8 +17,28 @@ use std::alloc::Global;
 use tc_base::{Hook, NoMemory, Put, Sink};
 use walk_trace::Tally;
 
-// Writes what is told of each packet, with its line, and counts what decided.
+/// How many bytes are gathered at least before they are written, but for the last.
+const PAGE: usize = 65_536;
+
+// Puts a text behind what isn't written yet, and writes all of that where it is a page.
+fn put_text<O: Sink>(page: &mut Vec<u8>, text: &[u8], out: &mut O) -> Result<(), Put>
+    ensures all { OnOk result ((put : List ℕ) × Appended (O.written out.old) (O.written out.new) put
+        × (put ++ page.new.items ≡ page.old.items ++ text.now)) }
+    ensures up_to { AppendsUpTo (O.written out.old) (O.written out.new) (page.old.items ++ text.now) }
+    ensures later { O.faults out.old ≤ O.faults out.new }
+    ensures cause { IsErrOf result Put.Failed → Rose (O.faults out.old) (O.faults out.new) }
+{
+    page.extend_from_slice(text)?;
+    if page.len() >= PAGE {
+        out.write_all(page)?;
+        page.clear();
+    }
+    Ok(())
+}
+
+// Writes what is told of each packet, with its line, page by page, and counts what decided.
 fn write_packets<O: Sink>(
+    alloc: Global,
     room: &mut Room,
     tally: &mut Tally,
     traced: &TracedBatch,
@@ -40,14 +60,15 @@ fn write_packets<O: Sink>(
     ensures later { O.faults out.old ≤ O.faults out.new }
     ensures cause { IsErrOf result Put.Failed → Rose (O.faults out.old) (O.faults out.new) }
 {
+    let mut page = Vec::new(alloc);
     let mut place = 0;
     for end in ends.iter() {
         let packet = packets.get(place);
         place += 1;
         tell_packet(room, tally, traced, hook, packet.bytes, place as u64, end)?;
-        out.write_all(room.page.text())?;
+        put_text(&mut page, room.page.text(), out)?;
     }
-    Ok(())
+    out.write_all(&page)
 }
 
 // The lines of the filters that stand at the end, by what was counted from nothing.
@@ -94,7 +115,7 @@ pub fn write_trace<O: Sink>(
     let mut tally = Tally::new(alloc);
     out.write_all(&text.stop)?;
     write_packets(
-        &mut room, &mut tally, traced, hook, packets, &text.ends, out,
+        alloc, &mut room, &mut tally, traced, hook, packets, &text.ends, out,
     )?;
     let decided = decided_text(alloc, &tally, traced, hook)?;
     out.write_all(&decided)?;

@@ -9,7 +9,7 @@ use std::alloc::Global;
 use tc_base::{NoMemory, Point};
 use trace_lines::{Page, Told};
 use walk_steps::Walk;
-use walk_trace::{Points, Tally, tell_walk};
+use walk_trace::{Points, tell_walk};
 
 /// Puts what the walk of a packet of at most 262,144 bytes met at these points behind a page's text. The first
 /// of them isn't before the change.
@@ -28,8 +28,8 @@ pub(crate) fn tell_met(
     requires since { known.now.before ≤ get_or points.now 0 0 }
     ensures { OnOk result (page.new ≡ page.old ++ joined (met_lines known.now number bytes.now points.now)) }
 {
-    // What decided is counted with each walk. Nobody asks for it here.
-    let mut tally = Tally::new(alloc);
+    // What decided is told with each walk. Nobody asks for it here.
+    let mut decided = Vec::new(alloc);
     let answers = known.answers();
     let names = known.names();
     let hook = known.hook();
@@ -39,6 +39,14 @@ pub(crate) fn tell_met(
         points: true,
     };
     tell_walk(
-        walk, &answers, &names, hook, bytes, points, told, page, &mut tally,
+        walk,
+        &answers,
+        &names,
+        hook,
+        bytes,
+        points,
+        told,
+        page,
+        &mut decided,
     )
 }

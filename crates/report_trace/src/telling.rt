@@ -36,15 +36,18 @@ pub(crate) struct Room {
     walk: Walk,
     page: Page,
     points: Vec<Point>,
+    // the edits whose filters decided
+    decided: Vec<Point>,
 }
 
 impl Room {
-    /// Room for a walk. That for its points and its lines is taken as they come.
+    /// Room for a walk. That for its points, its lines and what decided is taken as they come.
     pub(crate) fn new(alloc: Global) -> Result<Room, NoMemory> {
         Ok(Room {
             walk: Walk::with_room(alloc)?,
             page: Page::new(alloc),
             points: Vec::new(alloc),
+            decided: Vec::new(alloc),
         })
     }
 }
@@ -78,12 +81,19 @@ fn tell_packet(
         packet: number,
         points: true,
     };
-    let Room { walk, page, points } = room;
+    let Room {
+        walk,
+        page,
+        points,
+        decided,
+    } = room;
     let points = Points::Each(points.as_slice());
     page.clear();
+    decided.clear();
     tell_walk(
-        walk, &answers, &names, hook, bytes, points, told, page, tally,
+        walk, &answers, &names, hook, bytes, points, told, page, decided,
     )?;
+    tally.note(decided)?;
     page.push_text(line)
 }
 

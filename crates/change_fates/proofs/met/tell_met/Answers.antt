@@ -1,7 +1,6 @@
-use Rattle.std.proofs.Common.{◌≡◌, ◌∙◌, ℕ, ◌++◌, true, List, ap, ap₂, arith}
+use Rattle.std.proofs.Common.{◌≡◌, ◌∙◌, ℕ, ◌++◌, true, List, ap, ap₂}
 use Rattle.std.specs.Prelude.{None, get_or}
 use Rattle.walk_texts.specs.Texts.{joined}
-use Rattle.walk_trace.specs.Tallies.{count_at}
 use Rattle.trace_lines.specs.Steps.{Step}
 use Rattle.trace_lines.specs.Lines.{walk_lines}
 use Rattle.filter_origins.specs.Entries.{Entry}
@@ -9,11 +8,6 @@ use Rattle.journal_names.specs.Known.{names_of}
 use Rattle.change_fates.proofs.Steps.{steps_told}
 use Rattle.change_fates.proofs.MetText.{page_is}
 use Rattle.change_fates.proofs.met.tell_met.Goals as goal
-
-pub tell_walk-requires-clause-room : goal.tell_walk-requires-clause-room
-tell_walk-requires-clause-room c = λ edit.
-    let none = ap (λ (counts : List ℕ). count_at counts edit) c.new-tally.ensures in
-    omega (arith, none)
 
 pub returns : goal.returns
 returns c =
