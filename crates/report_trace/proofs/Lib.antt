@@ -16,3 +16,4 @@ pub mod Turns
 pub mod Whole
 pub mod OwnLines
 pub mod Visited
+pub mod Noted
