@@ -16,3 +16,5 @@ pub mod Free
 pub mod ToldLines
 pub mod OwnLines
 pub mod Puts
+pub mod Numbered
+pub mod Cutting

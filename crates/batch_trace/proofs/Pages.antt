@@ -38,12 +38,6 @@ pub few_made : {T E : Type 0} (result : Result T E) (cleared new : List ℕ) →
 few_made (Ok done) cleared new none few = let nothing = ap length none in omega (arith, nothing, few)
 few_made (Err refused) cleared new none few = tt
 
-pub line_behind : {T E : Type 0} (result : Result T E) (cleared page new empty line lent met own : List ℕ) → cleared ≡ [] → page ≡ cleared ++ met → empty ≡ [] → line ≡ empty ++ own → lent ≡ line
-    → OnOk result (new ≡ page ++ lent) → OnOk result (new ≡ met ++ own)
-line_behind (Ok done) cleared page new empty line lent met own c p e l same put =
-    put ∙ ap₂ (λ (a b : List ℕ). a ++ b) (p ∙ ap (λ (text : List ℕ). text ++ met) c) (same ∙ l ∙ ap (λ (text : List ℕ). text ++ own) e)
-line_behind (Err refused) cleared page new empty line lent met own c p e l same put = tt
-
 pub page_made : {T E : Type 0} (result : Result T E) (told : Told) (entries named : List Entry) (steps steps' : List Step) (cleared page new empty line lent own : List ℕ) → named ≡ entries → steps ≡ steps'
     → cleared ≡ [] → page ≡ cleared ++ joined (walk_lines told (names_of named) None steps) → empty ≡ [] → line ≡ empty ++ own → lent ≡ line → OnOk result (new ≡ page ++ lent)
     → OnOk result (new ≡ joined (walk_lines told (names_of entries) None steps') ++ own)

@@ -49,7 +49,7 @@ go_if true xs ys first second = first
 go_if false xs ys first second = second
 
 -- ---- words
-point_free : (told : Bool) (point : ℕ) → all_free (point_words told point) ≡ true
+pub point_free : (told : Bool) (point : ℕ) → all_free (point_words told point) ≡ true
 point_free false point = refl
 point_free true point = word_more (decimal point) [] (decimal_free point) refl
 
@@ -74,12 +74,12 @@ values_free : (values : List ℕ) → all_free (value_words values) ≡ true
 unfolding value_words
 values_free values = fields_free (words_with values) (words_with (whole_masks values))
 
-table_free : (head : Head) → all_free (table_words head) ≡ true
+pub table_free : (head : Head) → all_free (table_words head) ≡ true
 table_free head =
     word_more (decimal head.chain) (codes "pref" ∷ decimal head.pref ∷ codes "protocol" ∷ protocol_text head.protocol ∷ []) (decimal_free head.chain)
     (word_more (decimal head.pref) (codes "protocol" ∷ protocol_text head.protocol ∷ []) (decimal_free head.pref) (word_more (protocol_text head.protocol) [] (protocol_free head.protocol) refl))
 
-frame_free : (bytes : List ℕ) → all_free (frame_words bytes) ≡ true
+pub frame_free : (bytes : List ℕ) → all_free (frame_words bytes) ≡ true
 frame_free bytes = word_more (ether_type_text (ether_type_of bytes)) (value_words (frame_values bytes)) (ether_free (ether_type_of bytes)) (values_free (frame_values bytes))
 
 room_free : (none : Bool) → all_free (room_words none) ≡ true
@@ -109,14 +109,14 @@ match_free : (names : Names) (point mask : ℕ) (values : List ℕ) → all_free
 match_free names point mask values =
     words_append (sought_words values (names.words point mask)) (origin_words (match_origin names point mask values)) (sought_free values (names.words point mask)) (origin_free (match_origin names point mask values))
 
-visit_free : (names : Names) (point : ℕ) (st : Standing) (place : Place) (answer : Answer) → all_free (visit_words names point st place answer) ≡ true
+pub visit_free : (names : Names) (point : ℕ) (st : Standing) (place : Place) (answer : Answer) → all_free (visit_words names point st place answer) ≡ true
 visit_free names point st at_head (told_heads heads) = heads_free st.hook heads
 visit_free names point st (at_mask head (mask ∷ masks) tables) told_no_filter = sought_free (frame_values st.frame.bytes) (names.words point mask)
 visit_free names point st (at_mask head (mask ∷ masks) tables) (told_actions actions) = match_free names point mask (frame_values st.frame.bytes)
 visit_free names point st (at_action head actions position jumps tables) (told_params given) = run_free names point position (length actions) (action_at actions position) given st.frame
 visit_free names point st place answer = refl
 
-restart_free : (restarts chain : ℕ) → all_free (restart_words restarts chain) ≡ true
+pub restart_free : (restarts chain : ℕ) → all_free (restart_words restarts chain) ≡ true
 restart_free restarts chain =
     words_if (restarts == 0) (codes "spent" ∷ []) _ refl (word_more (decimal chain) (codes "left" ∷ decimal _ ∷ []) (decimal_free chain) (word_more (decimal _) [] (decimal_free _) refl))
 

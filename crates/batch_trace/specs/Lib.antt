@@ -3,3 +3,4 @@ pub mod Traced
 pub mod Meeting
 pub mod Passed
 pub mod Untold
+pub mod Kept

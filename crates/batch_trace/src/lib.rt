@@ -15,7 +15,9 @@
 #![tactic(auto)]
 
 mod accepted;
+mod kept_trace;
 mod laws;
+mod numbering;
 mod standing;
 mod telling;
 mod traced_batch;

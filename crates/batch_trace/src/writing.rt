@@ -5,6 +5,9 @@ ghost use Rattle.pcap_io.specs.Captures.{AreShort};
 ghost use Rattle.walk_ends.specs.declared.limits.TheConstants.{PACKETS_MAX};
 ghost use Rattle.walk_texts.specs.Texts.{joined};
 ghost use Rattle.walk_trace.specs.Tallies.{count_at, times_in};
+ghost use Rattle.filter_state.specs.Sound.{Each};
+ghost use Rattle.batch_trace.specs.Kept.{IsKept};
+ghost use Rattle.batch_trace.specs.declared.kept_trace.TheConstants.{PLACES};
 ghost use Rattle.batch_trace.specs.Traced.{text_in, packet_parts, decisions, decided_lines, told_trace};
 
 use crate::standing::push_standing;
@@ -51,6 +54,8 @@ fn write_packets<O: Sink>(
     requires few { length packets.now ≤ PACKETS_MAX }
     requires short { AreShort packets.now }
     requires none { (edit : ℕ) → count_at tally.old edit ≡ 0 }
+    requires kept { Each (IsKept traced.now hook) room.old.kept.items }
+    requires many { PLACES ≤ length room.old.kept.items }
     ensures all { OnOk result (Appended (O.written out.old) (O.written out.new)
         (text_in (packet_parts traced.now hook 1 packets.now ends.now))) }
     ensures up_to { AppendsUpTo (O.written out.old) (O.written out.new)
@@ -66,7 +71,7 @@ fn write_packets<O: Sink>(
         let packet = packets.get(place);
         place += 1;
         tell_packet(room, tally, traced, hook, packet.bytes, place as u64, end)?;
-        put_text(&mut page, room.page.text(), out)?;
+        put_text(&mut page, &room.text, out)?;
     }
     out.write_all(&page)
 }

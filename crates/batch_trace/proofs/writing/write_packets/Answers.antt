@@ -23,11 +23,19 @@ loop-end-init g c =
       wrote = ([], Appended-nil out, c.new-page.ensures.items ∙ sym (no_packets c.args.traced.now c.args.hook c.args.packets.now));
       tally = λ edit. c.requires.none edit;
       few = λ edit. let none = c.requires.none edit in omega (arith, none);
+      kept = c.requires.kept;
+      many = c.requires.many;
       later = omega arith;
     }
 
 pub tell_packet-requires-clause-short : goal.tell_packet-requires-clause-short
 tell_packet-requires-clause-short g c = short-at c.args.packets.now c.loop-end.place (packet_of c.get-packet.result) c.requires.short c.get-packet.ensures
+
+pub tell_packet-requires-clause-kept : goal.tell_packet-requires-clause-kept
+tell_packet-requires-clause-kept g c = c.loop-end.invariant.kept
+
+pub tell_packet-requires-clause-many : goal.tell_packet-requires-clause-many
+tell_packet-requires-clause-many g c = c.loop-end.invariant.many
 
 pub returns-in_err-tell_packet-clause-up_to : goal.returns-in_err-tell_packet-clause-up_to
 returns-in_err-tell_packet-clause-up_to g c =
@@ -58,7 +66,7 @@ returns-in_err-put_text-clause-up_to g c =
     let whole = before.whole ∙ ap (λ (rest : List PacketEnd). walked ++ rest) c.in-Some.ensures.steps in
     let place = before.place in
     let number : c.loop-end.place + 1 ≡ 1 + length walked = omega (arith, place) in
-    let page = c.text.ensures ∙ c.in_ok-tell_packet.ensures.page ∙ ap (λ (n : ℕ). page_of t hook n packet end) number in
+    let page = c.deref.ensures.value ∙ c.in_ok-tell_packet.ensures.text ∙ ap (λ (n : ℕ). page_of t hook n packet end) number in
     let a = g.O.Sink.written c.args.out.now in
     let b = g.O.Sink.written c.loop-end.out in
     let d = g.O.Sink.written c.put_text.new.out in
@@ -78,7 +86,7 @@ loop-end-preserved g c =
     let there = subst (λ (k : ℕ). slice_get packets k ≡ Some packet) before.place c.get-packet.ensures in
     let place = before.place in
     let number : c.loop-end.place + 1 ≡ 1 + length walked = omega (arith, place) in
-    let page = c.text.ensures ∙ c.in_ok-tell_packet.ensures.page ∙ ap (λ (n : ℕ). page_of t hook n packet end) number in
+    let page = c.deref.ensures.value ∙ c.in_ok-tell_packet.ensures.text ∙ ap (λ (n : ℕ). page_of t hook n packet end) number in
     let a = g.O.Sink.written c.args.out.now in
     let b = g.O.Sink.written c.loop-end.out in
     let d = g.O.Sink.written c.put_text.new.out in
@@ -98,6 +106,8 @@ loop-end-preserved g c =
           let more : count_at c.tell_packet.new.tally edit ≤ count_at c.loop-end.tally edit + 65536 = c.in_ok-tell_packet.ensures.few edit in
           let few = before.few edit in
           omega (arith, more, few);
+      kept = c.in_ok-tell_packet.ensures.kept;
+      many = (let same = c.tell_packet.ensures.many in let before = before.many in omega (arith, same, before));
       later = omega (arith, c.put_text.ensures.later, before.later);
     }
 
@@ -110,7 +120,7 @@ returns-clause-all g c =
     let a = g.O.Sink.written c.args.out.now in
     let b = g.O.Sink.written c.loop-end.out in
     let d = g.O.Sink.written c.write_all.new.self in
-    last_put c.write_all.result a b d before.wrote.0 c.loop-end.page.items c.deref.result.now text _ before.wrote.1 before.wrote.2 c.deref.ensures.value
+    last_put c.write_all.result a b d before.wrote.0 c.loop-end.page.items c.deref-2.result.now text _ before.wrote.1 before.wrote.2 c.deref-2.ensures.value
     (ap (λ (es : List PacketEnd). text_in (packet_parts c.args.traced.now c.args.hook 1 c.args.packets.now es)) whole) c.write_all.ensures.all
 
 pub returns-clause-up_to : goal.returns-clause-up_to
@@ -122,5 +132,5 @@ returns-clause-up_to g c =
     let a = g.O.Sink.written c.args.out.now in
     let b = g.O.Sink.written c.loop-end.out in
     let d = g.O.Sink.written c.write_all.new.self in
-    last_up_to a b d before.wrote.0 c.loop-end.page.items c.deref.result.now text _ before.wrote.1 before.wrote.2 c.deref.ensures.value
+    last_up_to a b d before.wrote.0 c.loop-end.page.items c.deref-2.result.now text _ before.wrote.1 before.wrote.2 c.deref-2.ensures.value
     (ap (λ (es : List PacketEnd). text_in (packet_parts c.args.traced.now c.args.hook 1 c.args.packets.now es)) whole) c.write_all.ensures.up_to

@@ -109,3 +109,6 @@ returns-clause-up_to g c =
     let third = subst (Appended d e) same c.in_ok-write_all-2.ensures.all in
     let f = g.O.Sink.written c.write_all-3.new.self in
     at_closing whole text.stop.items told decided text.closing.items is a b d e f first c.in_ok-write_packets.ensures.all third (subst (AppendsUpTo e f) c.deref-3.ensures.value c.write_all-3.ensures.up_to)
+
+pub write_packets-requires-clause-kept : goal.write_packets-requires-clause-kept
+write_packets-requires-clause-kept g c = c.in_ok-room.ensures.kept c.args.traced.now c.args.hook
