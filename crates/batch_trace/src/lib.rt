@@ -8,8 +8,9 @@
 //! `trace_batch` applies the batch and keeps its accepted edits with their lines, the past of the states that
 //! they led to, and who brought what. The walk of the capture is made before, by `batch_walk`: its parts say
 //! how each packet ends. `write_trace` follows each packet again over the state that the edits leave, and
-//! writes page by page, so that no more than a page and one packet's lines are kept. Reading the files and
-//! their limits are the caller's.
+//! writes page by page. Beside a page and one packet's lines it keeps those of up to 4,096 frames of at most
+//! 2,048 bytes, at most 4,096 bytes of each: such a frame that comes again isn't followed again. Reading the
+//! files and their limits are the caller's.
 //!
 //! One thread calls this, and it keeps nothing between calls. Not promised: that memory suffices.
 #![tactic(auto)]
